@@ -51,3 +51,7 @@ unfoldable pub before : List ℕ → List ℕ → Bool
 before [] b = false
 before (x ∷ a) [] = false
 before (x ∷ a) (y ∷ b) = cond (ltb x y) true (cond (eqb x y) (before a b) false)
+
+-- the same order by the two numbers
+unfoldable pub codeBefore : Code → Code → Bool
+codeBefore c d = cond (ltb (c .high) (d .high)) true (cond (eqb (c .high) (d .high)) (ltb (c .low) (d .low)) false)
