@@ -319,3 +319,13 @@ long-text l h b n = rw (unpack-pack 8 l b, unpack-pack 8 (drop 8 l) (bytes-drop 
 pub short-text : (l : List ℕ) → length l ≡ 4 → Bytes l → shortText (packed 4 l) ≡ l
 unfolding shortText
 short-text l h b = unpack-pack 4 l b ∙ filled-whole 4 l h
+
+same-at : (t : Bool) (x : ℕ) (r l : List ℕ) → ((i : ℕ) → i < length r → getD r i 0 ≡ getD l i 0) → (i : ℕ) → i < length (cond t [] (x ∷ r)) → getD (cond t [] (x ∷ r)) i 0 ≡ getD (x ∷ l) i 0
+same-at true x r l f i h = absurd (omega arith)
+same-at false x r l f zero h = refl
+same-at false x r l f (suc i) h = f i (omega arith)
+
+pub named-at : (l : List ℕ) (i : ℕ) → i < length (named l) → getD (named l) i 0 ≡ getD l i 0
+unfolding named
+named-at [] i h = refl
+named-at (x ∷ l) i h = same-at (eqb x 0) x (named l) l (named-at l) i h
