@@ -3,6 +3,9 @@ ghost use mathlib.Core.Path.{_≡_};
 ghost use Prim.Native.Nat.{_≤_};
 ghost use Rattle.dates.specs.Dates.{months, daysIn, daysBefore, monthDay, dayOf, dateOf, isRemembered};
 
+// For how many days after its own a thing is remembered.
+const DAYS_BACK: u64 = 14;
+
 pub enum Day {
     Number(u64),
     Untrue,
@@ -91,5 +94,5 @@ pub fn remembered(day: u64, today: u64) -> bool
     if today < day {
         return false;
     }
-    today - day <= 14
+    today - day <= DAYS_BACK
 }
