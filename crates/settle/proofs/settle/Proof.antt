@@ -1,0 +1,85 @@
+use mathlib.Core.Path.{_≡_}
+use Prim.Native.Nat.{_+_, _*_, _≤_}
+use borrow.Author.Needs.{needs}
+use lib.ListN.{length}
+use Rattle.settle.specs.Payments.{paymentsOf, paymentsFrom}
+use Rattle.settle.specs.Settlement.{settled}
+use Rattle.settle.specs.Rules.{AllPayable}
+use Rattle.settle.proofs.Laws.{payable-head, payable-tail, settled-goes, settled-none}
+use Rattle.settle.proofs.settle.Statement.{statement}
+use Rattle.settle.proofs.settle.Tie as tie
+
+abbrev Inv-loop : tie.InvT-loop
+Inv-loop balances₀ batches place at₀ left₀ balances at left =
+    (at + 3 * left ≤ 11168) × (length balances ≡ length balances₀) × AllPayable balances (paymentsFrom batches at left)
+    × (settled balances₀ (paymentsOf batches place) ≡ settled balances (paymentsFrom batches at left))
+
+abbrev μ-loop : tie.MeasureT-loop
+μ-loop balances₀ batches place at₀ left₀ balances at left = left
+
+mul-at : tie.Need-mul-at Inv-loop μ-loop
+mul-at c = search needs
+
+add-at : tie.Need-add-at Inv-loop μ-loop
+add-at c = search needs
+
+mul-left : tie.Need-mul-left Inv-loop μ-loop
+mul-left c = search needs
+
+add-left : tie.Need-add-left Inv-loop μ-loop
+add-left c = search needs
+
+mul-left-2 : tie.Need-mul-left-2 Inv-loop μ-loop
+mul-left-2 c = search needs
+
+shared-slice-read-left : tie.Need-shared-slice-read-left Inv-loop μ-loop
+shared-slice-read-left c = search needs
+
+loop-holds : tie.Need-loop-holds Inv-loop μ-loop
+loop-holds c = search needs
+
+pay-at-requires : tie.Need-pay-at-requires Inv-loop μ-loop
+pay-at-requires c κs = search (needs, payable-head)
+
+add-at-2 : tie.Need-add-at-2 Inv-loop μ-loop
+add-at-2 c = search needs
+
+sub-left : tie.Need-sub-left Inv-loop μ-loop
+sub-left c = search needs
+
+loop-less : tie.Need-loop-less Inv-loop μ-loop
+loop-less c = search needs
+
+loop-again : tie.Need-loop-again Inv-loop μ-loop
+loop-again c =
+    let turn = c .before .before in
+    let more = turn .before .before .loop-test .taken in
+    let inv = turn .before .before .before .loop .inv in
+    (search needs, search needs, payable-tail _ _ _ more _ _ (turn .pay-at .ensures) (inv .2), settled-goes _ _ _ more _ _ (turn .pay-at .ensures) _ (inv .3))
+
+same-length : tie.Need-same-length Inv-loop μ-loop
+same-length c = search needs
+
+returns : tie.Need-returns Inv-loop μ-loop
+returns c = search (needs, settled-none)
+
+pub settle-spec : {M : Type 1} → statement M
+settle-spec =
+    tie.close
+    (tie.spec
+    Inv-loop
+    μ-loop
+    mul-at
+    add-at
+    mul-left
+    add-left
+    mul-left-2
+    shared-slice-read-left
+    loop-holds
+    pay-at-requires
+    add-at-2
+    sub-left
+    loop-less
+    loop-again
+    same-length
+    returns)

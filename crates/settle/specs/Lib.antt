@@ -1,0 +1,5 @@
+pub mod Cover
+pub mod Payments
+pub mod Settlement
+pub mod Rules
+pub mod Types

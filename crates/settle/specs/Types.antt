@@ -1,0 +1,20 @@
+-- What the constructors of a bank and of a batch answer.
+use Prim.Native.Nat.{ℕ, _*_}
+use mathlib.Core.Bool.{_&&_, cond}
+use lib.Dec.{leb, ltb}
+use Rattle.chars.specs.declared.Refusal.the-variants.{OutOfRange, BrokenTables}
+use Rattle.settle.specs.declared.BankOr.{BankOr}
+use Rattle.settle.specs.declared.BankOr.the-variants.{Is, Not}
+use Rattle.settle.specs.declared.BatchOr.{BatchOr}
+use Rattle.settle.specs.declared.BatchOr.the-variants.{Stands, Nowhere}
+
+-- "Balances, their total and sub-limits run from 0 to 6,400,000,000,000,000"; 14 where one is out of range
+abbrev pub bankOr : (balance limit : ℕ) → BankOr
+bankOr balance limit =
+    cond (leb balance 6400000000000000 && leb limit 6400000000000000)
+    (Is (record { balance = balance; limit = limit }))
+    (Not OutOfRange)
+
+-- "32 live batches", in rows of 349 words; 06 for another place
+abbrev pub batchOr : ℕ → BatchOr
+batchOr place = cond (ltb place 32) (Stands (record { start = place * 349 })) (Nowhere BrokenTables)
