@@ -8,7 +8,7 @@ use borrow.Author.Tests.{lt-ltb, le-ltb, le-leb, lt-leb, leb-true, leb-false, lt
 use Rattle.clock.specs.declared.Moment.the-variants.{At, Never}
 use Rattle.clock.specs.declared.Minute.the-variants.{Number as MinuteNumber, Untrue as NoMinute}
 use Rattle.clock.specs.declared.Second.the-variants.{Number as SecondNumber, Untrue as NoSecond}
-use Rattle.clock.specs.Clock.{clockOf, hasBegun, digitsOf, minuteOf, hhmmOf, secondOf}
+use Rattle.clock.specs.Clock.{clockOf, hasBegun, hhmmssOf, minuteOf, hhmmOf, secondOf}
 
 pub clock-there : (s : ℕ) → s < 86400 → At (record { seconds = s }) ≡ clockOf s
 unfolding clockOf
@@ -26,12 +26,12 @@ begun s m = go (leb m (s / 60)) refl
     go true e = e ∙ sym (le-leb (60 * m) s (omega (arith, leb-true m (s / 60) e)))
     go false e = e ∙ sym (lt-leb (60 * m) s (omega (arith, leb-false m (s / 60) e)))
 
-pub digits-in : (s : ℕ) → s < 86400 → 10000 * (s / 3600) + (100 * (s / 60 % 60) + s % 60) ≡ digitsOf s
-unfolding digitsOf
+pub digits-in : (s : ℕ) → s < 86400 → 10000 * (s / 3600) + (100 * (s / 60 % 60) + s % 60) ≡ hhmmssOf s
+unfolding hhmmssOf
 digits-in s h = rw (lt-ltb s 86400 h)
 
-pub digits-out : (s : ℕ) → 86400 ≤ s → 0 ≡ digitsOf s
-unfolding digitsOf
+pub digits-out : (s : ℕ) → 86400 ≤ s → 0 ≡ hhmmssOf s
+unfolding hhmmssOf
 digits-out s h = rw (le-ltb s 86400 h)
 
 pub hhmm-in : (m : ℕ) → m < 1440 → 100 * (m / 60) + m % 60 ≡ hhmmOf m
@@ -121,11 +121,11 @@ second-split : (s : ℕ) → 3600 * (s / 3600) + (60 * (s / 60 % 60) + s % 60) �
 second-split s = omega arith
 
 -- a second and its HHMMSS
-pub second-back : (n s : ℕ) → secondOf n ≡ SecondNumber s → (digitsOf s ≡ n) × (s < 86400)
+pub second-back : (n s : ℕ) → secondOf n ≡ SecondNumber s → (hhmmssOf s ≡ n) × (s < 86400)
 second-back n s e = go (ltb (n / 10000) 24) refl (ltb (n / 100 % 100) 60) refl (ltb (n % 100) 60) refl
   where
     go : (h : Bool) → ltb (n / 10000) 24 ≡ h → (m : Bool) → ltb (n / 100 % 100) 60 ≡ m → (t : Bool) → ltb (n % 100) 60 ≡ t
-        → (digitsOf s ≡ n) × (s < 86400)
+        → (hhmmssOf s ≡ n) × (s < 86400)
     go false eh m em t et = let z : _≡_ {A = ℕ} 0 1 = cc (second-hour n (ltb-false (n / 10000) 24 eh)) in absurd (omega arith)
     go true eh false em t et = let z : _≡_ {A = ℕ} 0 1 = cc (second-minute n (ltb-false (n / 100 % 100) 60 em)) in absurd (omega arith)
     go true eh true em false et = let z : _≡_ {A = ℕ} 0 1 = cc (second-past n (ltb-false (n % 100) 60 et)) in absurd (omega arith)
@@ -143,12 +143,12 @@ second-back n s e = go (ltb (n / 10000) 24) refl (ltb (n / 100 % 100) 60) refl (
           small,
         )
 
-pub digits-back : (s : ℕ) → s < 86400 → secondOf (digitsOf s) ≡ SecondNumber s
+pub digits-back : (s : ℕ) → s < 86400 → secondOf (hhmmssOf s) ≡ SecondNumber s
 digits-back s small =
     let h = s / 3600 in
     let m = s / 60 % 60 in
     let t = s % 60 in
-    let n = digitsOf s in
+    let n = hhmmssOf s in
     let hour : h < 24 = omega arith in
     let is : n ≡ 10000 * h + (100 * m + t) = sym (digits-in s small) in
     let minute : m < 60 = omega arith in

@@ -34,6 +34,6 @@ secondOf hhmmss =
     NoSecond
 
 -- HHMMSS of a second of the day; 0 past the last
-unfoldable pub digitsOf : ℕ → ℕ
-digitsOf seconds =
+unfoldable pub hhmmssOf : ℕ → ℕ
+hhmmssOf seconds =
     cond (ltb seconds 86400) (10000 * (seconds / 3600) + (100 * (seconds / 60 % 60) + seconds % 60)) 0

@@ -1,6 +1,6 @@
 // Times of the day. The clock counts seconds from midnight; an activation is a minute of the day.
 ghost use mathlib.Core.Path.{_≡_};
-ghost use Rattle.clock.specs.Clock.{clockOf, hasBegun, digitsOf, minuteOf, hhmmOf, secondOf};
+ghost use Rattle.clock.specs.Clock.{clockOf, hasBegun, hhmmssOf, minuteOf, hhmmOf, secondOf};
 
 pub struct Clock {
     pub seconds: u64,
@@ -49,7 +49,7 @@ impl Clock {
 
     // HHMMSS as a number; 0 past the day's end.
     pub fn digits(self) -> u64
-        ensures { λ r. ⌜ r ≡ digitsOf (self .seconds) ⌝ }
+        ensures { λ r. ⌜ r ≡ hhmmssOf (self .seconds) ⌝ }
     {
         let s = self.seconds;
         if s < Clock::DAY {
