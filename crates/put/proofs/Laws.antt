@@ -42,8 +42,8 @@ sets-append [] ws l i = simp add-zero
 sets-append (v ∷ vs) ws l i = simp (sets-append vs ws (set l i v) (suc i), add-suc, suc-add)
 
 -- a text after what is written already
-pub then : (out p q : List ℕ) (at : ℕ) {o₁ o₂ : List ℕ} {a : ℕ} → o₁ ≡ sets out at p → a ≡ at + length p → o₂ ≡ sets o₁ a q → o₂ ≡ sets out at (p ++ q)
-then out p q at e x f = f ∙ simp (e, x) (sym (sets-append p q out at))
+pub then : (out p q : List ℕ) (at : ℕ) {o₁ o₂ : List ℕ} {a : ℕ} → o₁ ≡ sets out at p → o₂ ≡ sets o₁ a q → a ≡ at + length p → o₂ ≡ sets out at (p ++ q)
+then out p q at e f x = f ∙ simp (e, x) (sym (sets-append p q out at))
 
 -- ---- digits
 
@@ -76,3 +76,7 @@ from-down (suc i) v at out h = let z : suc i - 1 ≡ i = omega arith in simp z
 
 pub from-none : (i v at : ℕ) (out : List ℕ) → i ≡ 0 → fromLast i v at out ≡ out
 from-none i v at out e = rw e
+
+-- three texts one after another
+pub three : (out p q r : List ℕ) (at : ℕ) {o₁ o₂ o₃ : List ℕ} {a b : ℕ} → o₁ ≡ sets out at p → o₂ ≡ sets o₁ a q → o₃ ≡ sets o₂ b r → a ≡ at + length p → b ≡ a + length q → o₃ ≡ sets out at (p ++ (q ++ r))
+three out p q r at e f g x y = g ∙ simp (f, y, e, x) (sym (sets-append p (q ++ r) out at ∙ sets-append q r (sets out at p) (at + length p)))

@@ -1,0 +1,233 @@
+// Responses: the texts of 132 and 134, written straight into a lent buffer.
+use chars::Refusal;
+use clock::Clock;
+use codes::Code;
+ghost use mathlib.Core.Path.{_≡_};
+ghost use mathlib.Core.List.{[], _++_};
+ghost use Prim.Native.Nat.{_+_, _≤_};
+ghost use lib.ListN.{length};
+ghost use lib.Dec.{leb};
+ghost use lib.Seq.{sets};
+ghost use Rattle.chars.specs.Words.{bytes};
+ghost use Rattle.codes.specs.Codes.{shortText, longText};
+ghost use Rattle.put.specs.Digits.{digitsOf};
+ghost use Rattle.response.specs.Texts.{line, headText, batchText, settledText, rejectedText, outcomeText, settlementText, answerText, recallText, written, after};
+
+// How a batch ended: settled on a day at a second of it, or rejected with a number.
+pub enum Outcome {
+    Settled(u64, u64),
+    Rejected(u64),
+}
+
+// 132: the response to a message of a batch.
+pub struct Settlement {
+    pub number: u64,
+    pub reference: Code,
+    pub stream: u64,
+    pub bin: Code,
+    pub outcome: Outcome,
+}
+
+// How a recall ended: the batch is recalled, or nothing was, with a number.
+pub enum Answer {
+    Recalled,
+    Kept(u64),
+}
+
+// 134: the response to a recall.
+pub struct Recall {
+    pub number: u64,
+    pub reference: Code,
+    pub answer: Answer,
+}
+
+// The place after a written text, or why none was written.
+pub enum Written {
+    End(usize),
+    Unfit(Refusal),
+}
+
+// The longest response: a 132 with a reference of 16 characters, a BIN of 8 and a date.
+pub const LONGEST: usize = 105;
+
+// Sub types.
+const SETTLEMENT: u64 = 132;
+
+const RECALL: u64 = 134;
+
+// 20: the number of the response.
+fn put_number(out: &mut [u8], at: usize, number: u64)
+    requires { ⌜ at + 14 ≤ length (now out) ⌝ }
+    ensures { λ _. ⌜ now (out .exit) ≡ sets (now (out .entry)) at (line ":20:B" (digitsOf 7 number)) ⌝ }
+{
+    put::bytes(out, at, b":20:B");
+    put::digits(out, at + 5, number, 7);
+    put::bytes(out, at + 12, b"\r\n");
+}
+
+// 12 and 77E.
+fn put_sub_type(out: &mut [u8], at: usize, kind: u64)
+    requires { ⌜ at + 16 ≤ length (now out) ⌝ }
+    ensures { λ _. ⌜ now (out .exit) ≡ sets (now (out .entry)) at (line ":12:" (digitsOf 3 kind) ++ line ":77E:" []) ⌝ }
+{
+    put::bytes(out, at, b":12:");
+    put::digits(out, at + 4, kind, 3);
+    put::bytes(out, at + 7, b"\r\n:77E:\r\n");
+}
+
+// 21: the reference of the request.
+fn put_reference(out: &mut [u8], at: usize, reference: Code, n: usize)
+    requires { ⌜ (n ≡ length (longText reference)) × (at + (6 + n) ≤ length (now out)) ⌝ }
+    ensures { λ _. ⌜ now (out .exit) ≡ sets (now (out .entry)) at (line ":21:" (longText reference)) ⌝ }
+{
+    put::bytes(out, at, b":21:");
+    put::long_code(out, at + 4, reference);
+    put::bytes(out, at + 4 + n, b"\r\n");
+}
+
+// 22A: the stream.
+fn put_stream(out: &mut [u8], at: usize, stream: u64)
+    requires { ⌜ at + 11 ≤ length (now out) ⌝ }
+    ensures { λ _. ⌜ now (out .exit) ≡ sets (now (out .entry)) at (line ":22A:" (shortText stream)) ⌝ }
+{
+    put::bytes(out, at, b":22A:");
+    put::short_code(out, at + 5, stream);
+    put::bytes(out, at + 9, b"\r\n");
+}
+
+// 119: the BIN.
+fn put_bin(out: &mut [u8], at: usize, bin: Code, n: usize)
+    requires { ⌜ (n ≡ length (longText bin)) × (at + (7 + n) ≤ length (now out)) ⌝ }
+    ensures { λ _. ⌜ now (out .exit) ≡ sets (now (out .entry)) at (line ":119:" (longText bin)) ⌝ }
+{
+    put::bytes(out, at, b":119:");
+    put::long_code(out, at + 5, bin);
+    put::bytes(out, at + 5 + n, b"\r\n");
+}
+
+// 451 and 13E of a settled batch.
+fn put_settled(out: &mut [u8], at: usize, day: u64, second: u64)
+    requires { ⌜ at + 27 ≤ length (now out) ⌝ }
+    ensures { λ _. ⌜ now (out .exit) ≡ sets (now (out .entry)) at (settledText day second) ⌝ }
+{
+    let clock = Clock { seconds: second };
+    put::bytes(out, at, b":451:0\r\n:13E:");
+    put::digits(out, at + 13, dates::date_of(day), 6);
+    put::digits(out, at + 19, clock.digits(), 6);
+    put::bytes(out, at + 25, b"\r\n");
+}
+
+// 451 and 432 of a refusal.
+fn put_rejected(out: &mut [u8], at: usize, number: u64)
+    requires { ⌜ at + 17 ≤ length (now out) ⌝ }
+    ensures { λ _. ⌜ now (out .exit) ≡ sets (now (out .entry)) at (rejectedText number) ⌝ }
+{
+    put::bytes(out, at, b":451:1\r\n:432:");
+    put::digits(out, at + 13, number, 2);
+    put::bytes(out, at + 15, b"\r\n");
+}
+
+// The lines that both responses begin with; n is the length of the reference.
+fn put_head(out: &mut [u8], at: usize, number: u64, kind: u64, reference: Code, n: usize)
+    requires { ⌜ (n ≡ length (longText reference)) × (at + (36 + n) ≤ length (now out)) ⌝ }
+    ensures { λ _. ⌜ now (out .exit) ≡ sets (now (out .entry)) at (headText number kind reference) ⌝ }
+{
+    put_number(out, at, number);
+    put_sub_type(out, at + 14, kind);
+    put_reference(out, at + 30, reference, n);
+}
+
+fn put_batch(out: &mut [u8], at: usize, stream: u64, bin: Code, n: usize)
+    requires { ⌜ (n ≡ length (longText bin)) × (at + (18 + n) ≤ length (now out)) ⌝ }
+    ensures { λ _. ⌜ now (out .exit) ≡ sets (now (out .entry)) at (batchText stream bin) ⌝ }
+{
+    put_stream(out, at, stream);
+    put_bin(out, at + 11, bin, n);
+}
+
+// Whether n bytes fit from a place on.
+fn has_room(out: &[u8], at: usize, n: usize) -> bool
+    ensures { λ r. ⌜ r ≡ leb (at + n) (length (now (out .entry))) ⌝ }
+{
+    if out.len() < n {
+        return false;
+    }
+    at <= out.len() - n
+}
+
+// The lines that tell how a batch ended.
+fn put_outcome(out: &mut [u8], at: usize, outcome: Outcome)
+    requires { ⌜ at + length (outcomeText outcome) ≤ length (now out) ⌝ }
+    ensures { λ _. ⌜ now (out .exit) ≡ sets (now (out .entry)) at (outcomeText outcome) ⌝ }
+{
+    match outcome {
+        Outcome::Settled(day, second) => put_settled(out, at, day, second),
+        Outcome::Rejected(number) => put_rejected(out, at, number),
+    }
+}
+
+fn outcome_length(outcome: Outcome) -> usize
+    ensures { λ r. ⌜ r ≡ length (outcomeText outcome) ⌝ }
+    ensures small { λ r. ⌜ r ≤ 27 ⌝ }
+{
+    match outcome {
+        Outcome::Settled(_, _) => 27,
+        Outcome::Rejected(_) => 17,
+    }
+}
+
+// 132: written whole from a place on, or not at all.
+pub fn write_settlement(out: &mut [u8], at: usize, r: Settlement) -> Written
+    ensures { λ w. ⌜ (w ≡ written (now (out .entry)) at (settlementText r)) × (now (out .exit) ≡ after (now (out .entry)) at (settlementText r)) ⌝ }
+{
+    let n = r.reference.len();
+    let m = r.bin.len();
+    let b = 36 + n;
+    let e = b + (18 + m);
+    let outcome = r.outcome;
+    let k = e + outcome_length(outcome);
+    if !has_room(out, at, k) {
+        return Written::Unfit(Refusal::ShortBuffer);
+    }
+    put_head(out, at, r.number, SETTLEMENT, r.reference, n);
+    put_batch(out, at + b, r.stream, r.bin, m);
+    put_outcome(out, at + e, outcome);
+    Written::End(at + k)
+}
+
+// The lines that tell how a recall ended.
+fn put_answer(out: &mut [u8], at: usize, answer: Answer)
+    requires { ⌜ at + length (answerText answer) ≤ length (now out) ⌝ }
+    ensures { λ _. ⌜ now (out .exit) ≡ sets (now (out .entry)) at (answerText answer) ⌝ }
+{
+    match answer {
+        Answer::Recalled => put::bytes(out, at, b":451:0\r\n"),
+        Answer::Kept(number) => put_rejected(out, at, number),
+    }
+}
+
+fn answer_length(answer: Answer) -> usize
+    ensures { λ r. ⌜ r ≡ length (answerText answer) ⌝ }
+    ensures small { λ r. ⌜ r ≤ 17 ⌝ }
+{
+    match answer {
+        Answer::Recalled => 8,
+        Answer::Kept(_) => 17,
+    }
+}
+
+// 134: written whole from a place on, or not at all.
+pub fn write_recall(out: &mut [u8], at: usize, r: Recall) -> Written
+    ensures { λ w. ⌜ (w ≡ written (now (out .entry)) at (recallText r)) × (now (out .exit) ≡ after (now (out .entry)) at (recallText r)) ⌝ }
+{
+    let n = r.reference.len();
+    let b = 36 + n;
+    let answer = r.answer;
+    let k = b + answer_length(answer);
+    if !has_room(out, at, k) {
+        return Written::Unfit(Refusal::ShortBuffer);
+    }
+    put_head(out, at, r.number, RECALL, r.reference, n);
+    put_answer(out, at + b, answer);
+    Written::End(at + k)
+}
