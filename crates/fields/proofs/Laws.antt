@@ -1,0 +1,36 @@
+-- The answers of the steps over a line, by what their parts answer.
+use Prim.Native.Nat.{ℕ}
+use mathlib.Core.Path.{_≡_, refl}
+use mathlib.Core.List.{List}
+use Rattle.chars.specs.declared.Refusal.{Refusal}
+use Rattle.chars.specs.declared.Refusal.the-variants.{Malformed}
+use Rattle.scan.specs.Scan.{litAt, crlf}
+use Rattle.scan.specs.declared.At.{At}
+use Rattle.scan.specs.declared.At.the-variants.{Next, No}
+use Rattle.values.specs.declared.Value.{Value}
+use Rattle.values.specs.declared.Value.the-variants.{Read, Unread}
+use Rattle.fields.specs.Fields.{absent, broken, item, place, valueAt, fieldAt, whyNot}
+use Rattle.fields.specs.declared.Break.{Break}
+use Rattle.fields.specs.declared.Field.{Field}
+use Rattle.fields.specs.declared.Field.the-variants.{Good, Bad}
+use Rattle.fields.specs.declared.Kind.{Kind}
+
+pub by-kind : (s : List ℕ) (at : ℕ) {k k′ : Kind} {r : Value} → k ≡ k′ → r ≡ valueAt s at k′ → r ≡ valueAt s at k
+by-kind s at p q = rw p q
+
+module _ (s : List ℕ) (at : ℕ) (tag : List ℕ) (kind : Kind) where
+  pub field-1 : {r : At} {b : Break} → r ≡ litAt s at tag → r ≡ No → b ≡ absent at → Bad b ≡ fieldAt s at tag kind
+  unfolding fieldAt
+  field-1 p p′ b = simp (← p, p′, b)
+
+  pub field-2 : {r : At} {a : ℕ} {v : Value} {x : Refusal} {b : Break} → r ≡ litAt s at tag → r ≡ Next a → v ≡ valueAt s a kind → v ≡ Unread x → b ≡ broken at x → Bad b ≡ fieldAt s at tag kind
+  unfolding fieldAt
+  field-2 p p′ q q′ b = simp (← p, p′, ← q, q′, b)
+
+  pub field-3 : {r t : At} {a w e : ℕ} {v : Value} {b : Break} → r ≡ litAt s at tag → r ≡ Next a → v ≡ valueAt s a kind → v ≡ Read w e → t ≡ litAt s e crlf → t ≡ No → b ≡ broken at Malformed → Bad b ≡ fieldAt s at tag kind
+  unfolding fieldAt
+  field-3 p p′ q q′ l l′ b = simp (← p, p′, ← q, q′, ← l, l′, b)
+
+  pub field-4 : {r t : At} {a w e n : ℕ} {v : Value} → r ≡ litAt s at tag → r ≡ Next a → v ≡ valueAt s a kind → v ≡ Read w e → t ≡ litAt s e crlf → t ≡ Next n → Good (item a e w) (place n) ≡ fieldAt s at tag kind
+  unfolding fieldAt
+  field-4 p p′ q q′ l l′ = simp (← p, p′, ← q, q′, ← l, l′)

@@ -1,0 +1,70 @@
+-- "A line is `:tag:value` and CR LF."
+use Prim.Native.Nat.{ℕ}
+use mathlib.Core.List.{List}
+use mathlib.Core.Bool.{true, false}
+use Rattle.chars.specs.declared.Refusal.{Refusal}
+use Rattle.chars.specs.declared.Refusal.the-variants.{Malformed}
+use Rattle.scan.specs.Scan.{onNext, litAt, crlf}
+use Rattle.scan.specs.declared.Cursor.{Cursor}
+use Rattle.values.specs.Values.{referenceAt, numeralAt, wordAt, binAt, numbersAt, dateAt, timeAt, sideAt, amountAt, countAt}
+use Rattle.values.specs.Letters.{lettersAt}
+use Rattle.values.specs.declared.Part.{Part}
+use Rattle.values.specs.declared.Value.{Value}
+use Rattle.values.specs.declared.Value.the-variants.{Read, Unread}
+use Rattle.fields.specs.declared.Break.{Break}
+use Rattle.fields.specs.declared.Item.{Item}
+use Rattle.fields.specs.declared.Field.{Field}
+use Rattle.fields.specs.declared.Field.the-variants.{Good, Bad}
+use Rattle.fields.specs.declared.Kind.{Kind}
+use Rattle.fields.specs.declared.Kind.the-variants.{Reference, Numeral, Word, Bin, Numbers, Date, Time, Side, Amount, Letters, Count}
+
+-- no tag that is expected stands where a line begins
+abbrev pub absent : ℕ → Break
+absent at = record { refusal = Malformed; at = at; missing = true }
+
+-- a value is wrong in the line that begins there
+abbrev pub broken : ℕ → Refusal → Break
+broken at r = record { refusal = r; at = at; missing = false }
+
+abbrev pub wrong : ℕ → Break
+wrong at = broken at Malformed
+
+abbrev pub item : ℕ → ℕ → ℕ → Item
+item a e v = record { part = record { start = a; end = e }; number = v }
+
+abbrev pub place : ℕ → Cursor
+place n = record { at = n }
+
+abbrev pub onRead : {A : Type 0} → Value → (Refusal → A) → (ℕ → ℕ → A) → A
+onRead (Read v e) d k = k v e
+onRead (Unread r) d k = d r
+
+abbrev pub onGood : {A : Type 0} → Field → (Break → A) → (Item → Cursor → A) → A
+onGood (Good i c) d k = k i c
+onGood (Bad b) d k = d b
+
+abbrev pub whyNot : Field → Break
+whyNot (Good i c) = absent 0
+whyNot (Bad b) = b
+
+-- what a line's value is
+abbrev pub valueAt : List ℕ → ℕ → Kind → Value
+valueAt s at Reference = referenceAt s at
+valueAt s at (Numeral n) = numeralAt s at n
+valueAt s at (Word n) = wordAt s at n
+valueAt s at (Bin stream) = binAt s at stream
+valueAt s at Numbers = numbersAt s at
+valueAt s at Date = dateAt s at
+valueAt s at Time = timeAt s at
+valueAt s at Side = sideAt s at
+valueAt s at Amount = amountAt s at
+valueAt s at Letters = lettersAt s at
+valueAt s at (Count n) = countAt s at n
+
+-- a line of a tag and a value of a kind
+unfoldable pub fieldAt : List ℕ → ℕ → List ℕ → Kind → Field
+fieldAt s at tag kind =
+    onNext (litAt s at tag) (Bad (absent at)) (λ a.
+    onRead (valueAt s a kind) (λ r. Bad (broken at r)) (λ v e.
+    onNext (litAt s e crlf) (Bad (wrong at)) (λ n.
+    Good (item a e v) (place n))))

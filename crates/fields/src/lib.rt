@@ -1,0 +1,123 @@
+// A line of a text: `:tag:value` and CR LF. Each field is a step from a cursor to the next.
+use chars::Refusal;
+use scan::At;
+use scan::Cursor;
+use values::Part;
+use values::Value;
+ghost use mathlib.Core.Path.{_≡_};
+ghost use Rattle.fields.specs.Fields.{absent, wrong, broken, valueAt, fieldAt, whyNot};
+
+// Why a text is refused: the number, where the line begins that breaks it, and whether a mandatory
+// field is missing there (the text ends, or something else than a tag that is expected stands there).
+pub struct Break {
+    pub refusal: Refusal,
+    pub at: usize,
+    pub missing: bool,
+}
+
+impl Break {
+    // No tag that is expected stands where a line begins.
+    pub fn absent(at: usize) -> Break
+        ensures { λ r. ⌜ r ≡ absent at ⌝ }
+    {
+        Break {
+            refusal: Refusal::Malformed,
+            at,
+            missing: true,
+        }
+    }
+
+    // A value is wrong in the line that begins there.
+    pub fn wrong(at: usize, refusal: Refusal) -> Break
+        ensures { λ r. ⌜ r ≡ broken at refusal ⌝ }
+    {
+        Break {
+            refusal,
+            at,
+            missing: false,
+        }
+    }
+}
+
+// Where a field's value stands, and the number beside it; 0 for a value that has none.
+pub struct Item {
+    pub part: Part,
+    pub number: u64,
+}
+
+// What a step finds: the field and the cursor past its line, or the break.
+pub enum Field {
+    Good(Item, Cursor),
+    Bad(Break),
+}
+
+impl Field {
+    // The break; one of the text's beginning for a field that was read.
+    pub fn why(self) -> Break
+        ensures { λ r. ⌜ r ≡ whyNot self ⌝ }
+    {
+        match self {
+            Field::Good(_, _) => Break::absent(Cursor::START),
+            Field::Bad(b) => b,
+        }
+    }
+}
+
+// What a line's value is.
+pub enum Kind {
+    Reference,
+    Numeral(usize),
+    Word(usize),
+    Bin(Part),
+    Numbers,
+    Date,
+    Time,
+    Side,
+    Amount,
+    Letters,
+    Count(u64),
+}
+
+// The value of a kind at a place.
+fn read_value(s: &[u8], at: usize, kind: Kind) -> Value
+    ensures { λ r. ⌜ r ≡ valueAt (now (s .entry)) at kind ⌝ }
+{
+    match kind {
+        Kind::Reference => values::read_reference(s, at),
+        Kind::Numeral(n) => values::read_numeral(s, at, n),
+        Kind::Word(n) => values::read_word(s, at, n),
+        Kind::Bin(stream) => values::read_bin(s, at, stream),
+        Kind::Numbers => values::read_numbers(s, at),
+        Kind::Date => values::read_date(s, at),
+        Kind::Time => values::read_time(s, at),
+        Kind::Side => values::read_side(s, at),
+        Kind::Amount => values::read_amount(s, at),
+        Kind::Letters => values::read_letters(s, at),
+        Kind::Count(n) => values::read_count(s, at, n),
+    }
+}
+
+// The line of a field: its tag, a value of its kind, CR LF.
+pub fn read_field(s: &[u8], c: Cursor, tag: &[u8], kind: Kind) -> Field
+    ensures { λ r. ⌜ r ≡ fieldAt (now (s .entry)) (c .at) (now (tag .entry)) kind ⌝ }
+{
+    let at = c.at;
+    let At::Next(a) = scan::lit(s, at, tag) else {
+        return Field::Bad(Break::absent(at));
+    };
+    match read_value(s, a, kind) {
+        Value::Unread(r) => Field::Bad(Break::wrong(at, r)),
+        Value::Read(v, e) => {
+            let At::Next(n) = scan::lit(s, e, b"\r\n") else {
+                return Field::Bad(Break::wrong(at, Refusal::Malformed));
+            };
+            Field::Good(
+                Item {
+                    part: Part { start: a, end: e },
+                    number: v,
+                },
+                Cursor { at: n },
+            )
+        }
+    }
+}

@@ -1,0 +1,74 @@
+-- "127, 32B, 113, 102: one payment, 1 to 10 times"
+use Prim.Native.Nat.{ℕ, zero, suc, _+_}
+use mathlib.Core.List.{List}
+use mathlib.Core.Bool.{Bool, cond}
+use lib.ListN.{set, replicate}
+use lib.Dec.{eqb}
+use Rattle.chars.specs.Words.{bytes}
+use Rattle.scan.specs.Scan.{onNext, litAt}
+use Rattle.scan.specs.declared.Cursor.{Cursor}
+use Rattle.values.specs.Values.{stands}
+use Rattle.fields.specs.Fields.{wrong, item, place, onGood, fieldAt}
+use Rattle.fields.specs.declared.Break.{Break}
+use Rattle.fields.specs.declared.Item.{Item}
+use Rattle.fields.specs.declared.Kind.the-variants.{Word, Side, Amount, Letters}
+use Rattle.payments.specs.declared.Payment.{Payment}
+use Rattle.payments.specs.declared.Paid.{Paid}
+use Rattle.payments.specs.declared.Paid.the-variants.{One, Unpaid}
+use Rattle.payments.specs.declared.Ending.{Ending}
+use Rattle.payments.specs.declared.Ending.the-variants.{Done, Cut}
+use Rattle.payments.specs.declared.Payments.{Payments}
+
+abbrev pub nothing : Item
+nothing = item 0 0 0
+
+abbrev pub payment : Item → Item → Item → Item → Payment
+payment side amount letters bank = record { side = side; amount = amount; letters = letters; bank = bank }
+
+-- "102 is a bank, 4 of A-Z 0-9."
+unfoldable pub bankAt : List ℕ → ℕ → Item → Item → Item → Paid
+bankAt s at side amount letters =
+    onGood (fieldAt s at (bytes ":102:") (Word 4)) Unpaid (λ bank c.
+    One (payment side amount letters bank) c)
+
+-- "113 stands after DR and never after CR": a 113 after CR is a wrong value
+unfoldable pub creditAt : List ℕ → ℕ → Item → Item → Paid
+creditAt s at side amount =
+    onNext (litAt s at (bytes ":113:")) (bankAt s at side amount nothing) (λ a. Unpaid (wrong at))
+
+unfoldable pub debitAt : List ℕ → ℕ → Item → Item → Paid
+debitAt s at side amount =
+    onGood (fieldAt s at (bytes ":113:") Letters) Unpaid (λ letters c.
+    bankAt s (c .at) side amount letters)
+
+unfoldable pub paymentAt : List ℕ → ℕ → Paid
+paymentAt s at =
+    onGood (fieldAt s at (bytes ":127:") Side) Unpaid (λ side c.
+    onGood (fieldAt s (c .at) (bytes ":32B:") Amount) Unpaid (λ amount d.
+    cond (eqb (side .number) 0) (creditAt s (d .at) side amount) (debitAt s (d .at) side amount)))
+
+-- a further payment begins
+unfoldable pub moreAt : List ℕ → ℕ → Bool
+moreAt s at = stands (litAt s at (bytes ":127:"))
+
+abbrev pub onPaid : {A : Type 0} → Paid → (Break → A) → (Payment → Cursor → A) → A
+onPaid (One p c) d k = k p c
+onPaid (Unpaid b) d k = d b
+
+abbrev pub none : List Payment
+none = replicate 10 (payment nothing nothing nothing nothing)
+
+abbrev pub ended : Ending → ℕ → List Payment → Payments
+ended e n items = record { ending = e; n = n; items = items }
+
+-- with n payments in the list so far, at a place, and room for as many more as the first number says
+unfoldable pub paymentsOn : ℕ → List ℕ → ℕ → ℕ → List Payment → Payments
+paymentsOn zero s at n items = ended (Done (place at)) n items
+paymentsOn (suc room) s at n items =
+    onPaid (paymentAt s at) (λ b. ended (Cut b) n items) (λ p c.
+    cond (moreAt s (c .at))
+    (paymentsOn room s (c .at) (n + 1) (set items n p))
+    (ended (Done (place (c .at))) (n + 1) (set items n p)))
+
+unfoldable pub paymentsAt : List ℕ → ℕ → Payments
+paymentsAt s at = paymentsOn 10 s at 0 none

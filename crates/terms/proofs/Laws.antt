@@ -1,0 +1,51 @@
+-- The steps over 16A, 171 and 175, by what their parts answer.
+use Prim.Native.Nat.{ℕ}
+use mathlib.Core.Path.{_≡_, refl}
+use mathlib.Core.List.{List}
+use Rattle.chars.specs.Words.{bytes}
+use Rattle.scan.specs.Scan.{litAt}
+use Rattle.scan.specs.declared.Cursor.{Cursor}
+use Rattle.scan.specs.declared.At.{At}
+use Rattle.scan.specs.declared.At.the-variants.{Next, No}
+use Rattle.values.specs.declared.Part.{Part}
+use Rattle.fields.specs.Fields.{place, fieldAt, whyNot}
+use Rattle.fields.specs.declared.Break.{Break}
+use Rattle.fields.specs.declared.Item.{Item}
+use Rattle.fields.specs.declared.Field.{Field}
+use Rattle.fields.specs.declared.Field.the-variants.{Good, Bad}
+use Rattle.fields.specs.declared.Kind.the-variants.{Numbers, Date, Time}
+use Rattle.terms.specs.Terms.{noPart, activationAt, unactivated, terms, termsAt}
+use Rattle.terms.specs.declared.Activation.{Activation}
+use Rattle.terms.specs.declared.Activation.the-variants.{AtOnce, Minute}
+use Rattle.terms.specs.declared.Activated.{Activated}
+use Rattle.terms.specs.declared.Activated.the-variants.{Given, Ungiven}
+use Rattle.terms.specs.declared.Stated.the-variants.{Whole, Partial}
+
+module _ (s : List ℕ) (at : ℕ) where
+  pub activation-1 : {r : At} → r ≡ litAt s at (bytes ":175:") → r ≡ No → Given AtOnce noPart (place at) ≡ activationAt s at
+  unfolding activationAt
+  activation-1 p p′ = simp (← p, p′)
+
+  pub activation-2 : {r : At} {a : ℕ} {f : Field} {b w : Break} → r ≡ litAt s at (bytes ":175:") → r ≡ Next a → f ≡ fieldAt s at (bytes ":175:") Time → f ≡ Bad b → w ≡ whyNot f → Ungiven w ≡ activationAt s at
+  unfolding activationAt
+  activation-2 p p′ q q′ w = simp (← p, p′, ← q, w, q′)
+
+  pub activation-3 : {r : At} {a : ℕ} {f : Field} {i : Item} {c : Cursor} → r ≡ litAt s at (bytes ":175:") → r ≡ Next a → f ≡ fieldAt s at (bytes ":175:") Time → f ≡ Good i c → Given (Minute (i .number)) (i .part) c ≡ activationAt s at
+  unfolding activationAt
+  activation-3 p p′ q q′ = simp (← p, p′, ← q, q′)
+
+  pub terms-1 : {f : Field} {b w : Break} → f ≡ fieldAt s at (bytes ":16A:") Numbers → f ≡ Bad b → w ≡ whyNot f → Partial w ≡ termsAt s at
+  unfolding termsAt
+  terms-1 p p′ w = simp (← p, w, p′)
+
+  pub terms-2 : {f g : Field} {i : Item} {c : Cursor} {b w : Break} → f ≡ fieldAt s at (bytes ":16A:") Numbers → f ≡ Good i c → g ≡ fieldAt s (c .at) (bytes ":171:") Date → g ≡ Bad b → w ≡ whyNot g → Partial w ≡ termsAt s at
+  unfolding termsAt
+  terms-2 p p′ q q′ w = simp (← p, p′, ← q, w, q′)
+
+  pub terms-3 : {f g : Field} {i j : Item} {c d : Cursor} {a : Activated} {b w : Break} → f ≡ fieldAt s at (bytes ":16A:") Numbers → f ≡ Good i c → g ≡ fieldAt s (c .at) (bytes ":171:") Date → g ≡ Good j d → a ≡ activationAt s (d .at) → a ≡ Ungiven b → w ≡ unactivated a → Partial w ≡ termsAt s at
+  unfolding termsAt
+  terms-3 p p′ q q′ r r′ w = simp (← p, p′, ← q, q′, ← r, w, r′)
+
+  pub terms-4 : {f g : Field} {i j : Item} {c d e : Cursor} {a : Activated} {m : Activation} {t : Part} → f ≡ fieldAt s at (bytes ":16A:") Numbers → f ≡ Good i c → g ≡ fieldAt s (c .at) (bytes ":171:") Date → g ≡ Good j d → a ≡ activationAt s (d .at) → a ≡ Given m t e → Whole (terms i j m t) e ≡ termsAt s at
+  unfolding termsAt
+  terms-4 p p′ q q′ r r′ = simp (← p, p′, ← q, q′, ← r, r′)

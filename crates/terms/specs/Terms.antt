@@ -1,0 +1,55 @@
+-- 16A, 171 and 175 of a settlement request.
+use Prim.Native.Nat.{ℕ, _/_, _%_}
+use mathlib.Core.List.{List}
+use Rattle.chars.specs.Words.{bytes}
+use Rattle.scan.specs.Scan.{onNext, litAt}
+use Rattle.scan.specs.declared.Cursor.{Cursor}
+use Rattle.values.specs.declared.Part.{Part}
+use Rattle.fields.specs.Fields.{absent, place, onGood, fieldAt}
+use Rattle.fields.specs.declared.Break.{Break}
+use Rattle.fields.specs.declared.Item.{Item}
+use Rattle.fields.specs.declared.Kind.the-variants.{Numbers, Date, Time}
+use Rattle.terms.specs.declared.Activation.{Activation}
+use Rattle.terms.specs.declared.Activation.the-variants.{AtOnce, Minute}
+use Rattle.terms.specs.declared.Activated.{Activated}
+use Rattle.terms.specs.declared.Activated.the-variants.{Given, Ungiven}
+use Rattle.terms.specs.declared.Terms.{Terms}
+use Rattle.terms.specs.declared.Stated.{Stated}
+use Rattle.terms.specs.declared.Stated.the-variants.{Whole, Partial}
+
+abbrev pub noPart : Part
+noPart = record { start = 0; end = 0 }
+
+-- 175: "activation HHMM, 00 to 23 and 00 to 59; the line may be missing"
+unfoldable pub activationAt : List ℕ → ℕ → Activated
+activationAt s at =
+    onNext (litAt s at (bytes ":175:")) (Given AtOnce noPart (place at)) (λ a.
+    onGood (fieldAt s at (bytes ":175:") Time) Ungiven (λ i c.
+    Given (Minute (i .number)) (i .part) c))
+
+abbrev pub unactivated : Activated → Break
+unactivated (Given m p c) = absent 0
+unactivated (Ungiven b) = b
+
+abbrev pub onGiven : {A : Type 0} → Activated → (Break → A) → (Activation → Part → Cursor → A) → A
+onGiven (Given m p c) d k = k m p c
+onGiven (Ungiven b) d k = d b
+
+-- the number and the count stand in one number of four digits
+abbrev pub terms : Item → Item → Activation → Part → Terms
+terms i date m p = record { numbers = i .part; number = i .number / 100; count = i .number % 100; date = date; activation = m; activated = p }
+
+unfoldable pub termsAt : List ℕ → ℕ → Stated
+termsAt s at =
+    onGood (fieldAt s at (bytes ":16A:") Numbers) Partial (λ i c.
+    onGood (fieldAt s (c .at) (bytes ":171:") Date) Partial (λ date d.
+    onGiven (activationAt s (d .at)) Partial (λ m p e.
+    Whole (terms i date m p) e)))
+
+abbrev pub unstated : Stated → Break
+unstated (Whole t c) = absent 0
+unstated (Partial b) = b
+
+abbrev pub onWhole : {A : Type 0} → Stated → (Break → A) → (Terms → Cursor → A) → A
+onWhole (Whole t c) d k = k t c
+onWhole (Partial b) d k = d b
