@@ -1,0 +1,5 @@
+pub mod MemoryLaws
+pub mod Steps
+pub mod TurnLaws
+pub mod WalkLaws
+pub mod RunLaws
