@@ -18,7 +18,7 @@ use Rattle.queue.proofs.Steps.{walk-count, walk-tries, walk-memory, tes
 use Rattle.queue.proofs.TurnLaws.{turn-books}
 use Rattle.queue.proofs.WalkLaws.{sets-append}
 
-most-le : (a b : ℕ) → a ≤ b → most a ≤ most b
+pub most-le : (a b : ℕ) → a ≤ b → most a ≤ most b
 unfolding most
 most-le zero b h = omega arith
 most-le (suc a) zero h = let z : _≡_ {A = ℕ} 0 1 = omega arith in omega arith

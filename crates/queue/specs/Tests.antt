@@ -1,8 +1,8 @@
 -- The two queue tests. They differ in one thing, `quick`: the quick test remembers where a batch failed, and omits a batch that it remembers.
-use Prim.Native.Nat.{ℕ, zero, suc, _+_, _*_}
+use Prim.Native.Nat.{ℕ, zero, suc, _+_, _*_, _/_, _%_}
 use mathlib.Core.Bool.{Bool, true, false, _&&_, cond}
 use mathlib.Core.List.{List, [], _∷_, _++_, map}
-use lib.Dec.{ltb}
+use lib.Dec.{eqb, ltb}
 use lib.ListN.{length, getD, set}
 use Rattle.settle.specs.Payments.{Payment}
 use Rattle.settle.specs.Settlement.{Accounts, accounts, verdict, settled}
@@ -29,6 +29,15 @@ pub record Outcome : Type 0 where
   pub done : List ℕ
   pub tries : List ℕ
 
+-- what both tests must agree on: accounts, places that wait, places settled
+pub record Seen : Type 0 where
+  pub books : Accounts
+  pub queue : List ℕ
+  pub done : List ℕ
+
+abbrev pub seen : Outcome → Seen
+seen o = record { books = o .books; queue = o .queue; done = o .done }
+
 abbrev pub untouched : Accounts → List ℕ → List ℕ → Outcome
 untouched a m q = record { books = a; memory = m; queue = q; done = []; tries = [] }
 
@@ -47,6 +56,11 @@ abbrev pub tryOf : Step → ℕ → List ℕ
 tryOf Omitted p = []
 tryOf Failed p = (2 * p) ∷ []
 tryOf Passed p = (2 * p + 1) ∷ []
+
+-- the places settled, read off the tries
+unfoldable pub passedOf : List ℕ → List ℕ
+passedOf [] = []
+passedOf (t ∷ ts) = cond (eqb (t % 2) 1) (t / 2 ∷ passedOf ts) (passedOf ts)
 
 -- a turn, and what follows it
 abbrev pub noted : Step → ℕ → Outcome → Outcome
