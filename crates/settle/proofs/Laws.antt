@@ -52,11 +52,11 @@ module _ (letters balance limit cents : ℕ) where
 step-down : (n : ℕ) → 0 < n → n ≡ suc (n - 1)
 step-down n h = omega arith
 
-is-credit : (bank cents letters : ℕ) → letters ≡ 0 → payment bank cents letters ≡ credit bank cents
+pub is-credit : (bank cents letters : ℕ) → letters ≡ 0 → payment bank cents letters ≡ credit bank cents
 unfolding payment
 is-credit bank cents letters e = rw e
 
-is-debit : (bank cents letters : ℕ) → (letters ≡ 0 → ⊥) → payment bank cents letters ≡ debit letters bank cents
+pub is-debit : (bank cents letters : ℕ) → (letters ≡ 0 → ⊥) → payment bank cents letters ≡ debit letters bank cents
 unfolding payment
 is-debit bank cents zero h = absurd (h refl)
 is-debit bank cents (suc n) h = refl
@@ -93,7 +93,7 @@ module _ (t : List ℕ) (at : ℕ) where
     uncovered-debit k r e f h = rw (h, f, is-debit (getD t at 0) (getD t (at + 1) 0) (getD t (at + 2) 0) e)
 
   module _ (n : ℕ) (more : 0 < n) where
-    next : paymentsFrom t at n ≡ paymentAt t at ∷ paymentsFrom t (at + 3) (n - 1)
+    pub next : paymentsFrom t at n ≡ paymentAt t at ∷ paymentsFrom t (at + 3) (n - 1)
     unfolding paymentsFrom
     next = ap (paymentsFrom t at) (step-down n more)
 

@@ -1,0 +1,11 @@
+pub mod MemoryLaws
+pub mod Steps
+pub mod TurnLaws
+pub mod WalkLaws
+pub mod RunLaws
+pub mod Agree
+pub mod Trail
+pub mod Balances
+pub mod History
+pub mod Day
+pub mod Promises

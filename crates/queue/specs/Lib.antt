@@ -1,0 +1,6 @@
+pub mod Memory
+pub mod Tests
+pub mod Rows
+pub mod Promise
+pub mod History
+pub mod Day

@@ -1,0 +1,297 @@
+// The queue and its two tests, over lent rows: balances, sub-limits, the batches' rows, the quick test's memory, the queue and the tries.
+ghost use mathlib.Core.Path.{_≡_};
+ghost use mathlib.Core.Bool.{true, false};
+ghost use mathlib.Core.List.{map};
+ghost use Prim.Native.Nat.{ℕ, _+_, _*_, _≤_, _<_};
+ghost use lib.Dec.{eqb};
+ghost use lib.ListN.{length, getD, set, take};
+ghost use Rattle.settle.specs.Payments.{paymentAt, paymentsOf};
+ghost use Rattle.settle.specs.Settlement.{accounts};
+ghost use Rattle.settle.specs.Rules.{Books, Good};
+ghost use Rattle.queue.specs.Tests.{omits, turned, turn, walk, plainTest, quickTest, test, fuel};
+ghost use Rattle.queue.specs.Memory.{wake, credited, creditedBy};
+ghost use Rattle.queue.specs.Rows.{Stands, AllGood, Noted, Walked, Tested, most};
+
+// What a batch's memory is after something happened to a bank: 0 has it tried, else it is held at the bank one below.
+fn woken(held: u64, bank: u64) -> u64
+    ensures { λ r. ⌜ r ≡ wake (eqb bank) held ⌝ }
+{
+    if held == 0 {
+        return 0;
+    }
+    if held - 1 == bank { 0 } else { held }
+}
+
+// A bank has had a credit settled, or an accepted sub-limit change: batches held at it are tried again.
+pub fn wake_bank(memory: &mut [u64], bank: u64)
+    ensures { λ _. ⌜ now (memory .exit) ≡ map (wake (eqb bank)) (now (memory .entry)) ⌝ }
+{
+    let mut i = 0;
+    while i < memory.len() {
+        memory[i] = woken(memory[i], bank);
+        i += 1;
+    }
+}
+
+// A batch has had an accepted status change, has ended, or stands anew at its place.
+pub fn wake_batch(memory: &mut [u64], place: usize)
+    ensures { λ _. ⌜ now (memory .exit) ≡ set (now (memory .entry)) place 0 ⌝ }
+{
+    if place < memory.len() {
+        memory[place] = 0;
+    }
+}
+
+// One settled payment: a credit of any amount wakes.
+fn wake_paid(memory: &mut [u64], batches: &[u64], at: usize)
+    requires { ⌜ at + 3 ≤ length (now batches) ⌝ }
+    ensures { λ _. ⌜ now (memory .exit) ≡ map (wake (creditedBy (paymentAt (now (batches .entry)) at))) (now (memory .entry)) ⌝ }
+{
+    let bank = batches[at];
+    if batches[at + 2] == 0 {
+        wake_bank(memory, bank);
+    }
+}
+
+// The settled batch at a place: its credits wake.
+pub fn wake_credited(memory: &mut [u64], batches: &[u64], place: usize)
+    requires { ⌜ Stands (now batches) place ⌝ }
+    ensures { λ _. ⌜ now (memory .exit) ≡ map (wake (credited (paymentsOf (now (batches .entry)) place))) (now (memory .entry)) ⌝ }
+{
+    let mut at = place * settle::Batch::WIDTH + settle::Batch::PAYMENT;
+    let mut left = batches[place * settle::Batch::WIDTH + settle::Batch::PAID];
+    while 0 < left {
+        wake_paid(memory, batches, at);
+        at += settle::Batch::PAYMENT_WIDTH;
+        left -= 1;
+    }
+}
+
+// What the turn of a queued batch came to.
+pub enum Step {
+    Omitted,
+    Failed,
+    Passed,
+}
+
+// Whether the quick test omits the batch at a place.
+pub fn omits(quick: bool, memory: &[u64], place: usize) -> bool
+    requires { ⌜ place < length (now memory) ⌝ }
+    ensures { λ r. ⌜ r ≡ omits quick (now (memory .entry)) place ⌝ }
+{
+    if quick { 0 < memory[place] } else { false }
+}
+
+// The turn of one batch: it is omitted, or tried and, where it passes, settled. A failed try of the quick test is remembered.
+pub fn attempt(
+    quick: bool,
+    balances: &mut [u64],
+    limits: &[u64],
+    batches: &[u64],
+    memory: &mut [u64],
+    place: usize,
+) -> Step
+    requires { ⌜ Books (now balances) (now limits) ⌝ }
+    requires { ⌜ Good (now batches) place ⌝ }
+    requires { ⌜ length (now memory) ≡ 32 ⌝ }
+    ensures { λ r. ⌜ turned r (accounts (now (balances .exit)) (now (limits .entry))) (now (memory .exit)) ≡ turn quick (paymentsOf (now (batches .entry))) (accounts (now (balances .entry)) (now (limits .entry))) (now (memory .entry)) place ⌝ }
+{
+    if omits(quick, memory, place) {
+        return Step::Omitted;
+    }
+    let verdict = settle::first_uncovered(balances, limits, batches, place);
+    match verdict {
+        settle::Verdict::Passes => {
+            settle::settle(balances, batches, place);
+            wake_credited(memory, batches, place);
+            Step::Passed
+        }
+        settle::Verdict::Stops(bank) => {
+            if quick {
+                memory[place] = bank + 1;
+                Step::Failed
+            } else {
+                Step::Failed
+            }
+        }
+    }
+}
+
+// How many batches wait, and the place reached in the row of tries.
+pub struct Reached {
+    pub waiting: usize,
+    pub tried: usize,
+}
+
+// Notes a turn: a batch that stays is moved up in the queue, and a try is written, twice the place, plus 1 for a pass.
+pub fn note(
+    step: Step,
+    place: u64,
+    queue: &mut [u64],
+    waiting: usize,
+    tries: &mut [u64],
+    tried: usize,
+) -> Reached
+    requires { ⌜ (place < 32) × (waiting < length (now queue)) × (tried < length (now tries)) ⌝ }
+    ensures { λ r. ⌜ Noted step place (now (queue .entry)) waiting (now (tries .entry)) tried (now (queue .exit)) (r .waiting) (now (tries .exit)) (r .tried) ⌝ }
+{
+    match step {
+        Step::Omitted => {
+            queue[waiting] = place;
+            Reached {
+                waiting: waiting + 1,
+                tried,
+            }
+        }
+        Step::Failed => {
+            queue[waiting] = place;
+            tries[tried] = 2 * place;
+            Reached {
+                waiting: waiting + 1,
+                tried: tried + 1,
+            }
+        }
+        Step::Passed => {
+            tries[tried] = 2 * place + 1;
+            Reached {
+                waiting,
+                tried: tried + 1,
+            }
+        }
+    }
+}
+
+// One walk over the queue, from its head.
+pub fn walk(
+    quick: bool,
+    balances: &mut [u64],
+    limits: &[u64],
+    batches: &[u64],
+    memory: &mut [u64],
+    queue: &mut [u64],
+    waiting: usize,
+    tries: &mut [u64],
+    tried: usize,
+) -> Reached
+    requires { ⌜ Books (now balances) (now limits) ⌝ }
+    requires { ⌜ AllGood (now batches) (take waiting (now queue)) ⌝ }
+    requires { ⌜ (length (now memory) ≡ 32) × (waiting ≤ length (now queue)) × (tried + waiting ≤ length (now tries)) ⌝ }
+    ensures { λ r. ⌜ Walked (walk quick (paymentsOf (now (batches .entry))) (accounts (now (balances .entry)) (now (limits .entry))) (now (memory .entry)) (take waiting (now (queue .entry)))) (now (limits .entry)) (now (queue .entry)) (now (tries .entry)) tried (now (balances .exit)) (now (memory .exit)) (now (queue .exit)) (r .waiting) (now (tries .exit)) (r .tried) ⌝ }
+{
+    let mut i = 0;
+    let mut kept = 0;
+    let mut at = tried;
+    while i < waiting {
+        let place = queue[i];
+        let step = attempt(quick, balances, limits, batches, memory, place as usize);
+        let reached = note(step, place, queue, kept, tries, at);
+        kept = reached.waiting;
+        at = reached.tried;
+        i += 1;
+    }
+    Reached {
+        waiting: kept,
+        tried: at,
+    }
+}
+
+// Walks until one settles nothing.
+fn run(
+    quick: bool,
+    balances: &mut [u64],
+    limits: &[u64],
+    batches: &[u64],
+    memory: &mut [u64],
+    queue: &mut [u64],
+    waiting: usize,
+    tries: &mut [u64],
+    tried: usize,
+) -> Reached
+    requires { ⌜ Books (now balances) (now limits) ⌝ }
+    requires { ⌜ AllGood (now batches) (take waiting (now queue)) ⌝ }
+    requires { ⌜ (length (now memory) ≡ 32) × (waiting ≤ length (now queue)) × (tried + most waiting ≤ length (now tries)) ⌝ }
+    ensures { λ r. ⌜ Tested (test quick (paymentsOf (now (batches .entry))) (fuel (take waiting (now (queue .entry)))) (accounts (now (balances .entry)) (now (limits .entry))) (now (memory .entry)) (take waiting (now (queue .entry)))) (now (limits .entry)) (now (queue .entry)) waiting (now (tries .entry)) tried (now (balances .exit)) (now (memory .exit)) (now (queue .exit)) (r .waiting) (now (tries .exit)) (r .tried) ⌝ }
+{
+    let mut left = waiting;
+    let mut at = tried;
+    loop {
+        let reached = walk(
+            quick,
+            balances,
+            limits,
+            batches,
+            memory,
+            queue,
+            left,
+            tries,
+            at,
+        );
+        at = reached.tried;
+        let kept = reached.waiting;
+        if kept == left {
+            return Reached {
+                waiting: kept,
+                tried: at,
+            };
+        }
+        left = kept;
+    }
+}
+
+// The plain test.
+pub fn plain_test(
+    balances: &mut [u64],
+    limits: &[u64],
+    batches: &[u64],
+    memory: &mut [u64],
+    queue: &mut [u64],
+    waiting: usize,
+    tries: &mut [u64],
+    tried: usize,
+) -> Reached
+    requires { ⌜ Books (now balances) (now limits) ⌝ }
+    requires { ⌜ AllGood (now batches) (take waiting (now queue)) ⌝ }
+    requires { ⌜ (length (now memory) ≡ 32) × (waiting ≤ length (now queue)) × (tried + most waiting ≤ length (now tries)) ⌝ }
+    ensures { λ r. ⌜ Tested (plainTest (paymentsOf (now (batches .entry))) (accounts (now (balances .entry)) (now (limits .entry))) (now (memory .entry)) (take waiting (now (queue .entry)))) (now (limits .entry)) (now (queue .entry)) waiting (now (tries .entry)) tried (now (balances .exit)) (now (memory .exit)) (now (queue .exit)) (r .waiting) (now (tries .exit)) (r .tried) ⌝ }
+{
+    run(
+        false,
+        balances,
+        limits,
+        batches,
+        memory,
+        queue,
+        waiting,
+        tries,
+        tried,
+    )
+}
+
+// The quick test.
+pub fn quick_test(
+    balances: &mut [u64],
+    limits: &[u64],
+    batches: &[u64],
+    memory: &mut [u64],
+    queue: &mut [u64],
+    waiting: usize,
+    tries: &mut [u64],
+    tried: usize,
+) -> Reached
+    requires { ⌜ Books (now balances) (now limits) ⌝ }
+    requires { ⌜ AllGood (now batches) (take waiting (now queue)) ⌝ }
+    requires { ⌜ (length (now memory) ≡ 32) × (waiting ≤ length (now queue)) × (tried + most waiting ≤ length (now tries)) ⌝ }
+    ensures { λ r. ⌜ Tested (quickTest (paymentsOf (now (batches .entry))) (accounts (now (balances .entry)) (now (limits .entry))) (now (memory .entry)) (take waiting (now (queue .entry)))) (now (limits .entry)) (now (queue .entry)) waiting (now (tries .entry)) tried (now (balances .exit)) (now (memory .exit)) (now (queue .exit)) (r .waiting) (now (tries .exit)) (r .tried) ⌝ }
+{
+    run(
+        true,
+        balances,
+        limits,
+        batches,
+        memory,
+        queue,
+        waiting,
+        tries,
+        tried,
+    )
+}
