@@ -1,0 +1,439 @@
+// The book: blocks of 512 bytes with the date, the streams and the banks. Its check, its reading and its writing.
+use chars::Refusal;
+use dates::Day;
+use scan::At;
+use scan::Fixed;
+ghost use mathlib.Core.Path.{_≡_};
+ghost use mathlib.Core.Bool.{Bool};
+ghost use Prim.Native.Nat.{_+_, _*_, _-_, _≤_, _<_, _^_};
+ghost use lib.ListN.{length, getD, drop};
+ghost use Rattle.book.specs.Block.{firstBroken, little, entriesAt, headRight, zerosAt, unusedRight, headerRight, checkRight, entriesRight};
+ghost use Rattle.book.specs.Book.{codeRight, dateIn, streamsCounted, banksCounted, streamRight, bitsPast, balanceAt, bankRight, streamRules, codeBefore, bankRules, bankBlocks, bankPlace, bankCount, totalRight, bookCheck};
+
+// What the check of a book answers.
+pub enum Answer {
+    Sound,
+    Fault(Refusal),
+}
+
+// The day, and how many streams and banks a book has.
+pub struct Book {
+    pub day: u64,
+    pub streams: u64,
+    pub banks: u64,
+}
+
+impl Book {
+    // Bytes of a block, of its words before the check, and of a stream's and a bank's entry.
+    pub const BLOCK: usize = 512;
+
+    pub const CHECKED: usize = 508;
+
+    pub const STREAM: usize = 8;
+
+    pub const BANK: usize = 24;
+
+    // Where the entries of streams and of banks begin in their block.
+    pub const STREAMS_AT: usize = 16;
+
+    pub const BANKS_AT: usize = 8;
+
+    // Banks in a full block, and streams and banks at the most.
+    pub const ENTRIES: usize = 20;
+
+    pub const STREAMS: usize = 8;
+
+    pub const BANKS: usize = 64;
+
+    // Cents of a balance, of a sub-limit and of the balances' total at the most.
+    pub const MOST: u64 = 6_400_000_000_000_000;
+}
+
+// The byte at a place; 0 past the end.
+fn byte(s: &[u8], at: usize) -> u8
+    ensures { λ r. ⌜ r ≡ getD (now (s .entry)) at 0 ⌝ }
+{
+    if at < s.len() { s[at] } else { 0 }
+}
+
+// The w bytes at a place as a number, little-endian; those past the end are 0.
+fn little_at(s: &[u8], at: usize, w: usize) -> u64
+    requires { ⌜ (at ≤ 65536) × (w ≤ 8) ⌝ }
+    ensures { λ r. ⌜ r ≡ little w (drop at (now (s .entry))) ⌝ }
+{
+    let mut i = w;
+    let mut v: u64 = 0;
+    while i > 0 {
+        i -= 1;
+        v = v * 256 + wide(byte(s, at + i));
+    }
+    v
+}
+
+fn wide(b: u8) -> u64
+    ensures { λ r. ⌜ r ≡ b ⌝ }
+    ensures small { λ r. ⌜ r < 256 ⌝ }
+{
+    b as u64
+}
+
+// Whether n zeros stand at a place.
+fn zeros(s: &[u8], at: usize, n: usize) -> bool
+    ensures { λ r. ⌜ r ≡ zerosAt (now (s .entry)) at n ⌝ }
+{
+    let mut left = n;
+    let mut j = at;
+    while left > 0 {
+        if s.len() <= j {
+            return false;
+        }
+        if s[j] != 0 {
+            return false;
+        }
+        left -= 1;
+        j += 1;
+    }
+    true
+}
+
+fn check_right(s: &[u8], at: usize) -> bool
+    requires { ⌜ at ≤ 2560 ⌝ }
+    ensures { λ r. ⌜ r ≡ checkRight (now (s .entry)) at ⌝ }
+{
+    little_at(s, at + Book::CHECKED, 4) == checksum::block_sum(s, at) as u64
+}
+
+// How many entries the block at a place says that it has.
+fn entries(s: &[u8], at: usize) -> usize
+    requires { ⌜ at ≤ 2560 ⌝ }
+    ensures { λ r. ⌜ r ≡ entriesAt (now (s .entry)) at ⌝ }
+    ensures small { λ r. ⌜ r < 256 ⌝ }
+{
+    byte(s, at + 4) as usize
+}
+
+fn head_right(s: &[u8], at: usize, letter: u8, number: u8, blocks: u8) -> bool
+    requires { ⌜ at ≤ 2560 ⌝ }
+    ensures { λ r. ⌜ r ≡ headRight (now (s .entry)) at letter number blocks ⌝ }
+{
+    let head = [b'B', b'F', letter, number, byte(s, at + 4), blocks, 0, 0];
+    if let At::Next(_) = scan::lit(s, at, &head) {
+        true
+    } else {
+        false
+    }
+}
+
+// From the end of the entries to the check.
+fn unused_right(s: &[u8], at: usize, end: usize) -> bool
+    requires { ⌜ (at ≤ 2560) × (end ≤ 8192) ⌝ }
+    ensures { λ r. ⌜ r ≡ unusedRight (now (s .entry)) at end ⌝ }
+{
+    if end < Book::CHECKED {
+        zeros(s, at + end, Book::CHECKED - end)
+    } else {
+        true
+    }
+}
+
+// The header of a block whose counts were judged before, and its unused bytes.
+fn header_right(
+    s: &[u8],
+    at: usize,
+    letter: u8,
+    number: u8,
+    blocks: u8,
+    counted: bool,
+    first: usize,
+    width: usize,
+) -> bool
+    requires { ⌜ (at ≤ 2560) × (first ≤ 16) × (width ≤ 24) ⌝ }
+    ensures { λ r. ⌜ r ≡ headerRight (now (s .entry)) at letter number blocks counted first width ⌝ }
+{
+    if !head_right(s, at, letter, number, blocks) {
+        return false;
+    }
+    if !counted {
+        return false;
+    }
+    unused_right(s, at, first + width * entries(s, at))
+}
+
+// The day number of the book's date.
+fn date_in(s: &[u8]) -> Day
+    ensures { λ r. ⌜ r ≡ dateIn (now (s .entry)) ⌝ }
+{
+    match scan::number(s, 8, 6) {
+        Fixed::Value(v, _) => dates::day_of(v),
+        Fixed::No => Day::Untrue,
+    }
+}
+
+fn streams_counted(s: &[u8]) -> bool
+    ensures { λ r. ⌜ r ≡ streamsCounted (now (s .entry)) ⌝ }
+{
+    let n = entries(s, 0);
+    if n < 1 {
+        return false;
+    }
+    if Book::STREAMS < n {
+        return false;
+    }
+    let Day::Number(_) = date_in(s) else {
+        return false;
+    };
+    zeros(s, 14, 2)
+}
+
+fn banks_counted(blocks: usize, k: usize, n: usize) -> bool
+    requires { ⌜ (1 ≤ k) × (k < 5) × (n < 256) ⌝ }
+    ensures { λ r. ⌜ r ≡ banksCounted blocks k n ⌝ }
+{
+    if k + 1 < blocks {
+        return n == Book::ENTRIES;
+    }
+    if n < 1 {
+        return false;
+    }
+    if Book::ENTRIES < n {
+        return false;
+    }
+    Book::ENTRIES * (k - 1) + n <= Book::BANKS
+}
+
+fn stream_right(s: &[u8], at: usize) -> bool
+    requires { ⌜ at ≤ 8192 ⌝ }
+    ensures { λ r. ⌜ r ≡ streamRight (now (s .entry)) at ⌝ }
+{
+    let At::Next(_) = scan::code(s, at, 4) else {
+        return false;
+    };
+    if byte(s, at + 4) < 1 {
+        return false;
+    }
+    zeros(s, at + 5, 3)
+}
+
+// The bits past the first n.
+fn bits_past(n: usize, bits: u64) -> u64
+    ensures { λ r. ⌜ r ≡ bitsPast n bits ⌝ }
+{
+    let mut left = n;
+    let mut rest = bits;
+    while left > 0 {
+        rest = rest / 2;
+        left -= 1;
+    }
+    rest
+}
+
+fn bank_right(s: &[u8], streams: usize, at: usize) -> bool
+    requires { ⌜ at ≤ 16384 ⌝ }
+    ensures { λ r. ⌜ r ≡ bankRight (now (s .entry)) streams at ⌝ }
+{
+    let At::Next(_) = scan::code(s, at, 4) else {
+        return false;
+    };
+    if 1 < byte(s, at + 4) {
+        return false;
+    }
+    if bits_past(streams, wide(byte(s, at + 5))) != 0 {
+        return false;
+    }
+    if !zeros(s, at + 6, 2) {
+        return false;
+    }
+    if Book::MOST < little_at(s, at + 8, 8) {
+        return false;
+    }
+    little_at(s, at + 16, 8) <= Book::MOST
+}
+
+fn streams_right(s: &[u8], n: usize) -> bool
+    requires { ⌜ n < 256 ⌝ }
+    ensures { λ r. ⌜ r ≡ entriesRight (now (s .entry)) 8 (streamRight (now (s .entry))) 0 16 n ⌝ }
+{
+    let mut left = n;
+    let mut at = Book::STREAMS_AT;
+    let mut before: u64 = 0;
+    while left > 0 {
+        let code = codes::short_code(s, at);
+        if code <= before {
+            return false;
+        }
+        if !stream_right(s, at) {
+            return false;
+        }
+        before = code;
+        at += Book::STREAM;
+        left -= 1;
+    }
+    true
+}
+
+fn banks_right(s: &[u8], streams: usize, first: u64, from: usize, n: usize) -> bool
+    requires { ⌜ (from ≤ 4096) × (n < 256) ⌝ }
+    ensures { λ r. ⌜ r ≡ entriesRight (now (s .entry)) 24 (bankRight (now (s .entry)) streams) first from n ⌝ }
+{
+    let mut left = n;
+    let mut at = from;
+    let mut before = first;
+    while left > 0 {
+        let code = codes::short_code(s, at);
+        if code <= before {
+            return false;
+        }
+        if !bank_right(s, streams, at) {
+            return false;
+        }
+        before = code;
+        at += Book::BANK;
+        left -= 1;
+    }
+    true
+}
+
+// The first rule that the block of streams breaks.
+fn stream_block(s: &[u8], blocks: u8) -> Answer
+    ensures { λ r. ⌜ r ≡ firstBroken (streamRules (now (s .entry)) blocks) ⌝ }
+{
+    if !check_right(s, 0) {
+        return Answer::Fault(Refusal::BookCheck);
+    }
+    if !header_right(
+        s,
+        0,
+        b'S',
+        0,
+        blocks,
+        streams_counted(s),
+        Book::STREAMS_AT,
+        Book::STREAM,
+    ) {
+        return Answer::Fault(Refusal::BookHeader);
+    }
+    if !streams_right(s, entries(s, 0)) {
+        return Answer::Fault(Refusal::OutOfRange);
+    }
+    Answer::Sound
+}
+
+// The code of the last bank of the block before; 0 before the first.
+fn code_before(s: &[u8], k: usize) -> u64
+    requires { ⌜ k < 5 ⌝ }
+    ensures { λ r. ⌜ r ≡ codeBefore (now (s .entry)) k ⌝ }
+{
+    if k <= 1 {
+        return 0;
+    }
+    codes::short_code(s, Book::BLOCK * k - 48)
+}
+
+// The first rule that block k, one of banks, breaks.
+fn bank_block(s: &[u8], blocks: usize, k: usize) -> Answer
+    requires { ⌜ (blocks ≤ 5) × (1 ≤ k) × (k < 5) ⌝ }
+    ensures { λ r. ⌜ r ≡ firstBroken (bankRules (now (s .entry)) blocks k) ⌝ }
+{
+    let at = Book::BLOCK * k;
+    let n = entries(s, at);
+    if !check_right(s, at) {
+        return Answer::Fault(Refusal::BookCheck);
+    }
+    let counted = banks_counted(blocks, k, n);
+    if !header_right(
+        s,
+        at,
+        b'B',
+        k as u8,
+        blocks as u8,
+        counted,
+        Book::BANKS_AT,
+        Book::BANK,
+    ) {
+        return Answer::Fault(Refusal::BookHeader);
+    }
+    if !banks_right(s, entries(s, 0), code_before(s, k), at + Book::BANKS_AT, n) {
+        return Answer::Fault(Refusal::OutOfRange);
+    }
+    Answer::Sound
+}
+
+// The first rule that a block of banks breaks.
+fn bank_blocks(s: &[u8], blocks: usize) -> Answer
+    requires { ⌜ (1 ≤ blocks) × (blocks ≤ 5) ⌝ }
+    ensures { λ r. ⌜ r ≡ firstBroken (bankBlocks (now (s .entry)) blocks 1 (blocks - 1)) ⌝ }
+{
+    let mut k = 1;
+    while k < blocks {
+        match bank_block(s, blocks, k) {
+            Answer::Sound => {
+                k += 1;
+            }
+            Answer::Fault(f) => {
+                return Answer::Fault(f);
+            }
+        }
+    }
+    Answer::Sound
+}
+
+// The place of a bank's entry.
+fn bank_place(i: usize) -> usize
+    requires { ⌜ i < 400 ⌝ }
+    ensures { λ r. ⌜ r ≡ bankPlace i ⌝ }
+    ensures small { λ r. ⌜ r ≤ 11000 ⌝ }
+{
+    Book::BLOCK * (i / Book::ENTRIES + 1) + (Book::BANK * (i % Book::ENTRIES) + Book::BANKS_AT)
+}
+
+fn total_right(s: &[u8], n: usize) -> bool
+    requires { ⌜ n < 400 ⌝ }
+    ensures { λ r. ⌜ r ≡ totalRight (now (s .entry)) n ⌝ }
+{
+    let mut total: u64 = 0;
+    let mut i = 0;
+    while i < n {
+        let balance = little_at(s, bank_place(i) + 8, 8);
+        if Book::MOST - total < balance {
+            return false;
+        }
+        total += balance;
+        i += 1;
+    }
+    true
+}
+
+// How many banks a book of so many blocks has.
+fn bank_count(s: &[u8], blocks: usize) -> usize
+    requires { ⌜ (2 ≤ blocks) × (blocks ≤ 5) ⌝ }
+    ensures { λ r. ⌜ r ≡ bankCount (now (s .entry)) blocks ⌝ }
+    ensures small { λ r. ⌜ r < 400 ⌝ }
+{
+    Book::ENTRIES * (blocks - 2) + entries(s, Book::BLOCK * (blocks - 1))
+}
+
+// 0, or the number of the first rule that a book breaks: length 11; by block check 12, header 13, entries 14; total 15.
+pub fn check(book: &[u8]) -> Answer
+    ensures { λ r. ⌜ r ≡ bookCheck (now (book .entry)) ⌝ }
+{
+    if book.len() % Book::BLOCK != 0 {
+        return Answer::Fault(Refusal::BookLength);
+    }
+    let blocks = book.len() / Book::BLOCK;
+    if blocks < 2 {
+        return Answer::Fault(Refusal::BookLength);
+    }
+    if 5 < blocks {
+        return Answer::Fault(Refusal::BookLength);
+    }
+    if let Answer::Fault(f) = stream_block(book, blocks as u8) {
+        return Answer::Fault(f);
+    }
+    if let Answer::Fault(f) = bank_blocks(book, blocks) {
+        return Answer::Fault(f);
+    }
+    if !total_right(book, bank_count(book, blocks)) {
+        return Answer::Fault(Refusal::BookTotal);
+    }
+    Answer::Sound
+}
