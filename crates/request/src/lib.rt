@@ -1,0 +1,381 @@
+// A whole request: 131, which settles, and 133, which recalls.
+use chars::Refusal;
+use codes::Code;
+use fields::Break;
+use fields::Field;
+use fields::Item;
+use fields::Kind;
+use payments::Ending;
+use payments::Payment;
+use scan::Cursor;
+use terms::Activation;
+use terms::Stated;
+use terms::Terms;
+use values::Part;
+ghost use mathlib.Core.Path.{_≡_};
+ghost use Rattle.values.specs.Values.{textOf};
+ghost use Rattle.request.specs.Request.{namedAt, nowhere, toStream, bare, refusal, addressAt, cutBy, settlementAt, recallAt, messageAt, requestAt};
+
+// A reference or a BIN: where it stands, and its code.
+pub struct Named {
+    pub part: Part,
+    pub code: Code,
+}
+
+// How far the address of a request was read well.
+pub enum Reached {
+    Nothing,
+    Stream,
+    Bin,
+}
+
+// The stream and the BIN, zero where they were not read.
+pub struct Address {
+    pub reached: Reached,
+    pub stream: Item,
+    pub bin: Named,
+}
+
+// The address and the cursor past it, or the break and what was read before it.
+pub enum Addressed {
+    To(Address, Cursor),
+    Lost(Break, Address),
+}
+
+pub struct Head {
+    pub reference: Named,
+    pub subtype: Item,
+    pub address: Address,
+}
+
+// What a text is.
+pub enum Outcome {
+    Settlement,
+    Recall,
+    Refused(Break),
+}
+
+// What was read. The first n places hold the payments. Of a recall only the head is there; of a
+// text that is refused only the address; all else is zero.
+pub struct Reading {
+    pub outcome: Outcome,
+    pub head: Head,
+    pub terms: Terms,
+    pub payments: [Payment; 10],
+    pub n: usize,
+    pub count: Item,
+}
+
+// The code of a part.
+fn name_at(s: &[u8], part: Part) -> Named
+    ensures { λ r. ⌜ r ≡ namedAt (now (s .entry)) part ⌝ }
+{
+    let start = part.start;
+    let end = part.end;
+    if start <= end {
+        Named {
+            part,
+            code: codes::long_code(s, start, end - start),
+        }
+    } else {
+        Named {
+            part,
+            code: codes::long_code(s, start, 0),
+        }
+    }
+}
+
+impl Address {
+    fn nowhere() -> Address
+        ensures { λ r. ⌜ r ≡ nowhere ⌝ }
+    {
+        let part = Part { start: 0, end: 0 };
+        Address {
+            reached: Reached::Nothing,
+            stream: Item { part, number: 0 },
+            bin: Named {
+                part,
+                code: Code { high: 0, low: 0 },
+            },
+        }
+    }
+
+    fn to_stream(stream: Item) -> Address
+        ensures { λ r. ⌜ r ≡ toStream stream ⌝ }
+    {
+        let part = Part { start: 0, end: 0 };
+        let bin = Named {
+            part,
+            code: Code { high: 0, low: 0 },
+        };
+        Address {
+            reached: Reached::Stream,
+            stream,
+            bin,
+        }
+    }
+}
+
+impl Reading {
+    // No payments and no terms.
+    fn bare(outcome: Outcome, head: Head) -> Reading
+        ensures { λ r. ⌜ r ≡ bare outcome head ⌝ }
+    {
+        let part = Part { start: 0, end: 0 };
+        let item = Item { part, number: 0 };
+        let payment = Payment {
+            side: item,
+            amount: item,
+            letters: item,
+            bank: item,
+        };
+        let terms = Terms {
+            numbers: part,
+            number: 0,
+            count: 0,
+            date: item,
+            activation: Activation::AtOnce,
+            activated: part,
+        };
+        Reading {
+            outcome,
+            head,
+            terms,
+            payments: [payment; 10],
+            n: 0,
+            count: item,
+        }
+    }
+
+    // Nothing but the break and the address so far.
+    fn refused(b: Break, address: Address) -> Reading
+        ensures { λ r. ⌜ r ≡ refusal b address ⌝ }
+    {
+        let part = Part { start: 0, end: 0 };
+        let reference = Named {
+            part,
+            code: Code { high: 0, low: 0 },
+        };
+        let subtype = Item { part, number: 0 };
+        Reading::bare(
+            Outcome::Refused(b),
+            Head {
+                reference,
+                subtype,
+                address,
+            },
+        )
+    }
+}
+
+// 77E, 22A and 119.
+fn read_address(s: &[u8], c: Cursor) -> Addressed
+    ensures { λ r. ⌜ r ≡ addressAt (now (s .entry)) (c .at) ⌝ }
+{
+    let f = fields::read_field(s, c, b":77E:", Kind::Word(0));
+    let Field::Good(_, past) = f else {
+        return Addressed::Lost(f.why(), Address::nowhere());
+    };
+    let g = fields::read_field(s, past, b":22A:", Kind::Word(4));
+    let Field::Good(stream, then) = g else {
+        return Addressed::Lost(g.why(), Address::nowhere());
+    };
+    let part = stream.part;
+    let h = fields::read_field(s, then, b":119:", Kind::Bin(part));
+    let Field::Good(bin, next) = h else {
+        return Addressed::Lost(h.why(), Address::to_stream(stream));
+    };
+    let p = bin.part;
+    Addressed::To(
+        Address {
+            reached: Reached::Bin,
+            stream,
+            bin: name_at(s, p),
+        },
+        next,
+    )
+}
+
+// The break that ends the payments; one of the text's beginning where they end well.
+fn cut(e: Ending) -> Break
+    ensures { λ r. ⌜ r ≡ cutBy e ⌝ }
+{
+    match e {
+        Ending::Done(_) => Break::absent(Cursor::START),
+        Ending::Cut(b) => b,
+    }
+}
+
+// After 119 of a 131: the terms, the payments, their number, and nothing more.
+fn read_settlement(s: &[u8], c: Cursor, head: Head) -> Reading
+    ensures { λ r. ⌜ r ≡ settlementAt (now (s .entry)) (c .at) head ⌝ }
+{
+    let address = head.address;
+    let t = terms::read_terms(s, c);
+    let Stated::Whole(terms, past) = t else {
+        return Reading::refused(t.why(), address);
+    };
+    let p = payments::read_payments(s, past);
+    let ending = p.ending;
+    let Ending::Done(then) = ending else {
+        return Reading::refused(cut(ending), address);
+    };
+    let n = p.n;
+    let f = fields::read_field(s, then, b":203:", Kind::Count(n as u64));
+    let Field::Good(count, next) = f else {
+        return Reading::refused(f.why(), address);
+    };
+    if next.at < s.len() {
+        return Reading::refused(Break::absent(next.at), address);
+    }
+    let payments = p.items;
+    Reading {
+        outcome: Outcome::Settlement,
+        head,
+        terms,
+        payments,
+        n,
+        count,
+    }
+}
+
+// After 119 of a 133: nothing more.
+fn read_recall(s: &[u8], c: Cursor, head: Head) -> Reading
+    ensures { λ r. ⌜ r ≡ recallAt (now (s .entry)) (c .at) head ⌝ }
+{
+    if c.at < s.len() {
+        let address = head.address;
+        return Reading::refused(Break::absent(c.at), address);
+    }
+    Reading::bare(Outcome::Recall, head)
+}
+
+// After 12, of either sub type.
+fn read_message(s: &[u8], c: Cursor, reference: Named, subtype: Item) -> Reading
+    ensures { λ r. ⌜ r ≡ messageAt (now (s .entry)) (c .at) reference subtype ⌝ }
+{
+    match read_address(s, c) {
+        Addressed::Lost(b, address) => Reading::refused(b, address),
+        Addressed::To(address, next) => {
+            let head = Head {
+                reference,
+                subtype,
+                address,
+            };
+            let n = subtype.number;
+            match n {
+                131 => read_settlement(s, next, head),
+                _ => read_recall(s, next, head),
+            }
+        }
+    }
+}
+
+pub fn read_request(s: &[u8]) -> Reading
+    ensures { λ r. ⌜ r ≡ requestAt (now (s .entry)) ⌝ }
+{
+    let f = fields::read_field(s, Cursor::new(), b":20:", Kind::Reference);
+    let Field::Good(reference, past) = f else {
+        return Reading::refused(f.why(), Address::nowhere());
+    };
+    let g = fields::read_field(s, past, b":12:", Kind::Numeral(3));
+    let Field::Good(subtype, next) = g else {
+        return Reading::refused(g.why(), Address::nowhere());
+    };
+    let part = reference.part;
+    let n = subtype.number;
+    match n {
+        131 | 133 => read_message(s, next, name_at(s, part), subtype),
+        _ => Reading::refused(
+            Break::wrong(past.at, Refusal::OtherSubType),
+            Address::nowhere(),
+        ),
+    }
+}
+
+// Each field as the part of the lent text where it stands.
+pub fn reference_text(s: &[u8], h: Head) -> &[u8]
+    ensures { λ t. ⌜ now t ≡ textOf (now (s .entry)) (h .reference .part) ⌝ }
+{
+    let named = h.reference;
+    let part = named.part;
+    values::text_of(s, part)
+}
+
+pub fn sub_type_text(s: &[u8], h: Head) -> &[u8]
+    ensures { λ t. ⌜ now t ≡ textOf (now (s .entry)) (h .subtype .part) ⌝ }
+{
+    let item = h.subtype;
+    let part = item.part;
+    values::text_of(s, part)
+}
+
+pub fn stream_text(s: &[u8], a: Address) -> &[u8]
+    ensures { λ t. ⌜ now t ≡ textOf (now (s .entry)) (a .stream .part) ⌝ }
+{
+    let item = a.stream;
+    let part = item.part;
+    values::text_of(s, part)
+}
+
+pub fn bin_text(s: &[u8], a: Address) -> &[u8]
+    ensures { λ t. ⌜ now t ≡ textOf (now (s .entry)) (a .bin .part) ⌝ }
+{
+    let named = a.bin;
+    let part = named.part;
+    values::text_of(s, part)
+}
+
+pub fn numbers_text(s: &[u8], t: Terms) -> &[u8]
+    ensures { λ r. ⌜ now r ≡ textOf (now (s .entry)) (t .numbers) ⌝ }
+{
+    let part = t.numbers;
+    values::text_of(s, part)
+}
+
+pub fn date_text(s: &[u8], t: Terms) -> &[u8]
+    ensures { λ r. ⌜ now r ≡ textOf (now (s .entry)) (t .date .part) ⌝ }
+{
+    let item = t.date;
+    let part = item.part;
+    values::text_of(s, part)
+}
+
+pub fn activation_text(s: &[u8], t: Terms) -> &[u8]
+    ensures { λ r. ⌜ now r ≡ textOf (now (s .entry)) (t .activated) ⌝ }
+{
+    let part = t.activated;
+    values::text_of(s, part)
+}
+
+pub fn side_text(s: &[u8], p: Payment) -> &[u8]
+    ensures { λ t. ⌜ now t ≡ textOf (now (s .entry)) (p .side .part) ⌝ }
+{
+    let item = p.side;
+    let part = item.part;
+    values::text_of(s, part)
+}
+
+pub fn amount_text(s: &[u8], p: Payment) -> &[u8]
+    ensures { λ t. ⌜ now t ≡ textOf (now (s .entry)) (p .amount .part) ⌝ }
+{
+    let item = p.amount;
+    let part = item.part;
+    values::text_of(s, part)
+}
+
+pub fn letters_text(s: &[u8], p: Payment) -> &[u8]
+    ensures { λ t. ⌜ now t ≡ textOf (now (s .entry)) (p .letters .part) ⌝ }
+{
+    let item = p.letters;
+    let part = item.part;
+    values::text_of(s, part)
+}
+
+pub fn bank_text(s: &[u8], p: Payment) -> &[u8]
+    ensures { λ t. ⌜ now t ≡ textOf (now (s .entry)) (p .bank .part) ⌝ }
+{
+    let item = p.bank;
+    let part = item.part;
+    values::text_of(s, part)
+}
