@@ -1,2 +1,4 @@
 pub mod Leaves
 pub mod Rules
+pub mod Accepted
+pub mod Filling

@@ -4,11 +4,14 @@ use dates::Day;
 use scan::At;
 use scan::Fixed;
 ghost use mathlib.Core.Path.{_≡_};
-ghost use mathlib.Core.Bool.{Bool};
+ghost use mathlib.Core.Bool.{true};
+ghost use Rattle.book.specs.declared.Answer.the-variants.{Sound};
 ghost use Prim.Native.Nat.{_+_, _*_, _-_, _≤_, _<_, _^_};
 ghost use lib.ListN.{length, getD, drop};
+ghost use lib.Seq.{sets};
 ghost use Rattle.book.specs.Block.{firstBroken, little, entriesAt, headRight, zerosAt, unusedRight, headerRight, checkRight, entriesRight};
-ghost use Rattle.book.specs.Book.{codeRight, dateIn, streamsCounted, banksCounted, streamRight, bitsPast, balanceAt, bankRight, streamRules, codeBefore, bankRules, bankBlocks, bankPlace, bankCount, totalRight, bookCheck};
+ghost use Rattle.book.specs.Accounts.{streamAt, bankAt, streamRow, fieldOf, dayIn, roomFor, rowsOf, filledBook, readBook};
+ghost use Rattle.book.specs.Book.{each, codeRight, dateIn, streamsCounted, banksCounted, streamRight, bitsPast, balanceAt, bankRight, streamRules, codeBefore, bankRules, bankBlocks, bankPlace, bankCount, totalRight, bookCheck};
 
 // What the check of a book answers.
 pub enum Answer {
@@ -19,8 +22,8 @@ pub enum Answer {
 // The day, and how many streams and banks a book has.
 pub struct Book {
     pub day: u64,
-    pub streams: u64,
-    pub banks: u64,
+    pub streams: usize,
+    pub banks: usize,
 }
 
 impl Book {
@@ -436,4 +439,139 @@ pub fn check(book: &[u8]) -> Answer
         return Answer::Fault(Refusal::BookTotal);
     }
     Answer::Sound
+}
+
+// A column of the banks' rows. Flags are one number: 1 if the bank is suspended, and twice its stream bits.
+pub enum Field {
+    Code,
+    Flags,
+    Balance,
+    Limit,
+}
+
+pub enum Reading {
+    Held(Book),
+    Unread(Refusal),
+}
+
+// One field of the bank's entry at a place.
+fn field_at(s: &[u8], at: usize, field: Field) -> u64
+    requires { ⌜ at ≤ 16384 ⌝ }
+    ensures { λ r. ⌜ r ≡ fieldOf field (bankAt (now (s .entry)) at) ⌝ }
+{
+    match field {
+        Field::Code => codes::short_code(s, at),
+        Field::Flags => wide(byte(s, at + 4)) + 2 * wide(byte(s, at + 5)),
+        Field::Balance => little_at(s, at + 8, 8),
+        Field::Limit => little_at(s, at + 16, 8),
+    }
+}
+
+// One field of the first n banks into the first n places of a row.
+fn read_column(s: &[u8], n: usize, field: Field, out: &mut [u64])
+    requires { ⌜ (n ≤ 64) × (64 ≤ length (now out)) ⌝ }
+    ensures { λ _. ⌜ now (out .exit) ≡ sets (now (out .entry)) 0 (each (λ i. fieldOf field (bankAt (now (s .entry)) (bankPlace i))) 0 n) ⌝ }
+{
+    let mut i = 0;
+    while i < n {
+        out[i] = field_at(s, bank_place(i), field);
+        i += 1;
+    }
+}
+
+// Code and administrator of the first n streams into the first places of a row.
+fn read_streams(s: &[u8], n: usize, out: &mut [u64])
+    requires { ⌜ (n ≤ 8) × (16 ≤ length (now out)) ⌝ }
+    ensures { λ _. ⌜ now (out .exit) ≡ sets (now (out .entry)) 0 (streamRow (each (λ i. streamAt (now (s .entry)) (8 * i + 16)) 0 n)) ⌝ }
+{
+    let mut i = 0;
+    while i < n {
+        let at = Book::STREAM * i + Book::STREAMS_AT;
+        out[2 * i] = codes::short_code(s, at);
+        out[2 * i + 1] = wide(byte(s, at + 4));
+        i += 1;
+    }
+}
+
+// The day number of the book's date; 0 for none.
+fn day_in(s: &[u8]) -> u64
+    ensures { λ r. ⌜ r ≡ dayIn (now (s .entry)) ⌝ }
+{
+    match date_in(s) {
+        Day::Number(k) => k,
+        Day::Untrue => 0,
+    }
+}
+
+// Whether rows of these lengths hold 8 streams and 64 banks.
+fn rows_fit(streams: usize, codes: usize, flags: usize, balances: usize, limits: usize) -> bool
+    ensures { λ r. ⌜ r ≡ roomFor streams codes flags balances limits ⌝ }
+{
+    if streams < 2 * Book::STREAMS {
+        return false;
+    }
+    if codes < Book::BANKS {
+        return false;
+    }
+    if flags < Book::BANKS {
+        return false;
+    }
+    if balances < Book::BANKS {
+        return false;
+    }
+    Book::BANKS <= limits
+}
+
+// The streams and banks of a sound book into the rows.
+fn fill(
+    book: &[u8],
+    streams: &mut [u64],
+    codes: &mut [u64],
+    flags: &mut [u64],
+    balances: &mut [u64],
+    limits: &mut [u64],
+) -> Book
+    requires { ⌜ bookCheck (now book) ≡ Sound ⌝ }
+    requires { ⌜ roomFor (length (now streams)) (length (now codes)) (length (now flags)) (length (now balances)) (length (now limits)) ≡ true ⌝ }
+    ensures { λ r. ⌜ record { rows = rowsOf (now (streams .exit)) (now (codes .exit)) (now (flags .exit)) (now (balances .exit)) (now (limits .exit)); answer = r } ≡ filledBook (now (book .entry)) (rowsOf (now (streams .entry)) (now (codes .entry)) (now (flags .entry)) (now (balances .entry)) (now (limits .entry))) ⌝ }
+{
+    let n = entries(book, 0);
+    let banks = bank_count(book, book.len() / Book::BLOCK);
+    read_streams(book, n, streams);
+    read_column(book, banks, Field::Code, codes);
+    read_column(book, banks, Field::Flags, flags);
+    read_column(book, banks, Field::Balance, balances);
+    read_column(book, banks, Field::Limit, limits);
+    Book {
+        day: day_in(book),
+        streams: n,
+        banks,
+    }
+}
+
+// The book's date, streams and banks into rows: code and administrator of each stream, a column for each field of the banks.
+// 07 for rows that do not hold 8 streams and 64 banks, then 11 to 15; a refusal changes nothing, nor does reading past the counts.
+pub fn read(
+    book: &[u8],
+    streams: &mut [u64],
+    codes: &mut [u64],
+    flags: &mut [u64],
+    balances: &mut [u64],
+    limits: &mut [u64],
+) -> Reading
+    ensures { λ r. ⌜ record { rows = rowsOf (now (streams .exit)) (now (codes .exit)) (now (flags .exit)) (now (balances .exit)) (now (limits .exit)); answer = r } ≡ readBook (now (book .entry)) (rowsOf (now (streams .entry)) (now (codes .entry)) (now (flags .entry)) (now (balances .entry)) (now (limits .entry))) ⌝ }
+{
+    if !rows_fit(
+        streams.len(),
+        codes.len(),
+        flags.len(),
+        balances.len(),
+        limits.len(),
+    ) {
+        return Reading::Unread(Refusal::ShortBuffer);
+    }
+    if let Answer::Fault(f) = check(book) {
+        return Reading::Unread(f);
+    }
+    Reading::Held(fill(book, streams, codes, flags, balances, limits))
 }
