@@ -183,10 +183,10 @@ pub fn settle(balances: &mut [u64], batches: &[u64], place: usize)
     ensures { λ _. ⌜ now (balances .exit) ≡ settled (now (balances .entry)) (paymentsOf (now (batches .entry)) place) ⌝ }
 {
     let mut at = place * Batch::WIDTH + Batch::PAYMENT;
-    let mut left = batches[place * Batch::WIDTH + Batch::PAID];
-    while 0 < left {
+    let mut unpaid = batches[place * Batch::WIDTH + Batch::PAID];
+    while 0 < unpaid {
         pay_at(balances, batches, at);
         at += Batch::PAYMENT_WIDTH;
-        left -= 1;
+        unpaid -= 1;
     }
 }

@@ -10,12 +10,12 @@ use Rattle.settle.proofs.settle.Statement.{statement}
 use Rattle.settle.proofs.settle.Tie as tie
 
 abbrev Inv-loop : tie.InvT-loop
-Inv-loop balances₀ batches place at₀ left₀ balances at left =
-    (at + 3 * left ≤ 11168) × (length balances ≡ length balances₀) × AllPayable balances (paymentsFrom batches at left)
-    × (settled balances₀ (paymentsOf batches place) ≡ settled balances (paymentsFrom batches at left))
+Inv-loop balances₀ batches place at₀ unpaid₀ balances at unpaid =
+    (at + 3 * unpaid ≤ 11168) × (length balances ≡ length balances₀) × AllPayable balances (paymentsFrom batches at unpaid)
+    × (settled balances₀ (paymentsOf batches place) ≡ settled balances (paymentsFrom batches at unpaid))
 
 abbrev μ-loop : tie.MeasureT-loop
-μ-loop balances₀ batches place at₀ left₀ balances at left = left
+μ-loop balances₀ batches place at₀ unpaid₀ balances at unpaid = unpaid
 
 mul-at : tie.Need-mul-at Inv-loop μ-loop
 mul-at c = search needs
@@ -23,17 +23,17 @@ mul-at c = search needs
 add-at : tie.Need-add-at Inv-loop μ-loop
 add-at c = search needs
 
-mul-left : tie.Need-mul-left Inv-loop μ-loop
-mul-left c = search needs
+mul-unpaid : tie.Need-mul-unpaid Inv-loop μ-loop
+mul-unpaid c = search needs
 
-add-left : tie.Need-add-left Inv-loop μ-loop
-add-left c = search needs
+add-unpaid : tie.Need-add-unpaid Inv-loop μ-loop
+add-unpaid c = search needs
 
-mul-left-2 : tie.Need-mul-left-2 Inv-loop μ-loop
-mul-left-2 c = search needs
+mul-unpaid-2 : tie.Need-mul-unpaid-2 Inv-loop μ-loop
+mul-unpaid-2 c = search needs
 
-shared-slice-read-left : tie.Need-shared-slice-read-left Inv-loop μ-loop
-shared-slice-read-left c = search needs
+shared-slice-read-unpaid : tie.Need-shared-slice-read-unpaid Inv-loop μ-loop
+shared-slice-read-unpaid c = search needs
 
 loop-holds : tie.Need-loop-holds Inv-loop μ-loop
 loop-holds c = search needs
@@ -44,8 +44,8 @@ pay-at-requires c κs = search (needs, payable-head)
 add-at-2 : tie.Need-add-at-2 Inv-loop μ-loop
 add-at-2 c = search needs
 
-sub-left : tie.Need-sub-left Inv-loop μ-loop
-sub-left c = search needs
+sub-unpaid : tie.Need-sub-unpaid Inv-loop μ-loop
+sub-unpaid c = search needs
 
 loop-less : tie.Need-loop-less Inv-loop μ-loop
 loop-less c = search needs
@@ -71,14 +71,14 @@ settle-spec =
     μ-loop
     mul-at
     add-at
-    mul-left
-    add-left
-    mul-left-2
-    shared-slice-read-left
+    mul-unpaid
+    add-unpaid
+    mul-unpaid-2
+    shared-slice-read-unpaid
     loop-holds
     pay-at-requires
     add-at-2
-    sub-left
+    sub-unpaid
     loop-less
     loop-again
     same-length
