@@ -1,1 +1,3 @@
 pub mod Trial
+pub mod Moved
+pub mod Agreement

@@ -195,11 +195,13 @@ module _ (s : State) (r : Reading) where
   mayQueue AtOnce = true
   mayQueue (Minute m) = hasBegun (s .day .clock) m
 
+  -- a complete batch waits: in the queue, or for its minute
   abbrev pub toTail : Batches → Batch → ℕ → Batches
-  toTail b x p =
-      cond (mayQueue (x .activation))
-      (record { places = set (b .places) p (live x); pending = b .pending; queue = b .queue ++ (p ∷ []) })
-      (record { places = set (b .places) p (live x); pending = b .pending ++ (p ∷ []); queue = b .queue })
+  toTail b x p = record {
+    places = set (b .places) p (live x);
+    pending = cond (mayQueue (x .activation)) (b .pending) (b .pending ++ (p ∷ []));
+    queue = cond (mayQueue (x .activation)) (b .queue ++ (p ∷ [])) (b .queue);
+  }
 
   -- "When all numbers are there: 01, or pending if its activation minute has not begun, or the queue's tail."
   unfoldable pub completed : Batches → Known → ℕ → Batch → Acted
