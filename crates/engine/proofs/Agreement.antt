@@ -232,12 +232,12 @@ runs-alike [] x y e f h p q = refl
 runs-alike (c ∷ cs) x y e f h p q =
     let t : True (paymentsAt (e .state .batches)) (e .state .books) (f .memory) = rw h (q .true) in
     let v : view (call e (by (x 0) c)) ≡ view (call f (by (y 0) c)) =
-          call-alike (e .state) (e .memory) (f .memory) c (x 0) (y 0) (p .true) t
-          ∙ ap (λ (z : State). view (call (record { state = z; memory = f .memory }) (by (y 0) c))) h in
+    call-alike (e .state) (e .memory) (f .memory) c (x 0) (y 0) (p .true) t
+    ∙ ap (λ (z : State). view (call (record { state = z; memory = f .memory }) (by (y 0) c))) h in
     ap (λ (z : View). z ∷ views (run (call e (by (x 0) c) .engine) (chosen (λ i. x (suc i)) cs))) v
     ∙ ap (λ (l : List View). view (call f (by (y 0) c)) ∷ l)
-      (runs-alike cs (λ i. x (suc i)) (λ i. y (suc i)) (call e (by (x 0) c) .engine) (call f (by (y 0) c) .engine)
-      (ap (λ (z : View). z .state) v) (call-faithful e (by (x 0) c) p) (call-faithful f (by (y 0) c) q))
+    (runs-alike cs (λ i. x (suc i)) (λ i. y (suc i)) (call e (by (x 0) c) .engine) (call f (by (y 0) c) .engine)
+    (ap (λ (z : View). z .state) v) (call-faithful e (by (x 0) c) p) (call-faithful f (by (y 0) c) q))
 
 -- "From a fresh start, over any sequence of calls, both give the same answers, response bytes, balances and waiting batches"
 pub tests-agree-all-days : (cs : List Call) (x y : ℕ → Bool) → views (run cleared (chosen x cs)) ≡ views (run cleared (chosen y cs))

@@ -8,3 +8,4 @@ pub mod Changes
 pub mod Ending
 pub mod Days
 pub mod Calls
+pub mod Rules
