@@ -1,3 +1,5 @@
 pub mod Trial
 pub mod Moved
 pub mod Agreement
+pub mod Refusals
+pub mod Strangers
