@@ -90,9 +90,9 @@ same-read : {A : Type 0} (r : Value) (d : Refusal → A) (k k′ : ℕ → ℕ �
 same-read (Read v e) d k k′ q = q v e refl
 same-read (Unread x) d k k′ q = refl
 
--- a line that is read ends within 28 bytes, and its value is of at most 20 in it; a break stands where its line begins
+-- a line that is read ends within 28 bytes, two bytes after its value; a break stands where its line begins
 abbrev pub In : ℕ → Field → Type 0
-In at (Good i c) = (at ≤ c .at) × (c .at ≤ at + 28) × (i .part .end ≤ c .at) × (i .part .end ≤ i .part .start + 20)
+In at (Good i c) = (at ≤ c .at) × (c .at ≤ at + 28) × (c .at ≡ i .part .end + 2)
 In at (Bad b) = b .at ≡ at
 
 read-ends : (s : List ℕ) (a : ℕ) (k : Kind) → Fine a k → (v e : ℕ) → valueAt s a k ≡ Read v e → (a ≤ e) × (e ≤ a + 20)
@@ -106,7 +106,7 @@ field-in s at tag k h f = by-next (In at) (litAt s at tag) refl (λ a q.
     let i = lit-next s at tag q in
     let j = read-ends s a k (fine-on at a (omega (arith, i)) k f) v e r in
     let l = lit-next s e crlf u in
-    (omega (arith, i, j .0, l), omega (arith, i, j .1, l), omega (arith, l), omega (arith, j .1)))))
+    (omega (arith, i, j .0, l), omega (arith, i, j .1, l), l))))
 
 field-same : {n : ℕ} {s t : List ℕ} → Alike n s t → (at : ℕ) (tag : List ℕ) (k : Kind) → length tag ≤ 5 → Fine at k → at + 32 ≤ n → fieldAt s at tag k ≡ fieldAt t at tag k
 unfolding fieldAt
@@ -118,12 +118,19 @@ field-same {t = t} a at tag k h f w =
     let j = read-ends t b k g v e r in
     rw (lit-alike a e crlf (omega (arith, i, j .1)))))))
 
+-- from a place on, no further than w bytes
+abbrev pub Reaches : ℕ → ℕ → ℕ → Type 0
+Reaches at w p = (at ≤ p) × (p ≤ at + w)
+
+pub here : (at : ℕ) → Reaches at 0 at
+here at = (omega arith, omega arith)
+
 -- where a step stops: past what it read, or at the break
 abbrev pub stop : Field → ℕ
 stop (Good i c) = c .at
 stop (Bad b) = b .at
 
-pub stop-in : (at : ℕ) (x : Field) → In at x → (at ≤ stop x) × (stop x ≤ at + 28)
+stop-in : (at : ℕ) (x : Field) → In at x → Reaches at 28 (stop x)
 stop-in at (Good i c) h = (h .0, h .1)
 stop-in at (Bad b) h = (omega (arith, h), omega (arith, h))
 
@@ -131,15 +138,22 @@ stop-in at (Bad b) h = (omega (arith, h), omega (arith, h))
 abbrev pub Or : {A : Type 0} → ℕ → A → A → ℕ → Type 0
 Or n x y p = (x ≡ y) ⊎ (n < p + 32)
 
-pub field-alike : {n : ℕ} {s t : List ℕ} → Alike n s t → (at : ℕ) (tag : List ℕ) (k : Kind) → length tag ≤ 5 → Fine at k → Or n (fieldAt s at tag k) (fieldAt t at tag k) (stop (fieldAt s at tag k))
-field-alike {n} {s} {t} a at tag k h f = go (leb (at + 32) n) refl (stop-in at (fieldAt s at tag k) (field-in s at tag k h f))
+pub field-near : {n : ℕ} {s t : List ℕ} → Alike n s t → (at : ℕ) (tag : List ℕ) (k : Kind) → length tag ≤ 5 → Fine at k → Or n (fieldAt s at tag k) (fieldAt t at tag k) at
+field-near {n} {s} {t} a at tag k h f = go (leb (at + 32) n) refl
   where
-    go : (b : Bool) → leb (at + 32) n ≡ b → (at ≤ stop (fieldAt s at tag k)) × (stop (fieldAt s at tag k) ≤ at + 28) → Or n (fieldAt s at tag k) (fieldAt t at tag k) (stop (fieldAt s at tag k))
-    go true q i = inl (field-same a at tag k h f (leb-true (at + 32) n q))
-    go false q i = inr (omega (arith, leb-false (at + 32) n q, i .0))
+    go : (b : Bool) → leb (at + 32) n ≡ b → Or n (fieldAt s at tag k) (fieldAt t at tag k) at
+    go true q = inl (field-same a at tag k h f (leb-true (at + 32) n q))
+    go false q = inr (omega (arith, leb-false (at + 32) n q))
+
+pub field-alike : {n : ℕ} {s t : List ℕ} → Alike n s t → (at : ℕ) (tag : List ℕ) (k : Kind) → length tag ≤ 5 → Fine at k → Or n (fieldAt s at tag k) (fieldAt t at tag k) (stop (fieldAt s at tag k))
+field-alike {n} {s} {t} a at tag k h f = go (field-near a at tag k h f)
+  where
+    go : Or n (fieldAt s at tag k) (fieldAt t at tag k) at → Or n (fieldAt s at tag k) (fieldAt t at tag k) (stop (fieldAt s at tag k))
+    go (inl q) = inl q
+    go (inr q) = inr (omega (arith, q, stop-in at (fieldAt s at tag k) (field-in s at tag k h f) .0))
 
 -- a step after a field: where it stops, and that it is alike
-pub in-then : {A : Type 0} (p : A → ℕ) (at w : ℕ) (x : Field) (d : Break → A) (k : Item → Cursor → A) → In at x → ((b : Break) → p (d b) ≡ b .at) → ((i : Item) (c : Cursor) → x ≡ Good i c → (c .at ≤ p (k i c)) × (p (k i c) ≤ c .at + w)) → (at ≤ p (onGood x d k)) × (p (onGood x d k) ≤ at + (28 + w))
+pub in-then : {A : Type 0} (p : A → ℕ) (at w : ℕ) (x : Field) (d : Break → A) (k : Item → Cursor → A) → In at x → ((b : Break) → p (d b) ≡ b .at) → ((i : Item) (c : Cursor) → x ≡ Good i c → Reaches (c .at) w (p (k i c))) → Reaches at (28 + w) (p (onGood x d k))
 in-then p at w (Good i c) d k h e f = let g = f i c refl in (omega (arith, h .0, g .0), omega (arith, h .1, g .1))
 in-then p at w (Bad b) d k h e f = (omega (arith, h, e b), omega (arith, h, e b))
 
@@ -152,3 +166,25 @@ alike-then p n (Good i c) y d k k′ (inl q) e f = go (f i c refl .1)
 alike-then p n (Bad b) y d k k′ (inl q) e f = inl (rw (← q))
 alike-then p n (Good i c) y d k k′ (inr q) e f = inr (omega (arith, q, f i c refl .0))
 alike-then p n (Bad b) y d k k′ (inr q) e f = inr (omega (arith, q, e b))
+
+-- a look at what stands at a place before the stop
+pub look-alike : {n : ℕ} {s t : List ℕ} → Alike n s t → (at : ℕ) (tag : List ℕ) (p : ℕ) → length tag ≤ 5 → at ≤ p → Or n (litAt s at tag) (litAt t at tag) p
+look-alike {n} {s} {t} a at tag p h g = go (leb (at + 5) n) refl
+  where
+    go : (b : Bool) → leb (at + 5) n ≡ b → Or n (litAt s at tag) (litAt t at tag) p
+    go true q = inl (lit-alike a at tag (omega (arith, leb-true (at + 5) n q)))
+    go false q = inr (omega (arith, leb-false (at + 5) n q))
+
+-- how long the part of a field is
+abbrev pub PartIn : ℕ → Field → Type 0
+PartIn w (Good i c) = i .part .end ≤ i .part .start + w
+PartIn w (Bad b) = Unit {0}
+
+pub part-in : (s : List ℕ) (at : ℕ) (tag : List ℕ) (k : Kind) (w : ℕ) → ((a : ℕ) → EndsIn a w (valueAt s a k)) → PartIn w (fieldAt s at tag k)
+unfolding fieldAt
+part-in s at tag k w f = by-next (PartIn w) (litAt s at tag) tt (λ a q.
+    by-read (PartIn w) (valueAt s a k) (λ x. tt) (λ v e r.
+    by-next (PartIn w) (litAt s e crlf) tt (λ n u. ends a v e (rw r at (f a)))))
+  where
+    ends : (a v e : ℕ) → EndsIn a w (Read v e) → e ≤ a + w
+    ends a v e i = i .1
