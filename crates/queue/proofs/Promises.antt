@@ -126,7 +126,7 @@ after-each-call cs quick o s f k = days.day 32 cs quick o [] s fresh f (fresh-tr
 
 -- ---- the row of tries: at most 528 for 32 batches, and the settled places are those of the tries that passed
 
-most-below : (n : ℕ) → n ≤ 32 → most n ≤ 528
+pub most-below : (n : ℕ) → n ≤ 32 → most n ≤ 528
 unfolding most
 most-below n h = most-le n 32 h
 

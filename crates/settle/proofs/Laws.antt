@@ -49,7 +49,7 @@ module _ (letters balance limit cents : ℕ) where
   with-other n e = sym (simp (not-member (bytes " A") (esa letters) e, not-member (bytes "P") (esa letters) n))
 
 -- a number above zero is a successor
-step-down : (n : ℕ) → 0 < n → n ≡ suc (n - 1)
+pub step-down : (n : ℕ) → 0 < n → n ≡ suc (n - 1)
 step-down n h = omega arith
 
 pub is-credit : (bank cents letters : ℕ) → letters ≡ 0 → payment bank cents letters ≡ credit bank cents
@@ -78,7 +78,7 @@ stops a (credit k c) ps e = cc
 stops a (debit l k c) ps e = rw (not-true (isCovered a (record { letters = l; bank = k; cents = c })) e)
 
 module _ (t : List ℕ) (at : ℕ) where
-  bank-at : bankOf (paymentAt t at) ≡ getD t at 0
+  pub bank-at : bankOf (paymentAt t at) ≡ getD t at 0
   unfolding paymentAt
   bank-at = bank-is (getD t at 0) (getD t (at + 1) 0) (getD t (at + 2) 0)
 
