@@ -195,8 +195,8 @@ pub fn walk(
     }
 }
 
-// Walks until one settles nothing.
-fn run(
+// The plain or the quick test: walks until one settles nothing.
+pub fn run(
     quick: bool,
     balances: &mut [u64],
     limits: &[u64],

@@ -19,20 +19,5 @@ fn main() {
     let length = io::read_full(0, &mut text);
     let mut numbers = [0u64; 8192];
     let count = line::read(&text[..length], &mut numbers);
-    let mut balances = [0u64; 64];
-    let mut limits = [0u64; 64];
-    let mut batches = [0u64; 11168];
-    let mut memory = [0u64; 32];
-    let mut queue = [0u64; 32];
-    let mut tries = [0u64; 528];
-    rows::run(
-        &numbers,
-        count,
-        &mut balances,
-        &mut limits,
-        &mut batches,
-        &mut memory,
-        &mut queue,
-        &mut tries,
-    );
+    rows::run(&numbers, count);
 }

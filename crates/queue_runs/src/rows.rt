@@ -118,30 +118,15 @@ fn status(batches: &mut [u64], place: usize, bank: u64, letter: u64) {
 // The plain or the quick test, where the rows keep the rules.
 fn test(
     quick: bool,
-    balances: &mut [u64],
-    limits: &[u64],
-    batches: &[u64],
-    memory: &mut [u64],
-    queue: &mut [u64],
+    balances: &mut [u64; 64],
+    limits: &[u64; 64],
+    batches: &[u64; 11168],
+    memory: &mut [u64; 32],
+    queue: &mut [u64; 32],
     waiting: usize,
-    tries: &mut [u64],
+    tries: &mut [u64; 528],
 ) -> queue::Reached {
     let none = queue::Reached { waiting, tried: 0 };
-    if balances.len() != Bank::MOST {
-        return none;
-    }
-    if limits.len() != Bank::MOST {
-        return none;
-    }
-    if memory.len() != Batch::LIVE {
-        return none;
-    }
-    if queue.len() != Batch::LIVE {
-        return none;
-    }
-    if tries.len() != Batch::TRIES {
-        return none;
-    }
     if Batch::LIVE < waiting {
         return none;
     }
@@ -151,22 +136,29 @@ fn test(
     if !rules::all_good(batches, queue, waiting) {
         return none;
     }
-    if quick {
-        queue::quick_test(balances, limits, batches, memory, queue, waiting, tries, 0)
-    } else {
-        queue::plain_test(balances, limits, batches, memory, queue, waiting, tries, 0)
-    }
+    queue::run(
+        quick,
+        balances,
+        limits,
+        batches,
+        memory,
+        queue,
+        waiting,
+        tries,
+        0,
+    )
 }
 
+// A test, and what it leaves in four lines.
 fn tell(
     quick: bool,
-    balances: &mut [u64],
-    limits: &[u64],
-    batches: &[u64],
-    memory: &mut [u64],
-    queue: &mut [u64],
-    tries: &mut [u64],
     standing: Standing,
+    balances: &mut [u64; 64],
+    limits: &[u64; 64],
+    batches: &[u64; 11168],
+    memory: &mut [u64; 32],
+    queue: &mut [u64; 32],
+    tries: &mut [u64; 528],
 ) -> Standing {
     let waiting = standing.waiting;
     let reached = test(
@@ -216,26 +208,46 @@ fn line_at(numbers: &[u64], i: usize) -> Line {
     }
 }
 
+// A line that changes batches and queue.
+fn change(
+    line: Line,
+    standing: Standing,
+    batches: &mut [u64; 11168],
+    memory: &mut [u64; 32],
+    queue: &mut [u64; 32],
+) -> Standing {
+    let op = line.op;
+    match op {
+        4 => join(batches, memory, queue, standing, index(line.a)),
+        5 => {
+            pay(batches, standing.last, line.a, line.b, line.c);
+            standing
+        }
+        6 => {
+            status(batches, index(line.a), line.b, line.c);
+            queue::wake_batch(memory, index(line.a));
+            standing
+        }
+        _ => standing,
+    }
+}
+
 // Does what a line says.
 fn step(
     line: Line,
     standing: Standing,
-    balances: &mut [u64],
-    limits: &mut [u64],
-    batches: &mut [u64],
-    memory: &mut [u64],
-    queue: &mut [u64],
-    tries: &mut [u64],
+    balances: &mut [u64; 64],
+    limits: &mut [u64; 64],
+    batches: &mut [u64; 11168],
+    memory: &mut [u64; 32],
+    queue: &mut [u64; 32],
+    tries: &mut [u64; 528],
 ) -> Standing {
     let op = line.op;
-    let a = line.a;
-    let b = line.b;
-    let c = line.c;
     match op {
         1 => {
             zero(balances);
             zero(limits);
-            zero(batches);
             zero(memory);
             Standing {
                 waiting: 0,
@@ -243,59 +255,46 @@ fn step(
             }
         }
         2 => {
-            put(balances, index(a), b);
+            put(balances, index(line.a), line.b);
             standing
         }
         3 => {
-            put(limits, index(a), b);
-            queue::wake_bank(memory, a);
-            standing
-        }
-        4 => join(batches, memory, queue, standing, index(a)),
-        5 => {
-            pay(batches, standing.last, a, b, c);
-            standing
-        }
-        6 => {
-            status(batches, index(a), b, c);
-            queue::wake_batch(memory, index(a));
+            put(limits, index(line.a), line.b);
+            queue::wake_bank(memory, line.a);
             standing
         }
         7 => tell(
             false,
+            standing,
             balances,
             limits,
             batches,
             memory,
             queue,
             tries,
-            standing,
         ),
         8 => tell(
             true,
+            standing,
             balances,
             limits,
             batches,
             memory,
             queue,
             tries,
-            standing,
         ),
-        _ => standing,
+        _ => change(line, standing, batches, memory, queue),
     }
 }
 
 // The whole script.
-pub fn run(
-    numbers: &[u64],
-    count: usize,
-    balances: &mut [u64],
-    limits: &mut [u64],
-    batches: &mut [u64],
-    memory: &mut [u64],
-    queue: &mut [u64],
-    tries: &mut [u64],
-) {
+pub fn run(numbers: &[u64], count: usize) {
+    let mut balances = [0u64; 64];
+    let mut limits = [0u64; 64];
+    let mut batches = [0u64; 11168];
+    let mut memory = [0u64; 32];
+    let mut queue = [0u64; 32];
+    let mut tries = [0u64; 528];
     let mut standing = Standing {
         waiting: 0,
         last: 0,
@@ -307,12 +306,12 @@ pub fn run(
         standing = step(
             line,
             standing,
-            balances,
-            limits,
-            batches,
-            memory,
-            queue,
-            tries,
+            &mut balances,
+            &mut limits,
+            &mut batches,
+            &mut memory,
+            &mut queue,
+            &mut tries,
         );
         i += 1;
     }

@@ -1,18 +1,13 @@
 use borrow.Author.Needs.{needs}
-use mathlib.Core.Path.{_≡_}
-use Prim.Native.Nat.{_+_, _-_, _*_, _≤_}
-use lib.ListN.{length}
+use Prim.Native.Nat.{_-_, _≤_}
 use Rattle.queue_runs.proofs.rows.run.Statement.{statement}
 use Rattle.queue_runs.proofs.rows.run.Tie as tie
 
 abbrev Inv-loop : tie.InvT-loop
-Inv-loop numbers count balances₀ limits₀ batches₀ memory₀ queue₀ tries₀ standing₀ lines i₀ balances limits batches memory queue tries standing i =
-    (i ≤ lines) × (length balances ≡ length balances₀) × (length limits ≡ length limits₀) × (length batches ≡ length batches₀)
-    × (length memory ≡ length memory₀) × (length queue ≡ length queue₀) × (length tries ≡ length tries₀)
+Inv-loop numbers count balances₀ limits₀ batches₀ memory₀ queue₀ tries₀ standing₀ lines i₀ balances limits batches memory queue tries standing i = i ≤ lines
 
 abbrev μ-loop : tie.MeasureT-loop
-μ-loop numbers count balances₀ limits₀ batches₀ memory₀ queue₀ tries₀ standing₀ lines i₀ balances limits batches memory queue tries standing i =
-    lines - i
+μ-loop numbers count balances₀ limits₀ batches₀ memory₀ queue₀ tries₀ standing₀ lines i₀ balances limits batches memory queue tries standing i = lines - i
 
 loop-holds : tie.Need-loop-holds Inv-loop μ-loop
 loop-holds c = search needs
@@ -32,24 +27,6 @@ loop-less c = search needs
 loop-again : tie.Need-loop-again Inv-loop μ-loop
 loop-again c = search needs
 
-same-length : tie.Need-same-length Inv-loop μ-loop
-same-length c = search needs
-
-same-length-2 : tie.Need-same-length-2 Inv-loop μ-loop
-same-length-2 c = search needs
-
-same-length-3 : tie.Need-same-length-3 Inv-loop μ-loop
-same-length-3 c = search needs
-
-same-length-4 : tie.Need-same-length-4 Inv-loop μ-loop
-same-length-4 c = search needs
-
-same-length-5 : tie.Need-same-length-5 Inv-loop μ-loop
-same-length-5 c = search needs
-
-same-length-6 : tie.Need-same-length-6 Inv-loop μ-loop
-same-length-6 c = search needs
-
 returns : tie.Need-returns Inv-loop μ-loop
 returns c = search needs
 
@@ -65,10 +42,4 @@ run-spec =
     add-i
     loop-less
     loop-again
-    same-length
-    same-length-2
-    same-length-3
-    same-length-4
-    same-length-5
-    same-length-6
     returns)
