@@ -1,7 +1,7 @@
 -- Laws of the tests of the rules: what a turn of each loop adds.
-use mathlib.Core.Path.{_≡_, refl, sym, ap, subst, _∙_}
-use mathlib.Core.Bool.{Bool, true, false, false≢true}
-use mathlib.Core.List.{List, [], _∷_}
+use mathlib.Core.Path.{_≡_, refl, sym, ap, _∙_}
+use mathlib.Core.Bool.{true, false, false≢true}
+use mathlib.Core.List.{List, _∷_}
 use Prim.Native.Nat.{ℕ, zero, suc, _+_, _-_, _*_, _≤_, _<_}
 use native.Mathlib.Omega.{arith}
 use native.Mathlib.Numerals.{add-one}
@@ -9,9 +9,9 @@ use mir.Syntax.{w64}
 use mir.Val.{Fits}
 use lib.Dec.{eqb}
 use borrow.Author.Tests.{eqb-true}
-use lib.ListN.{length, getD, take, drop}
+use lib.ListN.{length, getD, drop}
 use lib.Seq.{drop-cons, drop-length, slice, slice-cons, slice-empty}
-use Rattle.settle.specs.Payments.{Payment, credit, debit, payment, paymentAt, paymentsFrom, bankOf, centsOf}
+use Rattle.settle.specs.Payments.{Payment, credit, debit, payment, paymentAt, paymentsFrom, centsOf}
 use Rattle.settle.specs.Rules.{sum, credits, debits, Apart, Distinct, Ranged, Good}
 use Rattle.settle.proofs.Laws.{next, bank-at, is-credit, is-debit}
 use Rattle.queue.specs.Rows.{AllGood, most}

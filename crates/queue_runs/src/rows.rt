@@ -49,7 +49,7 @@ fn join(
     let waiting = standing.waiting;
     if place < Batch::LIVE {
         if waiting < Batch::LIVE {
-            put(batches, place * Batch::WIDTH + Batch::PAID, 0);
+            put(batches, place * Batch::WIDTH + Batch::PAYMENTS_THERE, 0);
             queue::wake_batch(memory, place);
             put(queue, waiting, place as u64);
             return Standing {
@@ -80,13 +80,13 @@ fn read(row: &[u64], i: usize) -> u64 {
 fn pay(batches: &mut [u64], place: usize, bank: u64, cents: u64, letter: u64) {
     if place < Batch::LIVE {
         let start = place * Batch::WIDTH;
-        let count = read(batches, start + Batch::PAID);
+        let count = read(batches, start + Batch::PAYMENTS_THERE);
         if count < 100 {
             let at = start + Batch::PAYMENT + Batch::PAYMENT_WIDTH * index(count);
             put(batches, at, bank);
             put(batches, at + 1, cents);
             put(batches, at + 2, letters(letter));
-            put(batches, start + Batch::PAID, count + 1);
+            put(batches, start + Batch::PAYMENTS_THERE, count + 1);
         }
     }
 }

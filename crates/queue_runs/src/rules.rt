@@ -127,7 +127,7 @@ pub fn good(batches: &[u64], place: usize) -> bool
     if settle::Batch::LIVE <= place {
         return false;
     }
-    let count = batches[place * settle::Batch::WIDTH + settle::Batch::PAID];
+    let count = batches[place * settle::Batch::WIDTH + settle::Batch::PAYMENTS_THERE];
     if 100 < count {
         return false;
     }

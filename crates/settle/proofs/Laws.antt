@@ -2,19 +2,19 @@
 use mathlib.Core.Path.{_≡_, refl, sym, ap, _∙_}
 use mathlib.Core.Bool.{Bool, true, false, not}
 use mathlib.Core.Logic.{inl, inr}
-use mathlib.Core.List.{List, [], _∷_}
-use Prim.Native.Nat.{ℕ, zero, suc, _+_, _-_, _*_, _^_, _/_, _≤_, _<_}
+use mathlib.Core.List.{List, _∷_}
+use Prim.Native.Nat.{ℕ, zero, suc, _+_, _-_, _*_, _^_, _≤_, _<_}
 use native.Mathlib.Omega.{arith}
-use lib.Dec.{leb, eqb}
+use lib.Dec.{leb}
 use lib.ListN.{length, getD, set, length-set}
 use mir.Syntax.{w64}
 use mir.Val as val
 use types.Run.{OneOf}
 use borrow.Author.Tests.{leb-true, leb-false, le-leb, lt-leb, not-true, not-false}
-use Rattle.chars.specs.Words.{bytes, member}
+use Rattle.chars.specs.Words.{bytes}
 use Rattle.chars.proofs.Laws.{not-member}
 use Rattle.settle.specs.Cover.{esa, covered}
-use Rattle.settle.specs.Payments.{Payment, credit, debit, payment, paymentAt, paymentsFrom, bankOf, Need, needsOf}
+use Rattle.settle.specs.Payments.{Payment, credit, debit, payment, paymentAt, paymentsFrom, bankOf, needsOf}
 use Rattle.settle.specs.Settlement.{Accounts, accounts, isCovered, uncovered, firstUncovered, paid, settled}
 use Rattle.settle.specs.Rules.{Ranged, Fits, Payable, AllPayable}
 use Rattle.settle.specs.declared.Verdict.{Verdict}

@@ -1,7 +1,7 @@
 use borrow.Author.Needs.{needs}
-use Prim.Native.Nat.{_+_, _-_, _*_, _≤_}
+use Prim.Native.Nat.{_-_, _≤_}
 use mathlib.Core.Path.{_≡_}
-use lib.ListN.{length, length-set}
+use lib.ListN.{length}
 use Rattle.queue_runs.proofs.line.read.Statement.{statement}
 use Rattle.queue_runs.proofs.line.read.Tie as tie
 

@@ -1,7 +1,5 @@
 use borrow.Author.Needs.{needs}
-use Prim.Native.Nat.{_+_, _-_, _*_, _≤_}
-use mathlib.Core.Path.{_≡_}
-use lib.ListN.{length, length-set}
+use Prim.Native.Nat.{_-_, _≤_}
 use Rattle.queue_runs.proofs.line.write.Statement.{statement}
 use Rattle.queue_runs.proofs.line.write.Tie as tie
 
