@@ -1,23 +1,21 @@
 -- The two tests agree where the memory is true: a batch held at a bank has an uncovered debit of it.
 use mathlib.Core.Path.{_≡_, refl, sym, ap, _∙_}
-use mathlib.Core.Bool.{Bool, true, false, _&&_, _||_, cond, false≢true}
+use mathlib.Core.Bool.{Bool, true, false, _||_, cond, false≢true}
 use mathlib.Core.List.{List, [], _∷_, _++_, map}
-use Prim.Native.Nat.{ℕ, zero, suc, _+_, _-_, _*_, _≤_, _<_}
+use Prim.Native.Nat.{ℕ, zero, suc, _+_, _-_, _≤_}
 use native.Mathlib.Omega.{arith}
 use lib.Dec.{leb, eqb, ltb}
-use lib.ListN.{length, getD, set}
+use lib.ListN.{getD, set}
 use lib.Seq.{getD-set-other}
 use borrow.Author.Tests.{leb-false, lt-leb, eqb-true, eqb-false}
 use Rattle.chars.specs.Words.{bytes, member}
 use Rattle.settle.specs.Cover.{esa, covered}
 use Rattle.settle.specs.Payments.{Payment, credit, debit, Need, needsOf}
-use Rattle.settle.specs.Settlement.{Accounts, accounts, isCovered, firstUncovered, verdict, paid, settled}
-use Rattle.settle.specs.declared.Verdict.{Verdict}
+use Rattle.settle.specs.Settlement.{Accounts, isCovered, firstUncovered, verdict, paid, settled}
 use Rattle.settle.specs.declared.Verdict.the-variants.{Passes, Stops}
 use Rattle.queue.specs.Memory.{creditedBy, credited, wake}
-use Rattle.queue.specs.Tests.{Turn, turned, Outcome, Seen, seen, noted, joined, some, omits, remember, turn, settle, walk, test}
+use Rattle.queue.specs.Tests.{Outcome, Seen, seen, some, omits, remember, turn, settle, walk, test}
 use Rattle.queue.specs.Promise.{Uncovered, here, there, Held, True, with, limited}
-use Rattle.queue.specs.declared.Step.the-variants.{Omitted, Failed, Passed}
 use Rattle.queue.proofs.MemoryLaws.{byBool, wake-yes, wake-no}
 use Rattle.queue.proofs.Steps.{byVerdict, byTurn, walk-turn, test-stop, test-more}
 

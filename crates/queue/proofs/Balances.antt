@@ -1,18 +1,17 @@
 -- Each balance is the opening balance and credits less debits of the batches settled; the total is kept, and no balance leaves its range.
 use mathlib.Core.Path.{_≡_, refl, sym, ap, _∙_}
-use mathlib.Core.Bool.{Bool, true, false, cond}
-use mathlib.Core.List.{List, [], _∷_, _++_, map}
-use Prim.Native.Nat.{ℕ, zero, suc, _+_, _-_, _*_, _≤_, _<_}
+use mathlib.Core.Bool.{cond}
+use mathlib.Core.List.{List, [], _∷_, map}
+use Prim.Native.Nat.{ℕ, _+_, _-_, _≤_, _<_}
 use native.Mathlib.Omega.{arith}
 use lib.Dec.{eqb}
 use lib.ListN.{length, getD, set, length-set}
 use lib.Seq.{getD-set-other, getD-set-same}
 use borrow.Author.Tests.{eqb-true, eqb-false}
-use Rattle.settle.specs.Payments.{Payment, credit, debit, bankOf, Need, needsOf}
-use Rattle.settle.specs.Settlement.{Accounts, accounts, isCovered, verdict, paid, settled}
-use Rattle.settle.specs.Rules.{sum, Apart, Distinct, Books, AllPayable}
+use Rattle.settle.specs.Payments.{Payment, credit, debit, needsOf}
+use Rattle.settle.specs.Settlement.{Accounts, paid, settled}
+use Rattle.settle.specs.Rules.{sum, Apart, Distinct, Books}
 use Rattle.settle.proofs.Money.{covered-money, can-settle, total-kept, settled-length}
-use Rattle.queue.specs.Tests.{settle}
 use Rattle.queue.specs.Promise.{AllCovered, Trail, halt, pass, All, Fair, brought, taken, broughtBy, takenBy}
 use Rattle.queue.proofs.MemoryLaws.{byBool}
 use Rattle.queue.proofs.Trail.{covered-passes}

@@ -1,21 +1,20 @@
 -- What holds over any sequence of calls.
 use mathlib.Core.Path.{_≡_, refl, sym, ap, subst, _∙_}
-use mathlib.Core.Logic.{_≢_}
-use mathlib.Core.Bool.{Bool, true, false, cond}
-use mathlib.Core.List.{List, [], _∷_, _++_, map, append-assoc}
-use Prim.Native.Nat.{ℕ, zero, suc, _+_, _-_, _*_, _≤_, _<_}
+use mathlib.Core.Bool.{Bool}
+use mathlib.Core.List.{List, [], _∷_, _++_, map}
+use Prim.Native.Nat.{ℕ, suc, _+_, _-_, _<_}
 use native.Mathlib.Omega.{arith}
 use lib.Dec.{eqb}
 use lib.ListN.{length, getD, set, length-set}
-use borrow.Author.Tests.{eqb-true, eqb-false, ne-eqb}
-use Rattle.settle.specs.Payments.{Payment, credit, debit, bankOf}
+use borrow.Author.Tests.{ne-eqb}
+use Rattle.settle.specs.Payments.{Payment, credit, debit}
 use Rattle.settle.specs.Settlement.{Accounts, verdict}
-use Rattle.settle.specs.Rules.{sum, credits, debits, Apart, Distinct, Ranged, Books}
+use Rattle.settle.specs.Rules.{credits, debits, Apart, Distinct, Ranged}
 use Rattle.settle.specs.declared.Verdict.the-variants.{Passes}
-use Rattle.queue.specs.Tests.{Outcome, Seen, seen, test, fuel}
+use Rattle.queue.specs.Tests.{Outcome, Seen, seen, fuel}
 use Rattle.queue.specs.Promise.{True, limited, with, Trail, All, Stuck, Off, Once, Fair, broughtBy, takenBy}
 use Rattle.queue.specs.History as history
-use Rattle.queue.specs.Day.{State, Act, limit, status, enter, end, tick, relettered, relabel, without, act, actMemory, actEvents, emptied, forgotten, endedEvents, tested, after, called, calledMemory, calledEvents, runs, Fine, AllFine, DayByRule, Kept, Told, Day}
+use Rattle.queue.specs.Day.{State, Act, limit, status, enter, end, tick, relabel, without, act, actMemory, actEvents, emptied, forgotten, endedEvents, tested, after, called, calledMemory, calledEvents, runs, Fine, AllFine, DayByRule, Kept, Told, Day}
 use Rattle.queue.proofs.MemoryLaws.{byBool}
 use Rattle.queue.proofs.Agree.{true-limit, true-put, true-test, tests-agree, Trusted}
 use Rattle.queue.proofs.Trail.{All-zip, All-append, test-trail, test-stuck, test-each, test-parted}
@@ -87,7 +86,7 @@ called-replays quick c s m =
 
 -- ---- what is kept by an action
 
-fair-none : Fair []
+pub fair-none : Fair []
 unfolding Ranged Distinct credits debits
 fair-none = record { ranged = tt; distinct = tt; even = refl }
 

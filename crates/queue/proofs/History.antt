@@ -1,22 +1,22 @@
 -- The memory is the history: a batch is omitted exactly by document 01's rule, said of the events since its last try.
 use mathlib.Core.Path.{_≡_, refl, sym, ap, _∙_}
-use mathlib.Core.Bool.{Bool, true, false, _&&_, cond, false≢true}
+use mathlib.Core.Bool.{Bool, true, false, false≢true}
 use mathlib.Core.List.{List, [], _∷_, _++_, map}
-use Prim.Native.Nat.{ℕ, zero, suc, _+_, _≤_, _<_}
+use Prim.Native.Nat.{ℕ, zero, suc, _+_, _<_}
 use native.Mathlib.Omega.{arith}
 use lib.Dec.{eqb, ltb}
 use lib.ListN.{length, getD, set, length-set, length-map, List·getD-map}
 use lib.Seq.{getD-set-other, getD-set-same}
 use borrow.Author.Tests.{eqb-true, eqb-false, ne-eqb, lt-ltb}
 use Rattle.settle.specs.Payments.{Payment}
-use Rattle.settle.specs.Settlement.{Accounts, verdict}
+use Rattle.settle.specs.Settlement.{Accounts}
 use Rattle.queue.specs.Memory.{credited, wake}
-use Rattle.queue.specs.Tests.{Turn, Outcome, some, omits, remember, turn, settle, walk, test}
+use Rattle.queue.specs.Tests.{Turn, Outcome, some, omits, remember, turn, walk, test}
 use Rattle.queue.specs.Promise.{All}
-use Rattle.queue.specs.History.{Event, failed, settledBatch, limitChanged, changed, Spares, Omits, last, past, after, replay, happened, OmittedByRule, turnEvents, walkEvents, testEvents, WalkByRule, TestByRule}
+use Rattle.queue.specs.History.{Event, failed, settledBatch, limitChanged, changed, Omits, last, past, after, replay, happened, OmittedByRule, turnEvents, walkEvents, testEvents, WalkByRule, TestByRule}
 use Rattle.queue.specs.declared.Step.the-variants.{Omitted, Failed, Passed}
 use Rattle.queue.proofs.MemoryLaws.{byBool, wake-yes, wake-no}
-use Rattle.queue.proofs.Steps.{byTurn, walk-turn, test-stop, test-more}
+use Rattle.queue.proofs.Steps.{byTurn, test-stop, test-more}
 use Rattle.queue.proofs.Agree.{forgets}
 use Rattle.queue.proofs.Trail.{walk-each}
 

@@ -1,15 +1,15 @@
 -- Laws of the memory, in the terms of the code.
 use mathlib.Core.Path.{_≡_, refl, sym, ap, _∙_}
-use mathlib.Core.Bool.{Bool, true, false, _||_, cond}
+use mathlib.Core.Bool.{Bool, true, false}
 use mathlib.Core.List.{List, [], _∷_, _++_, map, append-assoc, append-nil}
-use Prim.Native.Nat.{ℕ, zero, suc, _+_, _-_, _*_, _≤_, _<_}
+use Prim.Native.Nat.{ℕ, zero, suc, _+_, _-_, _≤_, _<_}
 use native.Mathlib.Omega.{arith}
 use native.Mathlib.Numerals.{add-one}
 use lib.Dec.{eqb}
 use lib.ListN.{length, getD, set, take, drop}
 use lib.Seq.{take-suc-set, drop-set-lt, drop-cons, take-length, drop-length}
 use borrow.Author.Tests.{eq-eqb, ne-eqb}
-use Rattle.settle.specs.Payments.{Payment, credit, debit, payment, paymentAt, paymentsFrom}
+use Rattle.settle.specs.Payments.{Payment, paymentAt, paymentsFrom}
 use Rattle.settle.proofs.Laws.{is-credit, is-debit, next}
 use Rattle.queue.specs.Memory.{creditedBy, credited, wake}
 

@@ -1,29 +1,29 @@
 -- What is promised of the queue: theorems 1 to 5, and the marked examples 12 and 13.
 -- The code's two tests leave what `plainTest` and `quickTest` leave (their contracts), so each theorem here is one of the code.
-use mathlib.Core.Path.{_≡_, refl, sym, ap, subst, _∙_}
+use mathlib.Core.Path.{_≡_, refl}
 use mathlib.Core.Logic.{_↔_}
 use mathlib.Core.Bool.{Bool, true, false, false≢true}
-use mathlib.Core.List.{List, [], _∷_, _++_, map}
-use Prim.Native.Nat.{ℕ, zero, suc, _+_, _-_, _*_, _≤_, _<_}
+use mathlib.Core.List.{List, [], _∷_, map}
+use Prim.Native.Nat.{ℕ, zero, suc, _+_, _-_, _≤_, _<_}
 use native.Mathlib.Omega.{arith}
 use lib.ListN.{length, getD, replicate}
 use Rattle.chars.specs.Words.{bytes}
 use Rattle.settle.specs.Cover.{covered}
 use Rattle.settle.specs.Payments.{Payment, credit, debit, paymentsOf, needsOf}
 use Rattle.settle.specs.Settlement.{Accounts, accounts, firstUncovered, verdict, paid, settled}
-use Rattle.settle.specs.Rules.{sum, Books, Good}
+use Rattle.settle.specs.Rules.{sum, Books}
 use Rattle.settle.specs.declared.Verdict.the-variants.{Passes}
 use Rattle.settle.proofs.Money.{at-most-sum}
 use Rattle.settle.proofs.Examples.{lettered}
 use Rattle.queue.specs.Memory.{wake, credited, creditedBy}
-use Rattle.queue.specs.Tests.{Outcome, Seen, seen, passedOf, some, again, omits, remember, tried, turn, walk, test, fuel, plainTest, quickTest}
+use Rattle.queue.specs.Tests.{seen, passedOf, some, again, omits, remember, tried, turn, walk, test, fuel, plainTest, quickTest}
 use Rattle.queue.specs.Rows.{AllGood, most}
-use Rattle.queue.specs.Promise.{True, AllCovered, Trail, All, Stuck, Once, Fair, brought, taken, broughtBy, takenBy}
+use Rattle.queue.specs.Promise.{True, AllCovered, Trail, All, Stuck, Fair, broughtBy, takenBy}
 use Rattle.queue.specs.History.{Event, replay, TestByRule}
 use Rattle.queue.specs.Day.{State, Act, act, actMemory, called, calledMemory, runs, AllFine, DayByRule, Kept, Day}
 use Rattle.queue.proofs.RunLaws.{most-le}
 use Rattle.queue.proofs.Agree.{true-test, tests-agree}
-use Rattle.queue.proofs.Trail.{passes-covered, covered-passes, test-trail, test-stuck, test-tries, test-passed, test-each}
+use Rattle.queue.proofs.Trail.{passes-covered, covered-passes, test-trail, test-stuck, test-tries, test-passed, test-each, quick-tries-no-more}
 use Rattle.queue.proofs.Balances.{trail-sum, trail-total, trail-books}
 use Rattle.queue.proofs.History.{test-by-rule}
 use Rattle.queue.proofs.Day as days
@@ -121,12 +121,33 @@ rows-fair t (p ∷ q) g = (record { ranged = g .0 .ranged; distinct = g .0 .dist
 
 -- ---- all of it after each call of a day: the batches settled since the opening, on balances `o`, are told with it
 
+-- the opening: no batch yet, balances `b` and sub-limits `l` in range
+abbrev pub opened : List ℕ → List ℕ → State
+opened b l = record { batch = λ p. []; books = accounts b l; queue = [] }
+
+pub opening-keeps-the-rules : (b l : List ℕ) → Books b l → Kept 32 b [] (opened b l)
+unfolding broughtBy takenBy
+opening-keeps-the-rules b l h = record {
+  fair = λ p. days.fair-none;
+  once = tt;
+  placed = tt;
+  books = h;
+  size = refl;
+  money = λ k i. refl;
+  total = refl;
+}
+
 pub after-each-call : (cs : List Act) (quick : ℕ → Bool) (o : List ℕ) (s : State) → AllFine 32 quick cs s fresh → Kept 32 o [] s → Day 32 quick cs o [] s fresh
 after-each-call cs quick o s f k = days.day 32 cs quick o [] s fresh f (fresh-true (s .batch) (s .books)) k
 
+-- ---- the quick test tries no more than the plain one
+
+pub quick-does-no-more : (batch : ℕ → List Payment) (a : Accounts) (m q : List ℕ) → True batch a m → length (quickTest batch a m q .tries) ≤ length (plainTest batch a m q .tries)
+quick-does-no-more batch a m q h = quick-tries-no-more batch (fuel q) a m m q h
+
 -- ---- the row of tries: at most 528 for 32 batches, and the settled places are those of the tries that passed
 
-most-below : (n : ℕ) → n ≤ 32 → most n ≤ 528
+pub most-below : (n : ℕ) → n ≤ 32 → most n ≤ 528
 unfolding most
 most-below n h = most-le n 32 h
 

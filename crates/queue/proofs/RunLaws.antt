@@ -1,16 +1,16 @@
 -- The loop of a test: its invariant, and that a walk keeps it.
 use mathlib.Core.Path.{_≡_, refl, sym, ap, subst, _∙_}
-use mathlib.Core.Bool.{Bool, true, false}
+use mathlib.Core.Bool.{Bool}
 use mathlib.Core.List.{List, [], _∷_, _++_}
-use Prim.Native.Nat.{ℕ, zero, suc, _+_, _-_, _*_, _≤_, _<_}
+use Prim.Native.Nat.{ℕ, zero, suc, _+_, _-_, _≤_, _<_}
 use native.Mathlib.Omega.{arith}
 use native.Mathlib.Nat.{le-of-suc-le-suc}
-use lib.ListN.{length, getD, set, take, drop, length-append}
+use lib.ListN.{length, set, take, drop, length-append}
 use lib.Seq.{sets, sets-eq, length-sets, length-take-le, take-append-seam, drop-set-lt}
-use Rattle.settle.specs.Payments.{Payment, paymentsOf}
+use Rattle.settle.specs.Payments.{paymentsOf}
 use Rattle.settle.specs.Settlement.{Accounts, accounts}
 use Rattle.settle.specs.Rules.{Books, Good}
-use Rattle.queue.specs.Tests.{Turn, Outcome, stays, some, joined, turn, walk, test, fuel}
+use Rattle.queue.specs.Tests.{Turn, Outcome, stays, joined, turn, walk, test, fuel}
 use Rattle.queue.specs.Rows.{AllGood, most, Walked, Tested}
 use Rattle.queue.specs.declared.Step.{Step}
 use Rattle.queue.specs.declared.Step.the-variants.{Omitted, Failed, Passed}

@@ -1,17 +1,16 @@
 -- The turn of a batch, a walk and a test, step by step: an equation for each case.
-use mathlib.Core.Path.{_≡_, refl, sym, ap, _∙_}
-use mathlib.Core.Bool.{Bool, true, false, cond}
-use mathlib.Core.List.{List, [], _∷_, _++_, map}
-use Prim.Native.Nat.{ℕ, zero, suc, _+_, _≤_, _<_}
+use mathlib.Core.Path.{_≡_, refl, ap, _∙_}
+use mathlib.Core.Bool.{Bool, true, false}
+use mathlib.Core.List.{List, [], _∷_, map}
+use Prim.Native.Nat.{ℕ, suc, _+_, _≤_, _<_}
 use native.Mathlib.Omega.{arith}
-use lib.ListN.{length, getD, set, length-map, length-set, length-append}
+use lib.ListN.{length, length-map, length-set, length-append}
 use Rattle.settle.specs.Payments.{Payment}
 use Rattle.settle.specs.Settlement.{Accounts, verdict}
 use Rattle.settle.specs.declared.Verdict.{Verdict}
 use Rattle.settle.specs.declared.Verdict.the-variants.{Passes, Stops}
 use Rattle.queue.specs.Memory.{credited, wake}
 use Rattle.queue.specs.Tests.{Turn, turned, Outcome, stays, leaves, tryOf, noted, joined, some, again, omits, remember, tried, turn, settle, walk, test}
-use Rattle.queue.specs.Rows.{most}
 use Rattle.queue.specs.declared.Step.{Step}
 use Rattle.queue.specs.declared.Step.the-variants.{Omitted, Failed, Passed}
 use Rattle.queue.proofs.MemoryLaws.{byBool}
@@ -60,10 +59,6 @@ module _ (quick : Bool) (batch : ℕ → List Payment) where
         → walk quick batch a m (p ∷ q) ≡ noted s p (walk quick batch a′ m′ q)
     unfolding walk
     walk-turn q t = rw t
-
-    pub walk-next : (q : List ℕ) → walk quick batch a m (p ∷ q) ≡ noted (turn quick batch a m p .step) p (walk quick batch (turn quick batch a m p .books) (turn quick batch a m p .memory) q)
-    unfolding walk
-    walk-next q = refl
 
   both : (s : Step) (p : ℕ) → length (stays s p) + length (leaves s p) ≡ 1
   both Omitted p = refl

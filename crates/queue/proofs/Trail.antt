@@ -1,25 +1,25 @@
 -- What a walk and a test settle, what they leave, and how often they try.
 use mathlib.Core.Path.{_≡_, refl, sym, ap, subst, _∙_}
-use mathlib.Core.Bool.{Bool, true, false, cond}
-use mathlib.Core.List.{List, [], _∷_, _++_, map}
+use mathlib.Core.Bool.{Bool, true, false, false≢true}
+use mathlib.Core.List.{List, [], _∷_, _++_}
 use Prim.Native.Nat.{ℕ, zero, suc, _+_, _-_, _*_, _/_, _%_, _≤_, _<_}
 use native.Mathlib.Omega.{arith}
 use lib.Dec.{eqb}
 use lib.ListN.{length, length-append}
 use borrow.Author.Tests.{eq-eqb, ne-eqb}
 use Rattle.settle.specs.Payments.{Payment, Need, needsOf}
-use Rattle.settle.specs.Settlement.{Accounts, isCovered, firstUncovered, verdict}
-use Rattle.settle.specs.declared.Verdict.the-variants.{Passes, Stops}
+use Rattle.settle.specs.Settlement.{Accounts, firstUncovered}
+use Rattle.settle.specs.declared.Verdict.the-variants.{Passes}
 use Rattle.settle.proofs.Money.{passes-cons}
-use Rattle.queue.specs.Tests.{Turn, turned, Outcome, stays, leaves, tryOf, noted, joined, passedOf, some, omits, turn, settle, walk, test}
+use Rattle.queue.specs.Tests.{Turn, Outcome, Seen, seen, leaves, tryOf, passedOf, some, omits, turn, settle, walk, test}
 use Rattle.queue.specs.Rows.{most}
-use Rattle.queue.specs.Promise.{AllCovered, Trail, halt, pass, All, Stuck, Off, Apart, Once}
+use Rattle.queue.specs.Promise.{True, AllCovered, Trail, halt, pass, All, Stuck, Off, Apart, Once}
 use Rattle.queue.specs.declared.Step.{Step}
 use Rattle.queue.specs.declared.Step.the-variants.{Omitted, Failed, Passed}
 use Rattle.queue.proofs.MemoryLaws.{byBool}
 use Rattle.queue.proofs.Steps.{byTurn, walk-turn, walk-tries, test-stop, test-more, some-not, shorter}
 use Rattle.queue.proofs.RunLaws.{most-step, most-self}
-use Rattle.queue.proofs.Agree.{first-yes, passes≢stops, Trusted, omitted-waits, trusted-turn, trusted-walk}
+use Rattle.queue.proofs.Agree.{first-yes, passes≢stops, Trusted, omitted-waits, trusted-turn, trusted-walk, true-walk, walks-agree}
 
 -- "A batch passes exactly when each debit is covered by its own bank."
 pub passes-covered : (a : Accounts) (ns : List Need) → firstUncovered a ns ≡ Passes → AllCovered a ns
@@ -199,3 +199,39 @@ module _ (quick : Bool) (batch : ℕ → List Payment) where
       let l = test-each (λ x. Off x (r .done)) f (r .books) (r .memory) (r .queue) (i .apart) .left in
       record { once = j .once; apart = All-zip (λ x. Off x (r .done)) (λ x. Off x (s .done)) (λ x. Off x (r .done ++ s .done)) (s .queue) (λ x g h. All-append (λ y. y ≡ x → ⊥) (r .done) (s .done) g h) l (j .apart) }))
       (λ e. rw (test-stop quick batch f a m q e) i)
+
+-- the plain test tries every batch of a walk, so the quick test tries no more
+module _ (batch : ℕ → List Payment) where
+  plain-omits-none : (m : List ℕ) (p : ℕ) → omits false m p ≡ true → ⊥
+  unfolding omits
+  plain-omits-none m p e = false≢true e
+
+  plain-tries : (a : Accounts) (m q : List ℕ) → length (walk false batch a m q .tries) ≡ length q
+  unfolding walk
+  plain-tries a m [] = refl
+  plain-tries a m (p ∷ q) =
+      byTurn false batch a m p
+      (λ e t. absurd (plain-omits-none m p e))
+      (λ e v t. rw t (ap suc (plain-tries (settle a (batch p)) _ q)))
+      (λ e k v t. rw t (ap suc (plain-tries a _ q)))
+
+  pub quick-tries-no-more : (f : ℕ) (a : Accounts) (m n q : List ℕ) → True batch a m → length (test true batch f a m q .tries) ≤ length (test false batch f a n q .tries)
+  unfolding test
+  quick-tries-no-more zero a m n q h = omega arith
+  quick-tries-no-more (suc f) a m n q h =
+      let r : Outcome = walk true batch a m q in
+      let s : Outcome = walk false batch a n q in
+      let i : seen r ≡ seen s = walks-agree batch true false a m n q (λ e. h) (λ e. absurd (false≢true e)) in
+      byBool (some (r .done))
+      (λ e.
+      let e′ : some (s .done) ≡ true = ap (λ (z : Seen). some (z .done)) (sym i) ∙ e in
+      let x : Outcome = test true batch f (r .books) (r .memory) (r .queue) in
+      let y : Outcome = test false batch f (s .books) (s .memory) (s .queue) in
+      let rest : length (x .tries) ≤ length (y .tries) =
+      subst (λ (z : Seen). length (x .tries) ≤ length (test false batch f (z .books) (s .memory) (z .queue) .tries)) i
+      (quick-tries-no-more f (r .books) (r .memory) (s .memory) (r .queue) (true-walk batch true a m q h)) in
+      rw (test-more true batch f a m q e, test-more false batch f a n q e′)
+      (omega (arith, rest, length-append (r .tries) (x .tries), length-append (s .tries) (y .tries), walk-tries true batch a m q, plain-tries a n q)))
+      (λ e.
+      let e′ : some (s .done) ≡ false = ap (λ (z : Seen). some (z .done)) (sym i) ∙ e in
+      rw (test-stop true batch f a m q e, test-stop false batch f a n q e′) (omega (arith, walk-tries true batch a m q, plain-tries a n q)))

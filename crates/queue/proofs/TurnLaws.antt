@@ -1,23 +1,22 @@
 -- Laws of the turn of one batch, in the terms of the code.
 use mathlib.Core.Path.{_≡_, refl, sym, ap, _∙_}
-use mathlib.Core.Bool.{Bool, true, false, _&&_, cond}
+use mathlib.Core.Bool.{Bool, true, false, cond}
 use mathlib.Core.List.{List, [], _∷_, map}
-use Prim.Native.Nat.{ℕ, zero, suc, _+_, _*_, _≤_, _<_}
+use Prim.Native.Nat.{ℕ, suc, _+_, _*_, _<_}
 use native.Mathlib.Omega.{arith}
 use native.Mathlib.Numerals.{add-one}
 use mir.Syntax.{w64}
 use mir.Val.{Fits}
 use lib.Dec.{ltb}
-use lib.ListN.{length, getD, set}
-use lib.Seq.{sets}
-use Rattle.settle.specs.Payments.{Payment, credit, debit, bankOf, paymentsOf, Need, needsOf}
+use lib.ListN.{getD, set}
+use Rattle.settle.specs.Payments.{Payment, credit, debit, paymentsOf, needsOf}
 use Rattle.settle.specs.Settlement.{Accounts, accounts, isCovered, firstUncovered, verdict, settled}
-use Rattle.settle.specs.Rules.{sum, Ranged, Books, Good, Ready}
+use Rattle.settle.specs.Rules.{Ranged, Books, Good, Ready}
 use Rattle.settle.specs.declared.Verdict.{Verdict}
 use Rattle.settle.specs.declared.Verdict.the-variants.{Passes, Stops}
 use Rattle.settle.proofs.Money.{can-settle, total-kept, settled-length}
 use Rattle.queue.specs.Memory.{credited, wake}
-use Rattle.queue.specs.Tests.{turned, stays, tryOf, omits, remember, turn}
+use Rattle.queue.specs.Tests.{turned, omits, remember, turn}
 use Rattle.queue.specs.Rows.{Noted}
 use Rattle.queue.specs.declared.Step.{Step}
 use Rattle.queue.specs.declared.Step.the-variants.{Omitted, Failed, Passed}

@@ -1,15 +1,15 @@
 -- The loop of a walk: its invariant, and that a turn keeps it.
 use mathlib.Core.Path.{_≡_, refl, sym, ap, subst, _∙_}
-use mathlib.Core.Bool.{Bool, true, false}
+use mathlib.Core.Bool.{Bool}
 use mathlib.Core.List.{List, [], _∷_, _++_}
-use Prim.Native.Nat.{ℕ, zero, suc, _+_, _-_, _*_, _≤_, _<_}
+use Prim.Native.Nat.{ℕ, suc, _+_, _-_, _≤_, _<_}
 use native.Mathlib.Omega.{arith}
 use native.Mathlib.Numerals.{add-one}
 use native.Mathlib.Nat.{add-zero}
-use lib.ListN.{length, getD, set, take, drop, length-set, length-append}
+use lib.ListN.{length, getD, set, take, drop, length-append}
 use lib.Seq.{sets, length-sets, slice, slice-cons, slice-empty, drop-set-lt, take-set-lt}
-use Rattle.settle.specs.Payments.{Payment, paymentsOf}
-use Rattle.settle.specs.Settlement.{Accounts, accounts}
+use Rattle.settle.specs.Payments.{paymentsOf}
+use Rattle.settle.specs.Settlement.{accounts}
 use Rattle.settle.specs.Rules.{Books, Good}
 use Rattle.queue.specs.Tests.{Turn, turned, Outcome, stays, tryOf, noted, turn, walk}
 use Rattle.queue.specs.Rows.{AllGood, Noted, Walked}

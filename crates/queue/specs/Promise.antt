@@ -1,16 +1,15 @@
 -- The words of the promises: a true memory, settled batches in turn, what a bank is brought and costs, and the calls of a day.
-use Prim.Native.Nat.{ℕ, zero, suc, _+_, _*_, _%_}
+use Prim.Native.Nat.{ℕ, zero, suc, _+_}
 use mathlib.Core.Path.{_≡_}
-use mathlib.Core.Bool.{Bool, true, false, cond}
-use mathlib.Core.List.{List, [], _∷_, _++_, map}
+use mathlib.Core.Bool.{true, false, cond}
+use mathlib.Core.List.{List, [], _∷_}
 use lib.Dec.{eqb}
-use lib.ListN.{length, getD, set}
+use lib.ListN.{getD, set}
 use Rattle.settle.specs.Payments.{Payment, credit, debit, Need, needsOf}
 use Rattle.settle.specs.Settlement.{Accounts, accounts, isCovered, verdict}
 use Rattle.settle.specs.Rules.{Ranged, Distinct, credits, debits}
 use Rattle.settle.specs.declared.Verdict.the-variants.{Passes}
-use Rattle.queue.specs.Memory.{credited, wake}
-use Rattle.queue.specs.Tests.{Outcome, Seen, seen, settle, test, fuel}
+use Rattle.queue.specs.Tests.{settle}
 
 -- a debit of bank k is uncovered
 pub data Uncovered (a : Accounts) : List Need → ℕ → Type 0 where

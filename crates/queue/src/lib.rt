@@ -59,7 +59,7 @@ pub fn wake_credited(memory: &mut [u64], batches: &[u64], place: usize)
     ensures { λ _. ⌜ now (memory .exit) ≡ map (wake (credited (paymentsOf (now (batches .entry)) place))) (now (memory .entry)) ⌝ }
 {
     let mut at = place * settle::Batch::WIDTH + settle::Batch::PAYMENT;
-    let mut left = batches[place * settle::Batch::WIDTH + settle::Batch::PAID];
+    let mut left = batches[place * settle::Batch::WIDTH + settle::Batch::PAYMENTS_THERE];
     while 0 < left {
         wake_paid(memory, batches, at);
         at += settle::Batch::PAYMENT_WIDTH;
@@ -195,8 +195,8 @@ pub fn walk(
     }
 }
 
-// Walks until one settles nothing.
-fn run(
+// The plain or the quick test: walks until one settles nothing.
+pub fn run(
     quick: bool,
     balances: &mut [u64],
     limits: &[u64],

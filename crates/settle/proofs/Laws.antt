@@ -2,19 +2,19 @@
 use mathlib.Core.Path.{_≡_, refl, sym, ap, _∙_}
 use mathlib.Core.Bool.{Bool, true, false, not}
 use mathlib.Core.Logic.{inl, inr}
-use mathlib.Core.List.{List, [], _∷_}
-use Prim.Native.Nat.{ℕ, zero, suc, _+_, _-_, _*_, _^_, _/_, _≤_, _<_}
+use mathlib.Core.List.{List, _∷_}
+use Prim.Native.Nat.{ℕ, zero, suc, _+_, _-_, _*_, _^_, _≤_, _<_}
 use native.Mathlib.Omega.{arith}
-use lib.Dec.{leb, eqb}
+use lib.Dec.{leb}
 use lib.ListN.{length, getD, set, length-set}
 use mir.Syntax.{w64}
 use mir.Val as val
 use types.Run.{OneOf}
 use borrow.Author.Tests.{leb-true, leb-false, le-leb, lt-leb, not-true, not-false}
-use Rattle.chars.specs.Words.{bytes, member}
+use Rattle.chars.specs.Words.{bytes}
 use Rattle.chars.proofs.Laws.{not-member}
 use Rattle.settle.specs.Cover.{esa, covered}
-use Rattle.settle.specs.Payments.{Payment, credit, debit, payment, paymentAt, paymentsFrom, bankOf, Need, needsOf}
+use Rattle.settle.specs.Payments.{Payment, credit, debit, payment, paymentAt, paymentsFrom, bankOf, needsOf}
 use Rattle.settle.specs.Settlement.{Accounts, accounts, isCovered, uncovered, firstUncovered, paid, settled}
 use Rattle.settle.specs.Rules.{Ranged, Fits, Payable, AllPayable}
 use Rattle.settle.specs.declared.Verdict.{Verdict}
@@ -49,7 +49,7 @@ module _ (letters balance limit cents : ℕ) where
   with-other n e = sym (simp (not-member (bytes " A") (esa letters) e, not-member (bytes "P") (esa letters) n))
 
 -- a number above zero is a successor
-step-down : (n : ℕ) → 0 < n → n ≡ suc (n - 1)
+pub step-down : (n : ℕ) → 0 < n → n ≡ suc (n - 1)
 step-down n h = omega arith
 
 pub is-credit : (bank cents letters : ℕ) → letters ≡ 0 → payment bank cents letters ≡ credit bank cents
@@ -78,7 +78,7 @@ stops a (credit k c) ps e = cc
 stops a (debit l k c) ps e = rw (not-true (isCovered a (record { letters = l; bank = k; cents = c })) e)
 
 module _ (t : List ℕ) (at : ℕ) where
-  bank-at : bankOf (paymentAt t at) ≡ getD t at 0
+  pub bank-at : bankOf (paymentAt t at) ≡ getD t at 0
   unfolding paymentAt
   bank-at = bank-is (getD t at 0) (getD t (at + 1) 0) (getD t (at + 2) 0)
 

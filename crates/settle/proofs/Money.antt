@@ -1,21 +1,20 @@
 -- Theorems of settlement: the total is kept, and a batch that passes can be settled in its words.
-use mathlib.Core.Path.{_≡_, refl, sym, ap, _∙_}
+use mathlib.Core.Path.{_≡_, refl, _∙_}
 use mathlib.Core.Logic.{_≢_}
 use mathlib.Core.Bool.{Bool, true, false, cond}
 use mathlib.Core.List.{List, [], _∷_}
-use Prim.Native.Nat.{ℕ, zero, suc, _+_, _-_, _*_, _^_, _≤_, _<_}
+use Prim.Native.Nat.{ℕ, zero, suc, _+_, _-_, _≤_, _<_}
 use native.Mathlib.Nat.{le-of-suc-le-suc}
 use native.Mathlib.Omega.{arith}
-use lib.Dec.{leb, eqb}
-use lib.ListN.{length, getD, set, length-set}
+use lib.Dec.{leb}
+use lib.ListN.{length, getD, set}
 use lib.Seq.{getD-set-other}
 use borrow.Author.Tests.{leb-true}
 use Rattle.chars.specs.Words.{bytes, member}
 use Rattle.settle.specs.Cover.{esa, covered}
-use Rattle.settle.specs.Payments.{Payment, credit, debit, bankOf, centsOf, Need, needsOf}
-use Rattle.settle.specs.Settlement.{Accounts, accounts, isCovered, firstUncovered, verdict, paid, settled}
+use Rattle.settle.specs.Payments.{Payment, credit, debit, bankOf, Need, needsOf}
+use Rattle.settle.specs.Settlement.{Accounts, isCovered, firstUncovered, verdict, paid, settled}
 use Rattle.settle.specs.Rules.{sum, debits, credits, Apart, Distinct, Ranged, Fits, Payable, AllPayable}
-use Rattle.settle.specs.declared.Verdict.{Verdict}
 use Rattle.settle.specs.declared.Verdict.the-variants.{Passes, Stops}
 use Rattle.settle.proofs.Laws.{paid-length}
 

@@ -70,9 +70,9 @@ impl Batch {
 
     pub const MEMORY: usize = 6;
 
-    pub const ARRIVED: usize = 7;
+    pub const MESSAGES_THERE: usize = 7;
 
-    pub const PAID: usize = 8;
+    pub const PAYMENTS_THERE: usize = 8;
 
     pub const MESSAGE: usize = 9;
 
@@ -150,7 +150,7 @@ pub fn first_uncovered(balances: &[u64], limits: &[u64], batches: &[u64], place:
 {
     let first = place * Batch::WIDTH + Batch::PAYMENT;
     let mut at = first;
-    let mut left = batches[place * Batch::WIDTH + Batch::PAID];
+    let mut left = batches[place * Batch::WIDTH + Batch::PAYMENTS_THERE];
     while 0 < left {
         if uncovered_at(balances, limits, batches, at) {
             let bank = batches[at];
@@ -183,7 +183,7 @@ pub fn settle(balances: &mut [u64], batches: &[u64], place: usize)
     ensures { λ _. ⌜ now (balances .exit) ≡ settled (now (balances .entry)) (paymentsOf (now (batches .entry)) place) ⌝ }
 {
     let mut at = place * Batch::WIDTH + Batch::PAYMENT;
-    let mut unpaid = batches[place * Batch::WIDTH + Batch::PAID];
+    let mut unpaid = batches[place * Batch::WIDTH + Batch::PAYMENTS_THERE];
     while 0 < unpaid {
         pay_at(balances, batches, at);
         at += Batch::PAYMENT_WIDTH;

@@ -1,0 +1,91 @@
+-- How far 16A, 171 and 175 reach, and that two texts which begin alike have the same ones.
+use Prim.Native.Nat.{ℕ, _+_, _≤_, _<_}
+use mathlib.Core.Path.{_≡_, refl}
+use mathlib.Core.List.{List}
+use mathlib.Core.Logic.{_⊎_, inl, inr}
+use native.Mathlib.Omega.{arith}
+use Rattle.chars.specs.Words.{bytes}
+use Rattle.scan.specs.Scan.{onNext, litAt}
+use Rattle.scan.specs.declared.At.{At}
+use Rattle.scan.specs.declared.At.the-variants.{Next, No}
+use Rattle.scan.specs.declared.Cursor.{Cursor}
+use Rattle.scan.proofs.Alike.{Alike, by-next}
+use Rattle.values.specs.declared.Part.{Part}
+use Rattle.fields.specs.Fields.{place, onGood, fieldAt}
+use Rattle.fields.specs.declared.Item.{Item}
+use Rattle.fields.specs.declared.Kind.the-variants.{Numbers, Date, Time}
+use Rattle.fields.proofs.Alike.{Reaches, here, Or, field-in, field-alike, in-then, alike-then, look-alike}
+use Rattle.terms.specs.Terms.{noPart, activationAt, onGiven, terms, termsAt}
+use Rattle.terms.specs.declared.Activation.{Activation}
+use Rattle.terms.specs.declared.Activation.the-variants.{AtOnce, Minute}
+use Rattle.terms.specs.declared.Activated.{Activated}
+use Rattle.terms.specs.declared.Activated.the-variants.{Given, Ungiven}
+use Rattle.terms.specs.declared.Stated.{Stated}
+use Rattle.terms.specs.declared.Stated.the-variants.{Whole, Partial}
+
+abbrev givenStop : Activated → ℕ
+givenStop (Given m p c) = c .at
+givenStop (Ungiven b) = b .at
+
+-- 175 where its tag stands
+abbrev timed : List ℕ → ℕ → Activated
+timed s at = onGood (fieldAt s at (bytes ":175:") Time) Ungiven (λ i c. Given (Minute (i .number)) (i .part) c)
+
+activation-in : (s : List ℕ) (at : ℕ) → Reaches at 28 (givenStop (activationAt s at))
+unfolding activationAt
+activation-in s at = by-next (λ (x : Activated). Reaches at 28 (givenStop x)) (litAt s at (bytes ":175:")) (omega arith, omega arith) (λ e q.
+    in-then givenStop at 0 (fieldAt s at (bytes ":175:") Time) Ungiven (λ i c. Given (Minute (i .number)) (i .part) c)
+    (field-in s at (bytes ":175:") Time (omega arith) tt) (λ b. refl) (λ i c r. here (c .at)))
+
+activation-alike : {n : ℕ} {s t : List ℕ} → Alike n s t → (at : ℕ) → Or n (activationAt s at) (activationAt t at) (givenStop (activationAt s at))
+unfolding activationAt
+activation-alike {n} {s} {t} a at = go (look-alike a at (bytes ":175:") (givenStop (activationAt s at)) (omega arith) (activation-in s at .0))
+  where
+    pick : (r : At) → Or n (onNext r (Given AtOnce noPart (place at)) (λ e. timed s at)) (onNext r (Given AtOnce noPart (place at)) (λ e. timed t at)) (givenStop (onNext r (Given AtOnce noPart (place at)) (λ e. timed s at)))
+    pick No = inl refl
+    pick (Next e) = alike-then givenStop n (fieldAt s at (bytes ":175:") Time) (fieldAt t at (bytes ":175:") Time) Ungiven _ _
+        (field-alike a at (bytes ":175:") Time (omega arith) tt) (λ b. refl) (λ i c r. (omega arith, inl refl))
+
+    go : Or n (litAt s at (bytes ":175:")) (litAt t at (bytes ":175:")) (givenStop (activationAt s at)) → Or n (activationAt s at) (activationAt t at) (givenStop (activationAt s at))
+    go (inl q) = rw (← q) (pick (litAt s at (bytes ":175:")))
+    go (inr q) = inr q
+
+abbrev pub statedStop : Stated → ℕ
+statedStop (Whole t c) = c .at
+statedStop (Partial b) = b .at
+
+-- what follows 171
+abbrev dated : Item → Item → Activated → Stated
+dated i date x = onGiven x Partial (λ m p e. Whole (terms i date m p) e)
+
+dated-stop : (i date : Item) (x : Activated) → statedStop (dated i date x) ≡ givenStop x
+dated-stop i date (Given m p e) = refl
+dated-stop i date (Ungiven b) = refl
+
+dated-in : (s : List ℕ) (i date : Item) (at : ℕ) → Reaches at 28 (statedStop (dated i date (activationAt s at)))
+dated-in s i date at = rw (dated-stop i date (activationAt s at)) (activation-in s at)
+
+terms-rest : (s : List ℕ) (i : Item) (c : Cursor) → Reaches (c .at) 56 (statedStop (onGood (fieldAt s (c .at) (bytes ":171:") Date) Partial (λ date d. dated i date (activationAt s (d .at)))))
+terms-rest s i c = in-then statedStop (c .at) 28 (fieldAt s (c .at) (bytes ":171:") Date) Partial _
+    (field-in s (c .at) (bytes ":171:") Date (omega arith) tt) (λ b. refl) (λ date d r. dated-in s i date (d .at))
+
+pub terms-in : (s : List ℕ) (at : ℕ) → Reaches at 84 (statedStop (termsAt s at))
+unfolding termsAt
+terms-in s at = in-then statedStop at 56 (fieldAt s at (bytes ":16A:") Numbers) Partial _
+    (field-in s at (bytes ":16A:") Numbers (omega arith) tt) (λ b. refl) (λ i c q. terms-rest s i c)
+
+pub terms-alike : {n : ℕ} {s t : List ℕ} → Alike n s t → (at : ℕ) → Or n (termsAt s at) (termsAt t at) (statedStop (termsAt s at))
+unfolding termsAt
+terms-alike {n} {s} {t} a at = alike-then statedStop n (fieldAt s at (bytes ":16A:") Numbers) (fieldAt t at (bytes ":16A:") Numbers) Partial _ _
+    (field-alike a at (bytes ":16A:") Numbers (omega arith) tt) (λ b. refl) (λ i c q. (
+      terms-rest s i c .0,
+      alike-then statedStop n (fieldAt s (c .at) (bytes ":171:") Date) (fieldAt t (c .at) (bytes ":171:") Date) Partial _ _
+          (field-alike a (c .at) (bytes ":171:") Date (omega arith) tt) (λ b. refl) (λ date d r. (
+            dated-in s i date (d .at) .0,
+            go i date (activationAt s (d .at)) (activationAt t (d .at)) (activation-alike a (d .at)),
+          )),
+    ))
+  where
+    go : (i date : Item) (x y : Activated) → Or n x y (givenStop x) → Or n (dated i date x) (dated i date y) (statedStop (dated i date x))
+    go i date x y (inl q) = inl (rw q)
+    go i date x y (inr q) = inr (rw (dated-stop i date x) q)
