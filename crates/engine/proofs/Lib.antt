@@ -3,3 +3,5 @@ pub mod Moved
 pub mod Agreement
 pub mod Refusals
 pub mod Strangers
+pub mod Counting
+pub mod Standing
