@@ -5,3 +5,9 @@ pub mod Refusals
 pub mod Strangers
 pub mod Counting
 pub mod Standing
+pub mod Seeking
+pub mod Admitting
+pub mod Lettering
+pub mod Doing
+pub mod Settling
+pub mod Placing

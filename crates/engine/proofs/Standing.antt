@@ -158,7 +158,7 @@ module _ (banks : ℕ) where
 
   -- ---- a place that is emptied or filled
 
-  alike : {x y : Place} {m n m′ n′ : ℕ} → y ≡ x → m′ ≡ m → n′ ≡ n → Standing x m n → Standing y m′ n′
+  pub alike : {x y : Place} {m n m′ n′ : ℕ} → y ≡ x → m′ ≡ m → n′ ≡ n → Standing x m n → Standing y m′ n′
   alike e f g h = rw (e, f, g) h
 
   emptied-there : (ps : List Place) (p : ℕ) → getD (set ps p free) p free ≡ free
