@@ -147,7 +147,7 @@ false-not-true : {X : Type 0} → _≡_ {A = Bool} false true → X
 false-not-true h = let z : _≡_ {A = ℕ} 0 1 = cc in absurd (omega arith)
 
 -- a call that is not refused at once came at the right moment
-right-day : (s : State) (c : Call) → judge s c ≡ Done → rightDay (c .action) (s .day) ≡ true
+pub right-day : (s : State) (c : Call) → judge s c ≡ Done → rightDay (c .action) (s .day) ≡ true
 unfolding judge
 right-day s c h = go (rightClock (c .action) (s .day) (c .clock)) (rightDay (c .action) (s .day)) h
   where

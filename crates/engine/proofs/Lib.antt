@@ -11,3 +11,5 @@ pub mod Lettering
 pub mod Doing
 pub mod Settling
 pub mod Placing
+pub mod Keeping
+pub mod Demand

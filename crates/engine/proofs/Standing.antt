@@ -247,7 +247,7 @@ module _ (banks : ℕ) where
       all-free (suc n) zero = refl
       all-free (suc n) (suc p) = all-free n p
 
-  emptied-off : (done : List ℕ) (ps : List Place) (p : ℕ) → times p done ≡ 0 → getD (emptied done ps) p free ≡ getD ps p free
+  pub emptied-off : (done : List ℕ) (ps : List Place) (p : ℕ) → times p done ≡ 0 → getD (emptied done ps) p free ≡ getD ps p free
   unfolding emptied times
   emptied-off [] ps p e = refl
   emptied-off (q ∷ done) ps p e =
