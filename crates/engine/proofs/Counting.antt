@@ -124,3 +124,27 @@ pub times-all : (Q : ℕ → Type 0) (l : List ℕ) → ((p : ℕ) → 0 < times
 unfolding times
 times-all Q [] h = tt
 times-all Q (q ∷ l) h = (h q (rw (eq-eqb q q refl) (omega arith)), times-all Q l (λ p g. h p (omega arith)))
+
+-- ---- places below n that stand once each are n at the most
+
+abbrev but : ℕ → ℕ → Bool
+but n p = not (eqb p n)
+
+length-but : (n : ℕ) (l : List ℕ) → length l ≡ length (keep (but n) l) + times n l
+unfolding keep times
+length-but n [] = refl
+length-but n (x ∷ l) = byBool (eqb x n) (λ e. rw e (omega (arith, length-but n l))) (λ e. rw e (omega (arith, length-but n l)))
+
+pub at-most : (n : ℕ) (l : List ℕ) → ((p : ℕ) → times p l ≤ 1) → ((p : ℕ) → n ≤ p → times p l ≡ 0) → length l ≤ n
+unfolding times
+at-most zero [] o h = omega arith
+at-most zero (x ∷ l) o h = absurd (let g : 1 + times x l ≡ 0 = rw (eq-eqb x x refl) at (h x (omega arith)) in omega arith)
+at-most (suc n) l o h =
+    omega (
+      arith,
+      length-but n l,
+      o n,
+      at-most n (keep (but n) l)
+          (λ p. byBool (eqb p n) (λ e. omega (arith, times-left-out (but n) p l (ap not e))) (λ e. omega (arith, times-kept (but n) p l (ap not e), o p)))
+          (λ p b. byBool (eqb p n) (λ e. times-left-out (but n) p l (ap not e)) (λ e. times-kept (but n) p l (ap not e) ∙ h p (omega (arith, eqb-false p n e)))),
+    )

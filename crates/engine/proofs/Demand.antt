@@ -85,9 +85,20 @@ pub record Stands (e : Engine) (l : Ledger) : Type 0 where
   -- "the total never changes within a day"
   pub total : sum (e .state .books .balances) ≡ sum (l .opening)
 
--- "every payer of a settled batch covered its own payment on the balances just before that batch"
-abbrev pub Paid : Engine → Call → Type 0
-Paid e c = Trail (paymentsAt (acted e c .batches)) (acted e c .books) (outcome e c .done) (outcome e c .books)
+-- "every payer of a settled batch covered its own payment on the balances just before that batch": from the accounts that the action left to
+-- those that the call leaves, v. A call without a test leaves the accounts, but for an opening
+abbrev pub PaidBy : Answer → Action → Engine → Call → Accounts → Type 0
+PaidBy (Refused r) x e c v = v ≡ e .state .books
+PaidBy Done Opening e c v = Unit {0}
+PaidBy Done (Message n) e c v = Trail (paymentsAt (acted e c .batches)) (acted e c .books) (outcome e c .done) v
+PaidBy Done (SubLimit k x) e c v = Trail (paymentsAt (acted e c .batches)) (acted e c .books) (outcome e c .done) v
+PaidBy Done (Status k b l) e c v = Trail (paymentsAt (acted e c .batches)) (acted e c .books) (outcome e c .done) v
+PaidBy Done Tick e c v = Trail (paymentsAt (acted e c .batches)) (acted e c .books) (outcome e c .done) v
+PaidBy Done Close e c v = Trail (paymentsAt (acted e c .batches)) (acted e c .books) (outcome e c .done) v
+PaidBy Done (ClosingBook d) e c v = v ≡ e .state .books
+
+unfoldable pub Paid : Engine → Call → Type 0
+Paid e c = PaidBy (judge (e .state) c) (c .action) e c (call e c .engine .state .books)
 
 -- all of it after each of some calls
 unfoldable pub Told : Engine → Ledger → List Call → Type 0
@@ -136,7 +147,7 @@ module _ (readers : Readers) (e : Engine) (c : Call) (k : Kept (e .state)) (f : 
   unfolding begun
   same = same-money s (requestAt (c .input)) (did s (c .action) (c .input))
 
-  paid : Paid e c
+  paid : Trail (paymentsAt (a .batches)) (a .books) (o .done) (o .books)
   unfolding tested
   paid = test-trail (c .quick) (paymentsAt (a .batches)) (fuel (a .batches .queue)) (a .books) _ (a .batches .queue)
 
@@ -186,22 +197,44 @@ module _ (readers : Readers) (e : Engine) (c : Call) (k : Kept (e .state)) (f : 
   opened-stands Done i = record { stuck = rw (k .idle i) tt; money = λ n b. refl; total = refl }
   opened-stands (Refused r) i = h
 
-  performed-stands : (z : Action) → c .action ≡ z → rightDay z (e .state .day) ≡ true → Stands (performed z e c .engine) (ledgerBy Done z e c l)
-  performed-stands Opening q i = opened-stands (openingAnswer (e .state .day) (c .input)) (not-true _ i)
-  performed-stands (Message n) q i = stepped-stands
-  performed-stands (SubLimit n v) q i = stepped-stands
-  performed-stands (Status n b x) q i = stepped-stands
-  performed-stands Tick q i = stepped-stands
-  performed-stands Close q i = stepped-stands
-  performed-stands (ClosingBook d) q i = record { stuck = h .stuck; money = h .money; total = h .total }
+  performed-stands : (z : Action) → rightDay z (e .state .day) ≡ true → Stands (performed z e c .engine) (ledgerBy Done z e c l)
+  performed-stands Opening i = opened-stands (openingAnswer (e .state .day) (c .input)) (not-true _ i)
+  performed-stands (Message n) i = stepped-stands
+  performed-stands (SubLimit n v) i = stepped-stands
+  performed-stands (Status n b x) i = stepped-stands
+  performed-stands Tick i = stepped-stands
+  performed-stands Close i = stepped-stands
+  performed-stands (ClosingBook d) i = record { stuck = h .stuck; money = h .money; total = h .total }
 
   judged-stands : (r : Answer) → judge (e .state) c ≡ r → Stands (judged r e c .engine) (ledgerBy r (c .action) e c l)
-  judged-stands Done i = performed-stands (c .action) refl (right-day (e .state) c i)
+  judged-stands Done i = performed-stands (c .action) (right-day (e .state) c i)
   judged-stands (Refused r) i = h
 
+  ends-paid : (t : Bool) → Trail (paymentsAt (a .batches)) (a .books) (o .done) (cond t (closes s a o) (goesOn s a o) .engine .state .books)
+  unfolding closes goesOn
+  ends-paid true = paid
+  ends-paid false = paid
+
+  stepped-paid : Trail (paymentsAt (a .batches)) (a .books) (o .done) (stepped e c .engine .state .books)
+  unfolding stepped
+  stepped-paid = ends-paid (isClose (c .action))
+
+  performed-paid : (z : Action) → PaidBy Done z e c (performed z e c .engine .state .books)
+  performed-paid Opening = tt
+  performed-paid (Message n) = stepped-paid
+  performed-paid (SubLimit n v) = stepped-paid
+  performed-paid (Status n b x) = stepped-paid
+  performed-paid Tick = stepped-paid
+  performed-paid Close = stepped-paid
+  performed-paid (ClosingBook d) = refl
+
+  judged-paid : (r : Answer) → PaidBy r (c .action) e c (judged r e c .engine .state .books)
+  judged-paid Done = performed-paid (c .action)
+  judged-paid (Refused r) = refl
+
   pub call-stands : Paid e c × Stands (call e c .engine) (ledger e c l)
-  unfolding call ledger
-  call-stands = (paid, judged-stands (judge (e .state) c) refl)
+  unfolding call ledger Paid
+  call-stands = (judged-paid (judge (e .state) c), judged-stands (judge (e .state) c) refl)
 
 calls-told : (readers : Readers) (cs : List Call) (e : Engine) (l : Ledger) → Kept (e .state) → Faithful e → Stands e l → Told e l cs
 unfolding Told

@@ -13,3 +13,4 @@ pub mod Settling
 pub mod Placing
 pub mod Keeping
 pub mod Demand
+pub mod Tries

@@ -19,7 +19,7 @@ use Rattle.engine.specs.Joining.{keep, byTime, time, isDue, join}
 use Rattle.engine.specs.Messages.{ended, toTail, mayQueue}
 use Rattle.engine.specs.Ending.{emptied, afterTest}
 use Rattle.engine.specs.Rules.{Each, RightPlace, RightBatch, RightBatches, Complete, Given, WaitsAt, Timed, Assembled}
-use Rattle.engine.proofs.Counting.{times, times-append, times-last, times-other, times-kept, times-left-out, times-parted, times-by-time, once-times, times-once, no-member, a-member, all-times, times-all}
+use Rattle.engine.proofs.Counting.{times, times-append, times-last, times-other, times-kept, times-left-out, times-parted, times-by-time, once-times, times-once, no-member, a-member, all-times, times-all, at-most}
 
 module _ (banks : ℕ) where
   -- nothing; a batch that is being assembled; one that waits for its minute; a queued one
@@ -290,3 +290,22 @@ module _ (banks : ℕ) where
     each = λ p.
         parted (getD (emptied done (b .places)) p free) (times p queue) (times p done) (h .each p) (e p) (emptied-off done (b .places) p) (emptied-on done (b .places) p);
   }
+
+  -- ---- "32 live batches": no more are queued
+
+  past-free : (ps : List Place) (p : ℕ) → length ps ≤ p → getD ps p free ≡ free
+  past-free [] p h = refl
+  past-free (x ∷ ps) zero h = absurd (omega arith)
+  past-free (x ∷ ps) (suc p) h = past-free ps p (omega arith)
+
+  unqueued : {x : Place} {m n : ℕ} → x ≡ free → Standing x m n → n ≡ 0
+  unqueued e vacant = refl
+  unqueued e (building r l) = refl
+  unqueued e (awaits r c g) = refl
+  unqueued e (stands r c) = let z : _≡_ {A = ℕ} 0 1 = cc in absurd (omega arith)
+
+  pub few-queued : (b : Batches) → Stood b → length (b .queue) ≤ 32
+  few-queued b h =
+      at-most 32 (b .queue)
+      (λ p. omega (arith, at-most-once (h .each p)))
+      (λ p l. unqueued (past-free (b .places) p (omega (arith, h .long))) (h .each p))
