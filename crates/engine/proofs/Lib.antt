@@ -14,3 +14,5 @@ pub mod Placing
 pub mod Keeping
 pub mod Demand
 pub mod Tries
+pub mod Noting
+pub mod Bins
