@@ -13,6 +13,7 @@ use Rattle.codes.specs.Codes.{shortText}
 use Rattle.chars.specs.declared.Refusal.{Refusal}
 use Rattle.terms.specs.declared.Activation.{Activation}
 use Rattle.payments.specs.declared.Payment.{Payment as Line}
+use Rattle.request.specs.declared.Outcome.the-variants.{Settlement, Recall}
 use Rattle.request.specs.declared.Reading.{Reading}
 use Rattle.settle.specs.Payments.{Payment, credit, debit, payment, bankOf, centsOf}
 use Rattle.settle.specs.Rules.{Apart, Distinct}
@@ -40,6 +41,11 @@ pub record TextGives (r : Reading) : Type 0 where
   pub few : length (take (r .n) (r .payments)) ≤ 10
   pub money : Each (λ l. l .amount .number ≤ 999999999999) (take (r .n) (r .payments))
   pub letters : Each (λ l. LetterWord (l .letters .number)) (take (r .n) (r .payments))
+
+-- what a text that was read gives: of a recall its reference
+pub record Gives (r : Reading) : Type 0 where
+  pub settlement : r .outcome ≡ Settlement → TextGives r
+  pub recall : r .outcome ≡ Recall → isReference (r .head .reference .code) ≡ true
 
 -- a batch that can take a message: one that is begun, or is being assembled
 pub record Takes (banks : ℕ) (b : Batch) : Type 0 where

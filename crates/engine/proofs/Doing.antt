@@ -1,6 +1,7 @@
 -- What an action can do, each way with what is known where it is taken. A rule that each way keeps is kept by every action.
 use Prim.Native.Nat.{ℕ, zero, suc, _+_, _≤_, _<_}
 use mathlib.Core.Path.{_≡_, refl, sym, ap, _∙_}
+use mathlib.Core.Logic.{_⊎_, inl, inr}
 use mathlib.Core.Bool.{Bool, true, false, _||_, _&&_, cond, false≢true}
 use mathlib.Core.List.{List, [], _∷_, _++_}
 use native.Mathlib.Omega.{arith}
@@ -34,6 +35,7 @@ use Rattle.engine.proofs.Seeking.{Answers, seek-answers, bank-below, As
 module _ (s : State) (r : Reading) where
   -- a message whose reference is new and is noted
   pub record New : Type 0 where
+    pub read : (r .outcome ≡ Settlement) ⊎ (r .outcome ≡ Recall)
     pub unused : isUsed (today s) (reference s r) (s .known .references) ≡ false
     pub fits : referenceFits s r ≡ true
 
@@ -125,9 +127,9 @@ module _ (s : State) (r : Reading) where
   did-housed : (o : Read) (stream : ℕ) → r .outcome ≡ o → isUsed (today s) (reference s r) (s .known .references) ≡ false → Did (housed s r o stream)
   did-housed Settlement stream i u =
       by-cond (referenceFits s r && binFits s r)
-      (λ f. let g = and-true (referenceFits s r) (binFits s r) f in did-settling i (record { unused = u; fits = g .0 }) (g .1) stream)
+      (λ f. let g = and-true (referenceFits s r) (binFits s r) f in did-settling i (record { read = inl i; unused = u; fits = g .0 }) (g .1) stream)
       (λ _. idle _)
-  did-housed Recall stream i u = by-cond (referenceFits s r) (λ f. did-recalling (record { unused = u; fits = f })) (λ _. idle _)
+  did-housed Recall stream i u = by-cond (referenceFits s r) (λ f. did-recalling (record { read = inr i; unused = u; fits = f })) (λ _. idle _)
   did-housed (Unread b) stream i u = idle _
 
   did-repeated : (o : Read) → Did (repeated s r o)

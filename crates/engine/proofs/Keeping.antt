@@ -8,7 +8,6 @@ use lib.ListN.{length, replicate}
 use borrow.Author.Tests.{not-true}
 use Rattle.chars.specs.declared.Refusal.{Refusal}
 use Rattle.request.specs.Request.{requestAt}
-use Rattle.request.specs.declared.Outcome.the-variants.{Settlement}
 use Rattle.book.specs.Book.{bookCheck}
 use Rattle.book.specs.Accounts.{dayIn, streamsIn, banksIn}
 use Rattle.book.specs.declared.Answer.{Answer as Check}
@@ -29,7 +28,7 @@ use Rattle.engine.specs.Days.{columnOf, opened, isLater, checked, openin
 use Rattle.engine.specs.Calls.{Call, Engine, Result, isOpen, rightDay, judge, begun, act, tested, isClose, left, goesOn, closes, stepped, openedBy, bookGiven, performed, judged, call, cleared}
 use Rattle.engine.specs.Rules.{Each, RightHouse, RightBatches}
 use Rattle.engine.proofs.Agreement.{right-day}
-use Rattle.engine.proofs.Admitting.{TextGives}
+use Rattle.engine.proofs.Admitting.{Gives}
 use Rattle.engine.proofs.Standing.{Stood, right, join-stood, free-stood, test-stood}
 use Rattle.engine.proofs.Settling.{test-times, house-tested}
 use Rattle.engine.proofs.Doing.{did}
@@ -44,7 +43,7 @@ pub record BookGives (book : List ℕ) : Type 0 where
 
 -- what the readers of texts and books give of all that they accept
 pub record Readers : Type 0 where
-  pub texts : (t : List ℕ) → requestAt t .outcome ≡ Settlement → TextGives (requestAt t)
+  pub texts : (t : List ℕ) → Gives (requestAt t)
   pub books : (b : List ℕ) → bookCheck b ≡ Sound → BookGives b
 
 pub record Kept (s : State) : Type 0 where
@@ -117,7 +116,7 @@ module _ (readers : Readers) (e : Engine) (c : Call) (k : Kept (e .state)) where
 
   -- after (c)
   pub acted-stood : Stood (s .house .banks) (a .batches)
-  acted-stood = places-kept s begun-stood (requestAt (c .input)) (did s (c .action) (c .input)) (readers .texts (c .input))
+  acted-stood = places-kept s begun-stood (requestAt (c .input)) (did s (c .action) (c .input)) (readers .texts (c .input) .settlement)
 
   pub acted-house : RightHouse (s .house) (a .books .balances) (a .books .limits)
   acted-house = house-kept s (requestAt (c .input)) (did s (c .action) (c .input)) begun-house

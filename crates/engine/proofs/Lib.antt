@@ -16,3 +16,4 @@ pub mod Demand
 pub mod Tries
 pub mod Noting
 pub mod Bins
+pub mod Remembering

@@ -55,6 +55,15 @@ each-set P [] p x h y = tt
 each-set P (z ∷ l) zero x h y = (y, h .1)
 each-set P (z ∷ l) (suc p) x h y = (h .0, each-set P l p x (h .1) y)
 
+-- what a new entry leaves: l is es with the code noted today
+pub record Noted (today : ℕ) (code : Code) (es l : List Entry) : Type 0 where
+  pub size : length l ≡ length es
+  pub entries : (is : Code → Bool) (last : ℕ) → is code ≡ true → today ≤ last → Each (RightEntry is last) es → Each (RightEntry is last) l
+  pub once : isUsed today code es ≡ false → AllUnlike (remembered today es) → AllUnlike (remembered today l)
+  pub one-more : notedToday today l ≡ notedToday today es + 1
+  pub stays : (c : Code) → has c (remembered today es) ≡ true → has c (remembered today l) ≡ true
+  pub there : has code (remembered today l) ≡ true
+
 module _ (today : ℕ) (code : Code) (named : sameCode code noCode ≡ false) where
   abbrev new : Entry
   new = record { code = code; day = today }
@@ -161,15 +170,7 @@ module _ (today : ℕ) (code : Code) (named : sameCode code noCode ≡ false) wh
 
   -- ---- all of it, of the lowest free place
 
-  pub record Noted (es l : List Entry) : Type 0 where
-    pub size : length l ≡ length es
-    pub entries : (is : Code → Bool) (last : ℕ) → is code ≡ true → today ≤ last → Each (RightEntry is last) es → Each (RightEntry is last) l
-    pub once : isUsed today code es ≡ false → AllUnlike (remembered today es) → AllUnlike (remembered today l)
-    pub one-more : notedToday today l ≡ notedToday today es + 1
-    pub stays : (c : Code) → has c (remembered today es) ≡ true → has c (remembered today l) ≡ true
-    pub there : has code (remembered today l) ≡ true
-
-  noted-at : (es : List Entry) (p : ℕ) → vacant today es ≡ at p → Noted es (set es p new)
+  noted-at : (es : List Entry) (p : ℕ) → vacant today es ≡ at p → Noted today code es (set es p new)
   unfolding vacant
   noted-at es p e =
       let f = seek-answers (isVacant today) noEntry es p e in
@@ -186,10 +187,10 @@ module _ (today : ℕ) (code : Code) (named : sameCode code noCode ≡ false) wh
   unfolding note
   note-is es p e = rw e
 
-  pub noted : (s : State) (r : Reading) (es : List Entry) → isThere s r (vacant today es) ≡ true → Noted es (note today code es)
+  pub noted : (s : State) (r : Reading) (es : List Entry) → isThere s r (vacant today es) ≡ true → Noted today code es (note today code es)
   noted s r es h =
       byFound (vacant today es)
-      (λ p e. subst (λ (l : List Entry). Noted es l) (sym (note-is es p e)) (noted-at es p e))
+      (λ p e. subst (λ (l : List Entry). Noted today code es l) (sym (note-is es p e)) (noted-at es p e))
       (λ e. let z : false ≡ true = rw e at h in absurd (false≢true z))
 
 -- ---- a later day remembers no more
