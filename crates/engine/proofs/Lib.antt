@@ -17,3 +17,4 @@ pub mod Tries
 pub mod Noting
 pub mod Bins
 pub mod Remembering
+pub mod Answering
