@@ -40,6 +40,9 @@ pub record BookGives (book : List ℕ) : Type 0 where
       (record { streams = streamsIn book; banks = length (banksIn book); codes = columnOf Code (banksIn book); flags = columnOf Flags (banksIn book) })
       (columnOf Balance (banksIn book))
       (columnOf Limit (banksIn book))
+  pub date : dayIn book < 36525
+  pub some-streams : 1 ≤ length (streamsIn book)
+  pub some-banks : 1 ≤ length (banksIn book)
 
 -- what the readers of texts and books give of all that they accept
 pub record Readers : Type 0 where

@@ -18,3 +18,4 @@ pub mod Noting
 pub mod Bins
 pub mod Remembering
 pub mod Answering
+pub mod Validity
