@@ -110,7 +110,7 @@ module _ (s : State) (r : Reading) (g : Gives r) where
     answered = omega (arith, live-set (s .batches .places) p (withLetter k x (placeAt (s .batches) p)) (w .there .inside), letter-messages k x (placeAt (s .batches) p));
     noted-today = omega arith;
   }
-  counted (alone n y w) = record { new = 1; few = omega arith; answered = omega arith; noted-today = one-more w }
+  counted (alone n y q w) = record { new = 1; few = omega arith; answered = omega arith; noted-today = one-more w }
   counted (repeats p c f i) = record {
     new = 0;
     few = omega arith;

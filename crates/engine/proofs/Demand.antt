@@ -123,7 +123,7 @@ unfolding limited
 same-money s r (idle n) = refl
 same-money s r (limits k x b l) = refl
 same-money s r (letters k x p c m w) = refl
-same-money s r (alone n y w) = refl
+same-money s r (alone n y q w) = refl
 same-money s r (repeats p c f i) = refl
 same-money s r (recalls p y o n w) = refl
 same-money s r (completes stream b k p x j d e f) = refl

@@ -18,6 +18,7 @@ use Rattle.request.specs.declared.Outcome.the-variants.{Settlement, Recall, Ref
 use Rattle.request.specs.declared.Reading.{Reading}
 use Rattle.response.specs.declared.Outcome.the-variants.{Rejected}
 use Rattle.response.specs.declared.Outcome.{Outcome}
+use Rattle.response.specs.declared.Answer.{Answer as Told}
 use Rattle.queue.specs.Promise.{limited}
 use Rattle.engine.specs.declared.Action.{Action}
 use Rattle.engine.specs.declared.Action.the-variants.{Opening, Message, SubLimit, Status, Tick, Close, ClosingBook}
@@ -25,7 +26,7 @@ use Rattle.engine.specs.declared.Answer.{Answer}
 use Rattle.engine.specs.declared.Answer.the-variants.{Done, Refused}
 use Rattle.engine.specs.State.{Found, at, nowhere, onFound, seek, isFree, hasBin, Batch, Place, free, live, onLive, Batches, Known, State, placeAt, placeMessages, paymentsAt, withPlace}
 use Rattle.engine.specs.Memory.{isUsed, vacant}
-use Rattle.engine.specs.Replies.{Reply, repliesTo}
+use Rattle.engine.specs.Replies.{Reply, settlement, recall, repliesTo}
 use Rattle.engine.specs.Messages.{today, reference, bin, streamCode, isKnown, firstBatch, withBin, assembling, waiting, isThere, referenceFits, binFits, noted, streamPlace, administrator, bankPlace, Acted, Waking, bank, place, leaving, rejecting, ended, toTail, isComplete, isEven, completed, firstBroken, messageRules, admitted, admit, withMessage, settling, recalling, housed, repeated, sent, received, message}
 use Rattle.engine.specs.Changes.{subLimit, hasDebit, withLetter, status}
 use Rattle.engine.specs.Calls.{act}
@@ -51,6 +52,11 @@ module _ (s : State) (r : Reading) where
     pub new : New
     pub start : Start b k p x
 
+  -- the reply to a message that is answered at once
+  pub data Alone : Reply → Type 0 where
+    refuses : (o : Outcome) → r .outcome ≡ Settlement → Alone (settlement (reference s r) (bin s r) o)
+    answers : (a : Told) → Alone (recall (reference s r) a)
+
   pub data Did : Acted → Type 0 where
     idle : (n : Answer) → Did (leaving s n [] [] (s .batches) (s .known))
     limits : (k v : ℕ) → k < s .house .banks → v ≤ 6400000000000000
@@ -58,12 +64,12 @@ module _ (s : State) (r : Reading) where
     letters : (k x p : ℕ) (c : Code) → member x (bytes "ADP") ≡ true → Waiting (s .batches) c p
         → Did (leaving s Done [] (place p ∷ []) (withPlace (s .batches) p (withLetter k x (placeAt (s .batches) p))) (s .known))
     -- answered alone
-    alone : (n : Answer) (y : Reply) → New → Did (leaving s n (y ∷ []) [] (s .batches) (noted s r))
+    alone : (n : Answer) (y : Reply) → Alone y → New → Did (leaving s n (y ∷ []) [] (s .batches) (noted s r))
     -- a used reference ends the batch that is being assembled
     repeats : (p : ℕ) (c : Code) (f : Refusal) → Assembling (s .batches) c p
         → Did (rejecting s f p (s .batches) (placeMessages (placeAt (s .batches) p)) c (s .known))
-    recalls : (p : ℕ) (y : Reply) (o : Outcome) → New → Waiting (s .batches) (bin s r) p
-        → Did (leaving s Done (y ∷ repliesTo (placeMessages (placeAt (s .batches) p)) (bin s r) o) (place p ∷ []) (ended (s .batches) p) (noted s r))
+    recalls : (p : ℕ) (y : Told) (o : Outcome) → New → Waiting (s .batches) (bin s r) p
+        → Did (leaving s Done (recall (reference s r) y ∷ repliesTo (placeMessages (placeAt (s .batches) p)) (bin s r) o) (place p ∷ []) (ended (s .batches) p) (noted s r))
     -- the batch with the message in it is complete and waits, or grows, or is rejected
     completes : (stream : ℕ) (b : Batches) (k : Known) (p : ℕ) (x : Batch) → Joins b k p x → firstBroken (messageRules s r stream x) ≡ Done
         → isComplete s r (withMessage s r x) ≡ true → isEven s r (withMessage s r x) ≡ true → Did (leaving s Done [] (place p ∷ []) (toTail s r b (withMessage s r x) p) k)
@@ -113,7 +119,7 @@ module _ (s : State) (r : Reading) where
     unfolding settling
     did-settling stream =
         by-cond (isKnown s r)
-        (λ _. by-found (assembling (s .batches) (bin s r)) (alone _ _ n) (λ p e.
+        (λ _. by-found (assembling (s .batches) (bin s r)) (alone _ _ (refuses _ i) n) (λ p e.
         by-live (placeAt (s .batches) p) (idle _) (λ x f.
         did-admit (s .batches) (noted s r) p x (record { settlement = i; new = n; start = going (is-assembling (s .batches) (bin s r) p e) f }) stream)))
         (λ u. by-found (seek isFree (s .batches .places)) (idle _) (λ p e.
@@ -122,7 +128,7 @@ module _ (s : State) (r : Reading) where
 
   did-recalling : New → Did (recalling s r (noted s r))
   unfolding recalling
-  did-recalling n = by-found (waiting (s .batches) (bin s r)) (alone _ _ n) (λ p e. recalls p _ _ n (is-waiting (s .batches) (bin s r) p e))
+  did-recalling n = by-found (waiting (s .batches) (bin s r)) (alone _ _ (answers _) n) (λ p e. recalls p _ _ n (is-waiting (s .batches) (bin s r) p e))
 
   did-housed : (o : Read) (stream : ℕ) → r .outcome ≡ o → isUsed (today s) (reference s r) (s .known .references) ≡ false → Did (housed s r o stream)
   did-housed Settlement stream i u =

@@ -19,3 +19,5 @@ pub mod Bins
 pub mod Remembering
 pub mod Answering
 pub mod Validity
+pub mod Fitting
+pub mod Output

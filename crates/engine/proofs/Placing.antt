@@ -94,7 +94,7 @@ module _ (s : State) (h : Stood (s .house .banks) (s .batches)) where
   places-kept r (idle n) v = h
   places-kept r (limits k x b l) v = h
   places-kept r (letters k x p c m w) v = put-letter k x p m (w .there .inside)
-  places-kept r (alone n y w) v = h
+  places-kept r (alone n y q w) v = h
   places-kept r (repeats p c f i) v = ends p
   places-kept r (recalls p y o n w) v = ends p
   places-kept r (completes stream b k p x j d e f) v =
@@ -113,7 +113,7 @@ pub house-kept : (s : State) (r : Reading) {a : Acted} → Did s r a → RightHo
 house-kept s r (idle n) h = h
 house-kept s r (limits k x b l) h = house-limited (s .house) (s .books) k x h b l
 house-kept s r (letters k x p c m w) h = h
-house-kept s r (alone n y w) h = h
+house-kept s r (alone n y q w) h = h
 house-kept s r (repeats p c f i) h = h
 house-kept s r (recalls p y o n w) h = h
 house-kept s r (completes stream b k p x j d e f) h = h

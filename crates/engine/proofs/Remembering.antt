@@ -102,7 +102,7 @@ module _ (s : State) (r : Reading) (g : Gives r) where
     known-kept (idle n) = h
     known-kept (limits k x b l) = h
     known-kept (letters k x p c m w) = h
-    known-kept (alone n y w) = noted-right w
+    known-kept (alone n y q w) = noted-right w
     known-kept (repeats p c f i) = h
     known-kept (recalls p y o n w) = noted-right n
     known-kept (completes stream b k p x j d e f) = joins-right j
@@ -145,7 +145,7 @@ module _ (s : State) (r : Reading) (g : Gives r) where
     bins-kept (idle n) = h
     bins-kept (limits k x b l) = h
     bins-kept (letters k x p c m w) = binned-same (rem (s .known)) (s .batches .places) p _ h (letter-bin k x (placeAt (s .batches) p))
-    bins-kept (alone n y w) = h
+    bins-kept (alone n y q w) = h
     bins-kept (repeats p c f i) = none-live (rem (s .known)) (s .batches .places) p h
     bins-kept (recalls p y o n w) = none-live (rem (s .known)) (s .batches .places) p h
     bins-kept (completes stream b k p x j d e f) = let i = start-binned (j .settlement) (j .start) in bin-stays (rem k) (b .places) p x (i .binned) (i .there)

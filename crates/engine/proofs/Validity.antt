@@ -68,7 +68,7 @@ kept-in s Closed e v = record { house = v .0 .house; batches = stood (s .house .
 pub valid-kept : (s : State) → Valid s → Kept s
 valid-kept s v = kept-in s (s .day .phase) refl v
 
-open-in : (s : State) (p : Phase) → ValidIn p s → isOpen p ≡ true → Opened s
+pub open-in : (s : State) (p : Phase) → ValidIn p s → isOpen p ≡ true → Opened s
 open-in s Fresh v h = absurd (false≢true h)
 open-in s Open v h = v
 open-in s Closed v h = absurd (false≢true h)
@@ -98,7 +98,7 @@ is-later Sound true r h = refl
 is-later Sound false r h = let z : _≡_ {A = ℕ} 0 1 = cc in absurd (omega arith)
 is-later (Fault q) t r h = let z : _≡_ {A = ℕ} 0 1 = cc in absurd (omega arith)
 
-right-clock : (s : State) (c : Call) → judge s c ≡ Done → c .clock < 86400
+pub right-clock : (s : State) (c : Call) → judge s c ≡ Done → c .clock < 86400
 unfolding judge
 right-clock s c h =
     ltb-true (c .clock) 86400 (go (ltb (c .clock) 86400) (isOpening (c .action) || leb (s .day .clock) (c .clock)) (rightDay (c .action) (s .day)) h)
@@ -117,7 +117,7 @@ standing-bin banks x e (awaits {b = b} r c g) = let d : b ≡ x = cc in rw (sym 
 standing-bin banks x e (stands {b = b} r c) = let d : b ≡ x = cc in rw (sym d) (r .bin)
 
 module _ (readers : Readers) (e : Engine) (c : Call) (v : Valid (e .state)) where
-  k : Kept (e .state)
+  pub k : Kept (e .state)
   k = valid-kept (e .state) v
 
   abbrev s : State
@@ -130,7 +130,7 @@ module _ (readers : Readers) (e : Engine) (c : Call) (v : Valid (e .state)) wher
   o = tested (c .quick) a (e .memory)
 
   module _ (h : Opened (e .state)) where
-    acted-known : RightKnown (today s) (a .known)
+    pub acted-known : RightKnown (today s) (a .known)
     unfolding begun
     acted-known = known-kept s (requestAt (c .input)) (readers .texts (c .input)) (h .known) (did s (c .action) (c .input))
 
@@ -143,7 +143,7 @@ module _ (readers : Readers) (e : Engine) (c : Call) (v : Valid (e .state)) wher
     unfolding left afterTest
     left-binned = bins-emptied _ (o .done) (a .batches .places) acted-binned
 
-    acted-counted : Counted s a
+    pub acted-counted : Counted s a
     acted-counted = counted s (requestAt (c .input)) (readers .texts (c .input)) (did s (c .action) (c .input))
 
     done-once : (p : ℕ) → times p (o .done) ≤ 1
@@ -152,7 +152,7 @@ module _ (readers : Readers) (e : Engine) (c : Call) (v : Valid (e .state)) wher
         omega (arith, test-times (c .quick) (paymentsAt (a .batches)) (fuel (a .batches .queue)) p (a .books) (woken (a .wakes) (e .memory)) (a .batches .queue), at-most-once (s .house .banks) (acted-stood readers e c k .each p))
 
     -- texts and live messages after the test
-    left-answered : length (replies s a o) + liveMessages (left s a o .places) ≤ liveMessages (s .batches .places) + acted-counted .new
+    pub left-answered : length (replies s a o) + liveMessages (left s a o .places) ≤ liveMessages (s .batches .places) + acted-counted .new
     unfolding replies left afterTest
     left-answered =
         omega (arith, length-append (a .replies) (settledReplies (s .day) (a .batches) (o .done)), settled-live (s .day) (a .batches) (o .done) (a .batches .places) done-once (λ p l. refl), acted-counted .answered)
@@ -161,7 +161,7 @@ module _ (readers : Readers) (e : Engine) (c : Call) (v : Valid (e .state)) wher
     unfolding begun join
     room-today = omega (arith, h .answered, acted-counted .noted-today)
 
-    close-answered : length (lastReplies s a o) ≤ liveMessages (left s a o .places)
+    pub close-answered : length (lastReplies s a o) ≤ liveMessages (left s a o .places)
     unfolding lastReplies
     close-answered =
         close-few (s .day) (today s) (left s a o) (λ p x i. standing-bin (s .house .banks) x i (tested-stood readers e c k .each p)) (a .known .bins) (acted-known .bins-once)

@@ -1,0 +1,151 @@
+-- The texts of a call fit: at most 321 of them, each of at most 105 bytes.
+use Prim.Native.Nat.{ℕ, zero, suc, _+_, _*_, _≤_, _<_}
+use mathlib.Core.Path.{_≡_, refl, sym, ap, subst, _∙_}
+use mathlib.Core.Bool.{Bool, true, false, _||_, _&&_, not, cond, false≢true}
+use mathlib.Core.List.{List, [], _∷_, _++_}
+use native.Mathlib.Omega.{arith}
+use lib.Dec.{eqb, leb}
+use lib.ListN.{length, getD, take, drop, length-append}
+use borrow.Author.Tests.{eqb-true, leb-true}
+use Rattle.chars.specs.Chars.{isCode, isDigit}
+use Rattle.chars.specs.Refusals.{numberOf}
+use Rattle.chars.specs.declared.Refusal.the-variants.{Unsettled}
+use Rattle.codes.specs.Codes.{named, spelled, longText}
+use Rattle.codes.specs.declared.Code.{Code}
+use Rattle.codes.proofs.Laws.{spelled-length}
+use Rattle.dates.specs.Dates.{isRemembered}
+use Rattle.request.specs.Request.{requestAt}
+use Rattle.request.specs.declared.Reading.{Reading}
+use Rattle.response.specs.Texts.{outcomeText, answerText, rejectedText, settlementText, recallText}
+use Rattle.response.specs.declared.Outcome.{Outcome}
+use Rattle.response.specs.declared.Outcome.the-variants.{Settled, Rejected}
+use Rattle.response.specs.declared.Answer.{Answer as Told}
+use Rattle.response.specs.declared.Answer.the-variants.{Recalled, Kept as Stays}
+use Rattle.response.proofs.Laws.{settled-length, rejected-length, settlement-length, recall-length}
+use Rattle.queue.proofs.MemoryLaws.{byBool}
+use Rattle.engine.specs.State.{Found, at, nowhere, onFound, hasBin, Day, Message, Batch, Place, free, live, Batches, Known, Entry, State, placeAt, placeMessages, placeBin, batchOf}
+use Rattle.engine.specs.Replies.{Reply, settlement, recall, streamOf, repliesTo, textOf, textsFrom}
+use Rattle.engine.specs.Messages.{Acted, withMessage, bin}
+use Rattle.engine.specs.Ending.{settledReplies, closeReplies}
+use Rattle.engine.specs.Rules.{Each, allAre, isWhole, isBin, RightBatch, liveMessages}
+use Rattle.engine.proofs.Seeking.{Answers, seek-answers, byFound}
+use Rattle.engine.proofs.Noting.{and-true}
+use Rattle.engine.proofs.Standing.{Standing, vacant, building, awaits, stands, Stood}
+use Rattle.engine.proofs.Settling.{each-append}
+use Rattle.engine.proofs.Admitting.{Gives}
+use Rattle.engine.proofs.Remembering.{same-code}
+use Rattle.engine.proofs.Placing.{starts}
+use Rattle.engine.proofs.Doing.{Alone, refuses, answers, Did, idle, limits, letters, alone, repeats, recalls, completes, grows, rejects}
+
+-- ---- one text
+
+named-most : (l : List ℕ) → length (named l) ≤ length l
+unfolding named
+named-most [] = omega arith
+named-most (x ∷ l) = byBool (eqb x 0) (λ e. rw e (omega arith)) (λ e. rw e (omega (arith, named-most l)))
+
+long-most : (c : Code) → length (longText c) ≤ 16
+unfolding longText
+long-most c = omega (arith, named-most (spelled c), spelled-length c)
+
+bin-eight : (c : Code) → isBin c ≡ true → length (longText c) ≡ 8
+bin-eight c h =
+    let g = and-true (isWhole c) (eqb (length (longText c)) 8 && (allAre isCode (take 4 (longText c)) && allAre isDigit (drop 4 (longText c)))) h in
+    eqb-true (length (longText c)) 8 (and-true (eqb (length (longText c)) 8) (allAre isCode (take 4 (longText c)) && allAre isDigit (drop 4 (longText c))) (g .1) .0)
+
+-- a 132 is about a BIN
+abbrev pub Fits : Reply → Type 0
+Fits (settlement r b o) = isBin b ≡ true
+Fits (recall r a) = Unit {0}
+
+outcome-most : (o : Outcome) → length (outcomeText o) ≤ 27
+outcome-most (Settled d t) = omega (arith, settled-length d t)
+outcome-most (Rejected n) = omega (arith, rejected-length n)
+
+answer-most : (a : Told) → length (answerText a) ≤ 17
+answer-most Recalled = omega arith
+answer-most (Stays n) = omega (arith, rejected-length n)
+
+text-fits : (n : ℕ) (y : Reply) → Fits y → length (textOf n y) ≤ 105
+unfolding textOf
+text-fits n (settlement r b o) h =
+    omega (arith, settlement-length (record { number = n; reference = r; stream = streamOf b; bin = b; outcome = o }) refl refl refl, long-most r, bin-eight b h, outcome-most o)
+text-fits n (recall r a) h = omega (arith, recall-length (record { number = n; reference = r; answer = a }) refl refl, long-most r, answer-most a)
+
+pub texts-fit : (n : ℕ) (ys : List Reply) → Each (λ y. Fits y) ys → length (textsFrom n ys) ≤ 105 * length ys
+unfolding textsFrom
+texts-fit n [] h = omega arith
+texts-fit n (y ∷ ys) h = omega (arith, length-append (textOf (n + 1) y) (textsFrom (n + 1) ys), text-fits (n + 1) y (h .0), texts-fit (n + 1) ys (h .1))
+
+-- ---- the replies of an action, of the test, of the close
+
+pub replies-fit : (ms : List Message) (c : Code) (o : Outcome) → isBin c ≡ true → Each (λ y. Fits y) (repliesTo ms c o)
+unfolding repliesTo
+replies-fit [] c o h = tt
+replies-fit (m ∷ ms) c o h = (h, replies-fit ms c o h)
+
+-- the BIN of a live batch
+live-bin : (banks : ℕ) (c : Code) {x : Place} {m n : ℕ} → Standing banks x m n → hasBin c x ≡ true → isBin c ≡ true
+live-bin banks c vacant h = absurd (false≢true h)
+live-bin banks c (building {b = b} r l) h = ap (λ (z : Code). isBin z) (sym (same-code (b .bin) c h)) ∙ r .bin
+live-bin banks c (awaits {b = b} r d g) h = ap (λ (z : Code). isBin z) (sym (same-code (b .bin) c h)) ∙ r .bin
+live-bin banks c (stands {b = b} r d) h = ap (λ (z : Code). isBin z) (sym (same-code (b .bin) c h)) ∙ r .bin
+
+place-fits : (banks : ℕ) (o : Outcome) {x : Place} {m n : ℕ} → Standing banks x m n → Each (λ y. Fits y) (repliesTo (placeMessages x) (placeBin x) o)
+unfolding repliesTo
+place-fits banks o vacant = tt
+place-fits banks o (building {b = b} r l) = replies-fit (b .messages) (b .bin) o (r .bin)
+place-fits banks o (awaits {b = b} r d g) = replies-fit (b .messages) (b .bin) o (r .bin)
+place-fits banks o (stands {b = b} r d) = replies-fit (b .messages) (b .bin) o (r .bin)
+
+module _ (s : State) (h : Stood (s .house .banks) (s .batches)) (r : Reading) (g : Gives r) where
+  alone-fits : {y : Reply} → Alone s r y → Fits y
+  alone-fits (refuses o i) = g .settlement i .bin
+  alone-fits (answers a) = tt
+
+  found-bin : (c : Code) (p : ℕ) → Answers (hasBin c) (s .batches .places) free p → isBin c ≡ true
+  found-bin c p a = live-bin (s .house .banks) c (h .each p) (a .yes)
+
+  pub acted-fit : {a : Acted} → Did s r a → Each (λ y. Fits y) (a .replies)
+  acted-fit (idle n) = tt
+  acted-fit (limits k x b l) = tt
+  acted-fit (letters k x p c m w) = tt
+  acted-fit (alone n y q w) = (alone-fits q, tt)
+  acted-fit (repeats p c f i) = replies-fit (placeMessages (placeAt (s .batches) p)) c _ (found-bin c p (i .there))
+  acted-fit (recalls p y o n w) = (tt, replies-fit (placeMessages (placeAt (s .batches) p)) (bin s r) o (found-bin (bin s r) p (w .there)))
+  acted-fit (completes stream b k p x j d e f) = tt
+  acted-fit (grows stream b k p x j d e) = tt
+  acted-fit (rejects f b k p x j) = replies-fit (withMessage s r x .messages) (x .bin) _ (starts s h r (g .settlement (j .settlement)) (j .start) .bin)
+
+module _ (banks : ℕ) (b : Batches) (h : Stood banks b) where
+  pub settled-fit : (d : Day) (done : List ℕ) → Each (λ y. Fits y) (settledReplies d b done)
+  unfolding settledReplies
+  settled-fit d [] = tt
+  settled-fit d (p ∷ done) = each-append banks (λ y. Fits y) (repliesTo (placeMessages (placeAt b p)) (placeBin (placeAt b p)) (Settled (d .date) (d .clock))) (settledReplies d b done) (place-fits banks (Settled (d .date) (d .clock)) (h .each p)) (settled-fit d done)
+
+  pub close-fit : (now : ℕ) (es : List Entry) → Each (λ y. Fits y) (closeReplies now b es)
+  unfolding closeReplies
+  close-fit now [] = tt
+  close-fit now (e ∷ es) =
+      byBool (isRemembered (e .day) now)
+      (λ t.
+      byFound (batchOf b (e .code))
+      (λ p f.
+      rw (t, f) (each-append banks (λ y. Fits y) (repliesTo (placeMessages (placeAt b p)) (e .code) (Rejected (numberOf Unsettled))) (closeReplies now b es)
+      (replies-fit (placeMessages (placeAt b p)) (e .code) _ (live-bin banks (e .code) (h .each p) (seek-answers (hasBin (e .code)) free (b .places) p f .yes))) (close-fit now es)))
+      (λ f. rw (t, f) (close-fit now es)))
+      (λ t. rw t (close-fit now es))
+
+  -- "32 live batches, 1 to 10 messages in a batch"
+  ten : {x : Place} {m n : ℕ} → Standing banks x m n → length (placeMessages x) ≤ 10
+  ten vacant = omega arith
+  ten (building r l) = omega (arith, r .count .1)
+  ten (awaits r c g) = omega (arith, r .count .1, c .whole)
+  ten (stands r c) = omega (arith, r .count .1, c .whole)
+
+  tens : (ps : List Place) → ((p : ℕ) → length (placeMessages (getD ps p free)) ≤ 10) → liveMessages ps ≤ 10 * length ps
+  tens [] f = omega arith
+  tens (x ∷ ps) f = omega (arith, f 0, tens ps (λ p. f (suc p)))
+
+  pub few-messages : liveMessages (b .places) ≤ 320
+  few-messages = omega (arith, tens (b .places) (λ p. ten (h .each p)), h .long)
