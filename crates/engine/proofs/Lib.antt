@@ -21,3 +21,4 @@ pub mod Answering
 pub mod Validity
 pub mod Fitting
 pub mod Output
+pub mod Holding
