@@ -22,3 +22,4 @@ pub mod Validity
 pub mod Fitting
 pub mod Output
 pub mod Holding
+pub mod OnlyNoted
