@@ -23,3 +23,4 @@ pub mod Fitting
 pub mod Output
 pub mod Holding
 pub mod OnlyNoted
+pub mod Replying
