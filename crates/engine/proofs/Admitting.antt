@@ -1,29 +1,26 @@
 -- A message that keeps step 5's rules makes a right batch of the batch that it joins.
-use Prim.Native.Nat.{ℕ, zero, suc, _+_, _*_, _≤_, _<_}
+use Prim.Native.Nat.{ℕ, zero, suc, _+_, _≤_, _<_}
 use mathlib.Core.Path.{_≡_, refl, sym, ap, subst, _∙_}
 use mathlib.Core.Logic.{_⊎_, inl, inr}
-use mathlib.Core.Bool.{Bool, true, false, _||_, not, cond, false≢true}
+use mathlib.Core.Bool.{true, false, false≢true}
 use mathlib.Core.List.{List, [], _∷_, _++_, append-assoc, append-nil}
 use native.Mathlib.Omega.{arith}
-use lib.Dec.{eqb, leb}
-use lib.ListN.{length, getD, take, length-append}
-use borrow.Author.Tests.{eqb-true, eqb-false, ne-eqb, not-true}
+use lib.Dec.{eqb}
+use lib.ListN.{length, take, length-append}
+use borrow.Author.Tests.{eqb-true, eqb-false, not-true}
 use Rattle.chars.specs.Words.{member}
 use Rattle.codes.specs.Codes.{shortText}
-use Rattle.chars.specs.declared.Refusal.{Refusal}
-use Rattle.terms.specs.declared.Activation.{Activation}
 use Rattle.payments.specs.declared.Payment.{Payment as Line}
 use Rattle.request.specs.declared.Outcome.the-variants.{Settlement, Recall}
 use Rattle.request.specs.declared.Reading.{Reading}
-use Rattle.settle.specs.Payments.{Payment, credit, debit, payment, bankOf, centsOf}
+use Rattle.settle.specs.Payments.{Payment, payment, bankOf, centsOf}
 use Rattle.settle.specs.Rules.{Apart, Distinct}
-use Rattle.queue.specs.Promise.{All, Off, Once}
+use Rattle.queue.specs.Promise.{Off, Once}
 use Rattle.queue.proofs.MemoryLaws.{byBool}
 use Rattle.queue.proofs.Trail.{All-append}
-use Rattle.engine.specs.declared.Answer.{Answer}
 use Rattle.engine.specs.declared.Answer.the-variants.{Done, Refused}
-use Rattle.engine.specs.State.{Found, at, nowhere, onFound, House, Message, Batch, State, paymentsOf}
-use Rattle.engine.specs.Messages.{Rule, rule, firstBroken, bankPlace, isSuspended, isMember, today, lineBank, linePayment, linePayments, lines, arrived, sameActivation, hasNumber, lineRules, banksIn, messageRules, withMessage}
+use Rattle.engine.specs.State.{at, onFound, Message, Batch, State, paymentsOf}
+use Rattle.engine.specs.Messages.{Rule, firstBroken, bankPlace, lineBank, linePayment, linePayments, lines, arrived, hasNumber, lineRules, banksIn, messageRules, withMessage}
 use Rattle.engine.specs.Rules.{Each, isReference, isBin, areLetters, Priced, Lettered, numbers, RightMinute, RightMessage, RightBatch}
 use Rattle.engine.proofs.Seeking.{byFound, bank-below, or-false}
 

@@ -1,7 +1,7 @@
 -- Texts and live messages: a message is answered once, when its batch ends or at once. What an action, the test and the close answer, they
 -- take from the live messages.
 use Prim.Native.Nat.{ℕ, zero, suc, _+_, _≤_, _<_}
-use mathlib.Core.Path.{_≡_, refl, sym, ap, subst, _∙_}
+use mathlib.Core.Path.{_≡_, refl, sym, ap, _∙_}
 use mathlib.Core.Bool.{Bool, true, false, _||_, _&&_, not, cond, false≢true}
 use mathlib.Core.List.{List, [], _∷_, _++_}
 use native.Mathlib.Omega.{arith}
@@ -17,19 +17,19 @@ use Rattle.chars.specs.declared.Refusal.the-variants.{Unsettled}
 use Rattle.response.specs.declared.Outcome.{Outcome}
 use Rattle.response.specs.declared.Outcome.the-variants.{Settled, Rejected}
 use Rattle.queue.proofs.MemoryLaws.{byBool}
-use Rattle.engine.specs.State.{Found, at, nowhere, onFound, sameCode, noCode, isFree, hasBin, Day, Message, Batch, Place, free, live, Batches, Known, Entry, State, placeAt, placeMessages, placeBin, batchOf}
+use Rattle.engine.specs.State.{at, onFound, sameCode, noCode, isFree, hasBin, Day, Message, Batch, Place, free, live, Batches, Known, Entry, State, placeAt, placeMessages, placeBin, batchOf}
 use Rattle.engine.specs.Replies.{Reply, repliesTo}
-use Rattle.engine.specs.Messages.{Acted, today, bin, arrived, noted, withMessage, ended, toTail, firstBatch}
+use Rattle.engine.specs.Messages.{Acted, today, bin, arrived, noted, withMessage, ended, firstBatch}
 use Rattle.engine.specs.Changes.{withLetter}
 use Rattle.engine.specs.Ending.{emptied, settledReplies, closeReplies}
-use Rattle.engine.specs.Rules.{Each, isBin, remembered, Unlike, AllUnlike, has, notedToday, liveMessages}
-use Rattle.engine.proofs.Counting.{times, times-append}
-use Rattle.engine.proofs.Seeking.{Answers, seek-answers, byFound}
+use Rattle.engine.specs.Rules.{isBin, remembered, AllUnlike, has, notedToday, liveMessages}
+use Rattle.engine.proofs.Counting.{times}
+use Rattle.engine.proofs.Seeking.{seek-answers, byFound}
 use Rattle.engine.proofs.Admitting.{Gives}
 use Rattle.engine.proofs.Lettering.{relettered-length}
 use Rattle.engine.proofs.Noting.{same-self}
 use Rattle.engine.proofs.Remembering.{reference-noted, same-code, bin-code, unlike-none}
-use Rattle.engine.proofs.Doing.{New, Start, going, begun, Joins, Did, idle, limits, letters, alone, repeats, recalls, completes, grows, rejects}
+use Rattle.engine.proofs.Doing.{New, Start, going, begun, Did, idle, limits, letters, alone, repeats, recalls, completes, grows, rejects}
 
 -- ---- live messages
 

@@ -1,12 +1,12 @@
 -- Demand 3, over any calls from a fresh start. After each call no queued batch would pass; every payer of a settled batch covered its own
 -- payment on the balances just before that batch; each balance is the day's opening balance plus credits less debits of the batches settled
 -- since; the total never changes within a day.
-use Prim.Native.Nat.{ℕ, zero, suc, _+_, _≤_, _<_}
-use mathlib.Core.Path.{_≡_, refl, sym, ap, subst, _∙_}
-use mathlib.Core.Bool.{Bool, true, false, _&&_, not, cond, false≢true}
-use mathlib.Core.List.{List, [], _∷_, _++_, map, append-nil}
+use Prim.Native.Nat.{ℕ, _+_, _<_}
+use mathlib.Core.Path.{_≡_, refl, sym, ap, _∙_}
+use mathlib.Core.Bool.{Bool, true, false, cond}
+use mathlib.Core.List.{List, [], _∷_, _++_, map}
 use native.Mathlib.Omega.{arith}
-use lib.ListN.{length, getD, replicate}
+use lib.ListN.{getD, replicate}
 use borrow.Author.Tests.{not-true}
 use Rattle.request.specs.declared.Reading.{Reading}
 use Rattle.request.specs.Request.{requestAt}
@@ -14,22 +14,22 @@ use Rattle.settle.specs.Payments.{Payment}
 use Rattle.settle.specs.Settlement.{Accounts, verdict}
 use Rattle.settle.specs.declared.Verdict.the-variants.{Passes}
 use Rattle.settle.specs.Rules.{sum}
-use Rattle.queue.specs.Promise.{True, Trail, All, Stuck, Off, Fair, limited, broughtBy, takenBy}
-use Rattle.queue.specs.Tests.{Outcome, test, fuel}
+use Rattle.queue.specs.Promise.{Trail, All, Stuck, Off, Fair, limited, broughtBy, takenBy}
+use Rattle.queue.specs.Tests.{Outcome, fuel}
 use Rattle.queue.proofs.Trail.{All-zip, test-trail, test-stuck, test-parted}
 use Rattle.queue.proofs.Balances.{trail-sum, trail-total}
 use Rattle.engine.specs.declared.Action.{Action}
 use Rattle.engine.specs.declared.Action.the-variants.{Opening, Message, SubLimit, Status, Tick, Close, ClosingBook}
 use Rattle.engine.specs.declared.Answer.{Answer}
 use Rattle.engine.specs.declared.Answer.the-variants.{Done, Refused}
-use Rattle.engine.specs.State.{Place, free, Batches, State, noBatches, placeAt, placePayments, paymentsAt}
+use Rattle.engine.specs.State.{Place, State, placePayments, paymentsAt}
 use Rattle.engine.specs.Messages.{Acted}
-use Rattle.engine.specs.Ending.{emptied, afterTest}
+use Rattle.engine.specs.Ending.{afterTest}
 use Rattle.engine.specs.Days.{opened, openingAnswer}
-use Rattle.engine.specs.Calls.{Call, Engine, Result, isOpen, rightDay, judge, begun, act, woken, tested, isClose, left, goesOn, closes, stepped, openedBy, bookGiven, performed, judged, call, cleared, run}
+use Rattle.engine.specs.Calls.{Call, Engine, isOpen, rightDay, judge, begun, act, tested, isClose, left, goesOn, closes, stepped, openedBy, performed, judged, call, cleared}
 use Rattle.engine.proofs.Agreement.{Faithful, true-acted, right-day, call-faithful, cleared-faithful}
-use Rattle.engine.proofs.Counting.{times, times-append, once-times, times-once, off-none}
-use Rattle.engine.proofs.Standing.{Stood, at-most-once, emptied-off}
+use Rattle.engine.proofs.Counting.{times-once, off-none}
+use Rattle.engine.proofs.Standing.{at-most-once, emptied-off}
 use Rattle.engine.proofs.Settling.{gone-fair, house-books}
 use Rattle.engine.proofs.Doing.{Did, idle, limits, letters, alone, repeats, recalls, completes, grows, rejects, did}
 use Rattle.engine.proofs.Keeping.{Readers, Kept, acted-stood, acted-house, fresh-kept, call-kept}

@@ -1,22 +1,18 @@
 -- What an action can do, each way with what is known where it is taken. A rule that each way keeps is kept by every action.
-use Prim.Native.Nat.{ℕ, zero, suc, _+_, _≤_, _<_}
-use mathlib.Core.Path.{_≡_, refl, sym, ap, _∙_}
+use Prim.Native.Nat.{ℕ, _≤_, _<_}
+use mathlib.Core.Path.{_≡_, refl, sym}
 use mathlib.Core.Logic.{_⊎_, inl, inr}
 use mathlib.Core.Bool.{Bool, true, false, _||_, _&&_, cond, false≢true}
-use mathlib.Core.List.{List, [], _∷_, _++_}
-use native.Mathlib.Omega.{arith}
+use mathlib.Core.List.{List, [], _∷_}
 use lib.Dec.{eqb, leb}
-use lib.ListN.{length, getD, set}
 use borrow.Author.Tests.{leb-true}
 use Rattle.chars.specs.Words.{bytes, member}
-use Rattle.chars.specs.Refusals.{numberOf}
 use Rattle.chars.specs.declared.Refusal.{Refusal}
 use Rattle.codes.specs.declared.Code.{Code}
 use Rattle.request.specs.Request.{requestAt}
 use Rattle.request.specs.declared.Outcome.{Outcome as Read}
 use Rattle.request.specs.declared.Outcome.the-variants.{Settlement, Recall, Refused as Unread}
 use Rattle.request.specs.declared.Reading.{Reading}
-use Rattle.response.specs.declared.Outcome.the-variants.{Rejected}
 use Rattle.response.specs.declared.Outcome.{Outcome}
 use Rattle.response.specs.declared.Answer.{Answer as Told}
 use Rattle.queue.specs.Promise.{limited}
@@ -24,10 +20,10 @@ use Rattle.engine.specs.declared.Action.{Action}
 use Rattle.engine.specs.declared.Action.the-variants.{Opening, Message, SubLimit, Status, Tick, Close, ClosingBook}
 use Rattle.engine.specs.declared.Answer.{Answer}
 use Rattle.engine.specs.declared.Answer.the-variants.{Done, Refused}
-use Rattle.engine.specs.State.{Found, at, nowhere, onFound, seek, isFree, hasBin, Batch, Place, free, live, onLive, Batches, Known, State, placeAt, placeMessages, paymentsAt, withPlace}
+use Rattle.engine.specs.State.{Found, at, nowhere, onFound, seek, isFree, Batch, Place, free, live, onLive, Batches, Known, State, placeAt, placeMessages, paymentsAt, withPlace}
 use Rattle.engine.specs.Memory.{isUsed, vacant}
 use Rattle.engine.specs.Replies.{Reply, settlement, recall, repliesTo}
-use Rattle.engine.specs.Messages.{today, reference, bin, streamCode, isKnown, firstBatch, withBin, assembling, waiting, isThere, referenceFits, binFits, noted, streamPlace, administrator, bankPlace, Acted, Waking, bank, place, leaving, rejecting, ended, toTail, isComplete, isEven, completed, firstBroken, messageRules, admitted, admit, withMessage, settling, recalling, housed, repeated, sent, received, message}
+use Rattle.engine.specs.Messages.{today, reference, bin, streamCode, isKnown, firstBatch, withBin, assembling, waiting, isThere, referenceFits, binFits, noted, streamPlace, administrator, bankPlace, Acted, bank, place, leaving, rejecting, ended, toTail, isComplete, isEven, completed, firstBroken, messageRules, admitted, admit, withMessage, settling, recalling, housed, repeated, sent, received, message}
 use Rattle.engine.specs.Changes.{subLimit, hasDebit, withLetter, status}
 use Rattle.engine.specs.Calls.{act}
 use Rattle.engine.proofs.Seeking.{Answers, seek-answers, bank-below, Assembling, Waiting, is-assembling, is-waiting}

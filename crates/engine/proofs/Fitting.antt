@@ -1,12 +1,12 @@
 -- The texts of a call fit: at most 321 of them, each of at most 105 bytes.
-use Prim.Native.Nat.{ℕ, zero, suc, _+_, _*_, _≤_, _<_}
-use mathlib.Core.Path.{_≡_, refl, sym, ap, subst, _∙_}
-use mathlib.Core.Bool.{Bool, true, false, _||_, _&&_, not, cond, false≢true}
-use mathlib.Core.List.{List, [], _∷_, _++_}
+use Prim.Native.Nat.{ℕ, suc, _+_, _*_, _≤_}
+use mathlib.Core.Path.{_≡_, refl, sym, ap, _∙_}
+use mathlib.Core.Bool.{true, false, _&&_, false≢true}
+use mathlib.Core.List.{List, [], _∷_}
 use native.Mathlib.Omega.{arith}
-use lib.Dec.{eqb, leb}
+use lib.Dec.{eqb}
 use lib.ListN.{length, getD, take, drop, length-append}
-use borrow.Author.Tests.{eqb-true, leb-true}
+use borrow.Author.Tests.{eqb-true}
 use Rattle.chars.specs.Chars.{isCode, isDigit}
 use Rattle.chars.specs.Refusals.{numberOf}
 use Rattle.chars.specs.declared.Refusal.the-variants.{Unsettled}
@@ -14,20 +14,19 @@ use Rattle.codes.specs.Codes.{named, spelled, longText}
 use Rattle.codes.specs.declared.Code.{Code}
 use Rattle.codes.proofs.Laws.{spelled-length}
 use Rattle.dates.specs.Dates.{isRemembered}
-use Rattle.request.specs.Request.{requestAt}
 use Rattle.request.specs.declared.Reading.{Reading}
-use Rattle.response.specs.Texts.{outcomeText, answerText, rejectedText, settlementText, recallText}
+use Rattle.response.specs.Texts.{outcomeText, answerText}
 use Rattle.response.specs.declared.Outcome.{Outcome}
 use Rattle.response.specs.declared.Outcome.the-variants.{Settled, Rejected}
 use Rattle.response.specs.declared.Answer.{Answer as Told}
 use Rattle.response.specs.declared.Answer.the-variants.{Recalled, Kept as Stays}
 use Rattle.response.proofs.Laws.{settled-length, rejected-length, settlement-length, recall-length}
 use Rattle.queue.proofs.MemoryLaws.{byBool}
-use Rattle.engine.specs.State.{Found, at, nowhere, onFound, hasBin, Day, Message, Batch, Place, free, live, Batches, Known, Entry, State, placeAt, placeMessages, placeBin, batchOf}
+use Rattle.engine.specs.State.{hasBin, Day, Message, Place, free, Batches, Entry, State, placeAt, placeMessages, placeBin, batchOf}
 use Rattle.engine.specs.Replies.{Reply, settlement, recall, streamOf, repliesTo, textOf, textsFrom}
 use Rattle.engine.specs.Messages.{Acted, withMessage, bin}
 use Rattle.engine.specs.Ending.{settledReplies, closeReplies}
-use Rattle.engine.specs.Rules.{Each, allAre, isWhole, isBin, RightBatch, liveMessages}
+use Rattle.engine.specs.Rules.{Each, allAre, isWhole, isBin, liveMessages}
 use Rattle.engine.proofs.Seeking.{Answers, seek-answers, byFound}
 use Rattle.engine.proofs.Noting.{and-true}
 use Rattle.engine.proofs.Standing.{Standing, vacant, building, awaits, stands, Stood}

@@ -1,23 +1,23 @@
 -- The quick test's memory: what it holds is of a queued batch, a bank with a debit there. Every call keeps that.
 use Prim.Native.Nat.{ℕ, zero, suc, _+_, _≤_, _<_}
-use mathlib.Core.Path.{_≡_, refl, sym, ap, subst, _∙_}
+use mathlib.Core.Path.{_≡_, refl, sym, ap, _∙_}
 use mathlib.Core.Bool.{Bool, true, false, _||_, not, cond, false≢true}
-use mathlib.Core.List.{List, [], _∷_, _++_, map}
+use mathlib.Core.List.{List, [], _∷_, map}
 use native.Mathlib.Omega.{arith}
 use lib.Dec.{eqb}
 use lib.ListN.{length, getD, set, length-set, length-map, List·getD-map}
-use lib.Seq.{getD-set-other, getD-set-same}
+use lib.Seq.{getD-set-other}
 use borrow.Author.Tests.{eqb-true, eqb-false, eq-eqb}
 use Rattle.chars.specs.Words.{member}
 use Rattle.request.specs.Request.{requestAt}
 use Rattle.request.specs.declared.Reading.{Reading}
 use Rattle.settle.specs.Payments.{Payment, credit, debit, needsOf}
-use Rattle.settle.specs.Settlement.{Accounts, isCovered, firstUncovered, verdict}
-use Rattle.settle.specs.declared.Verdict.the-variants.{Passes, Stops}
+use Rattle.settle.specs.Settlement.{Accounts, isCovered, firstUncovered}
+use Rattle.settle.specs.declared.Verdict.the-variants.{Stops}
 use Rattle.queue.specs.Memory.{wake}
 use Rattle.queue.specs.Promise.{All}
 use Rattle.queue.specs.Day.{forgotten}
-use Rattle.queue.specs.Tests.{Turn, Outcome, some, remember, turn, settle, walk, test, fuel}
+use Rattle.queue.specs.Tests.{Outcome, some, remember, settle, walk, test, fuel}
 use Rattle.queue.proofs.MemoryLaws.{byBool, wake-yes, wake-no}
 use Rattle.queue.proofs.Steps.{byTurn, walk-memory, test-stop, test-more}
 use Rattle.queue.proofs.Trail.{walk-each}
@@ -27,19 +27,19 @@ use Rattle.engine.specs.declared.Action.{Action}
 use Rattle.engine.specs.declared.Action.the-variants.{Opening, Message, SubLimit, Status, Tick, Close, ClosingBook}
 use Rattle.engine.specs.declared.Answer.{Answer}
 use Rattle.engine.specs.declared.Answer.the-variants.{Done, Refused}
-use Rattle.engine.specs.State.{Place, free, live, Batches, Known, Batch, State, noBatches, noMemory, placeAt, placePayments, paymentsAt}
+use Rattle.engine.specs.State.{Place, free, Batches, Known, Batch, State, noBatches, noMemory, placePayments, paymentsAt}
 use Rattle.engine.specs.Joining.{keep, byTime, time, isDue, join}
 use Rattle.engine.specs.Messages.{Acted, Waking, bank, place, ended, toTail, mayQueue, withMessage}
 use Rattle.engine.specs.Changes.{hasDebit}
 use Rattle.engine.specs.Ending.{emptied, afterTest}
 use Rattle.engine.specs.Days.{openingAnswer, opened}
-use Rattle.engine.specs.Calls.{Call, Engine, Result, judge, begun, act, woken, tested, isClose, left, goesOn, closes, stepped, openedBy, bookGiven, performed, judged, call, cleared, run}
+use Rattle.engine.specs.Calls.{Call, Engine, judge, begun, act, woken, tested, isClose, left, goesOn, closes, stepped, openedBy, performed, judged, call, cleared, run}
 use Rattle.engine.specs.Rules.{Each, RightMemory}
-use Rattle.engine.proofs.Moved.{Beside, Moved, still, one, sub, moved}
-use Rattle.engine.proofs.Counting.{times, times-append, times-kept, no-member, a-member, times-all, times-other}
+use Rattle.engine.proofs.Moved.{Moved, still, one, sub, moved}
+use Rattle.engine.proofs.Counting.{times, times-append, times-kept, no-member, a-member, times-all}
 use Rattle.engine.proofs.Standing.{emptied-off}
 use Rattle.engine.proofs.Settling.{test-times}
-use Rattle.engine.proofs.Doing.{Start, going, begun as begins, Joins, Did, idle, limits, letters, alone, repeats, recalls, completes, grows, rejects, did}
+use Rattle.engine.proofs.Doing.{Start, going, begun as begins, Did, idle, limits, letters, alone, repeats, recalls, completes, grows, rejects, did}
 
 -- what is held: of a place in q, a bank with a debit there
 abbrev pub Holds : List ℕ → (ℕ → List Payment) → List ℕ → Type 0

@@ -1,31 +1,26 @@
 -- Every call keeps the rules of the batch places and of the house, from a fresh start on.
-use Prim.Native.Nat.{ℕ, zero, suc, _+_, _≤_, _<_}
-use mathlib.Core.Path.{_≡_, refl, sym, ap, subst, _∙_}
-use mathlib.Core.Bool.{Bool, true, false, _&&_, not, cond, false≢true}
-use mathlib.Core.List.{List, [], _∷_, _++_}
+use Prim.Native.Nat.{ℕ, zero, suc, _≤_, _<_}
+use mathlib.Core.Path.{_≡_, refl, sym, _∙_}
+use mathlib.Core.Bool.{Bool, true, false, cond, false≢true}
+use mathlib.Core.List.{List}
 use native.Mathlib.Omega.{arith}
 use lib.ListN.{length, replicate}
 use borrow.Author.Tests.{not-true}
-use Rattle.chars.specs.declared.Refusal.{Refusal}
 use Rattle.request.specs.Request.{requestAt}
 use Rattle.book.specs.Book.{bookCheck}
 use Rattle.book.specs.Accounts.{dayIn, streamsIn, banksIn}
 use Rattle.book.specs.declared.Answer.{Answer as Check}
 use Rattle.book.specs.declared.Answer.the-variants.{Sound, Fault}
 use Rattle.book.specs.declared.Field.the-variants.{Code, Flags, Balance, Limit}
-use Rattle.settle.specs.Rules.{sum}
 use Rattle.queue.specs.Tests.{Outcome, fuel}
-use Rattle.engine.specs.declared.Phase.{Phase}
-use Rattle.engine.specs.declared.Phase.the-variants.{Fresh, Open, Closed}
 use Rattle.engine.specs.declared.Action.{Action}
 use Rattle.engine.specs.declared.Action.the-variants.{Opening, Message, SubLimit, Status, Tick, Close, ClosingBook}
 use Rattle.engine.specs.declared.Answer.{Answer}
 use Rattle.engine.specs.declared.Answer.the-variants.{Done, Refused}
-use Rattle.engine.specs.State.{House, Batches, State, fresh, noBatches, paymentsAt}
+use Rattle.engine.specs.State.{State, fresh, noBatches, paymentsAt}
 use Rattle.engine.specs.Messages.{Acted}
-use Rattle.engine.specs.Joining.{join}
-use Rattle.engine.specs.Days.{columnOf, opened, isLater, checked, openingAnswer}
-use Rattle.engine.specs.Calls.{Call, Engine, Result, isOpen, rightDay, judge, begun, act, tested, isClose, left, goesOn, closes, stepped, openedBy, bookGiven, performed, judged, call, cleared}
+use Rattle.engine.specs.Days.{columnOf, opened, checked, openingAnswer}
+use Rattle.engine.specs.Calls.{Call, Engine, isOpen, rightDay, judge, begun, act, tested, isClose, left, goesOn, closes, stepped, openedBy, performed, judged, call}
 use Rattle.engine.specs.Rules.{Each, RightHouse, RightBatches}
 use Rattle.engine.proofs.Agreement.{right-day}
 use Rattle.engine.proofs.Admitting.{Gives}

@@ -1,5 +1,5 @@
 -- A status change leaves a right batch: only the ESA letter of a debit is another.
-use Prim.Native.Nat.{ℕ, zero, suc, _+_, _*_, _/_, _%_, _≤_, _<_}
+use Prim.Native.Nat.{ℕ, suc, _+_, _*_, _/_, _%_, _<_}
 use mathlib.Core.Path.{_≡_, refl, sym, ap, _∙_}
 use mathlib.Core.Bool.{Bool, true, false, _||_, _&&_, cond, false≢true}
 use mathlib.Core.List.{List, [], _∷_, _++_}
@@ -15,7 +15,7 @@ use Rattle.settle.specs.Rules.{Apart, Distinct, credits, debits}
 use Rattle.queue.specs.Day.{relabel}
 use Rattle.queue.specs.Day.{relettered as newLetters}
 use Rattle.queue.proofs.MemoryLaws.{byBool}
-use Rattle.engine.specs.State.{Message, Batch, Place, free, live, paymentsOf}
+use Rattle.engine.specs.State.{Message, Batch, Place, paymentsOf}
 use Rattle.engine.specs.Changes.{relettered, withLetter}
 use Rattle.engine.specs.Rules.{Each, areLetters, Priced, Lettered, numbers, RightMessage, RightBatch, Complete}
 use Rattle.engine.proofs.Standing.{Standing, vacant, building, awaits, stands}

@@ -1,22 +1,22 @@
 -- Remembered references and BINs: a new entry in the lowest free place keeps the rules.
 use Prim.Native.Nat.{ℕ, zero, suc, _+_, _-_, _≤_, _<_}
-use mathlib.Core.Path.{_≡_, refl, sym, ap, subst, _∙_}
-use mathlib.Core.Logic.{_⊎_, inl, inr}
-use mathlib.Core.Bool.{Bool, true, false, _||_, _&&_, not, cond, false≢true}
+use mathlib.Core.Path.{_≡_, refl, sym, subst, _∙_}
+use mathlib.Core.Logic.{inl, inr}
+use mathlib.Core.Bool.{Bool, true, false, _||_, _&&_, not, false≢true}
 use mathlib.Core.List.{List, [], _∷_}
 use native.Mathlib.Omega.{arith}
-use lib.Dec.{eqb, leb, ltb}
+use lib.Dec.{eqb, leb}
 use lib.ListN.{length, getD, set, length-set}
 use borrow.Author.Tests.{eqb-true, eqb-false, eq-eqb, ne-eqb, leb-true, le-leb}
 use Rattle.codes.specs.declared.Code.{Code}
 use Rattle.dates.specs.Dates.{isRemembered}
 use Rattle.queue.proofs.MemoryLaws.{byBool}
-use Rattle.engine.specs.State.{Found, at, nowhere, onFound, sameCode, noCode, noEntry, Entry, State}
+use Rattle.engine.specs.State.{at, sameCode, noCode, noEntry, Entry, State}
 use Rattle.engine.specs.Memory.{holds, isUsed, isVacant, vacant, note}
 use Rattle.engine.specs.Messages.{isThere}
 use Rattle.request.specs.declared.Reading.{Reading}
 use Rattle.engine.specs.Rules.{Each, RightEntry, remembered, Unlike, AllUnlike, has, notedToday}
-use Rattle.engine.proofs.Seeking.{Answers, seek-answers, byFound, or-false}
+use Rattle.engine.proofs.Seeking.{seek-answers, byFound, or-false}
 
 -- ---- codes
 

@@ -1,30 +1,28 @@
 -- "Only a noted message is answered by a text": each reply of a call is to a reference that is remembered when the call ends.
-use Prim.Native.Nat.{ℕ, zero, suc, _+_, _≤_, _<_}
-use mathlib.Core.Path.{_≡_, refl, sym, ap, subst, _∙_}
-use mathlib.Core.Bool.{Bool, true, false, cond, false≢true}
-use mathlib.Core.List.{List, [], _∷_, _++_}
-use lib.ListN.{length, getD, set, replicate}
+use Prim.Native.Nat.{ℕ, zero, suc}
+use mathlib.Core.Path.{_≡_, refl, subst}
+use mathlib.Core.Bool.{true}
+use mathlib.Core.List.{List, [], _∷_}
+use lib.ListN.{getD, set}
 use Rattle.codes.specs.declared.Code.{Code}
 use Rattle.dates.specs.Dates.{isRemembered}
-use Rattle.request.specs.Request.{requestAt}
 use Rattle.request.specs.declared.Reading.{Reading}
 use Rattle.chars.specs.Refusals.{numberOf}
 use Rattle.chars.specs.declared.Refusal.the-variants.{Unsettled}
 use Rattle.response.specs.declared.Outcome.{Outcome}
 use Rattle.response.specs.declared.Outcome.the-variants.{Settled, Rejected}
 use Rattle.queue.proofs.MemoryLaws.{byBool}
-use Rattle.engine.specs.State.{Day, Message, Batch, Place, free, live, Batches, Known, Entry, State, noBatches, placeAt, placeMessages, placeBin, batchOf}
-use Rattle.engine.specs.Replies.{Reply, settlement, recall, repliesTo, textsFrom}
-use Rattle.engine.specs.Joining.{join}
+use Rattle.engine.specs.State.{Day, Message, Batch, Place, free, live, Batches, Known, Entry, State, placeAt, placeMessages, placeBin, batchOf}
+use Rattle.engine.specs.Replies.{Reply, settlement, recall, repliesTo}
 use Rattle.engine.specs.Messages.{Acted, today, reference, bin, arrived, firstBatch, noted, ended, withMessage}
 use Rattle.engine.specs.Changes.{relettered, withLetter}
-use Rattle.engine.specs.Ending.{emptied, afterTest, settledReplies, closeReplies}
+use Rattle.engine.specs.Ending.{emptied, settledReplies, closeReplies}
 use Rattle.engine.specs.Rules.{Each, remembered, has}
 use Rattle.engine.proofs.Seeking.{byFound}
 use Rattle.engine.proofs.Settling.{each-append}
 use Rattle.engine.proofs.Admitting.{Gives, each-last}
 use Rattle.engine.proofs.Remembering.{reference-noted}
-use Rattle.engine.proofs.Doing.{New, Alone, refuses, answers, Start, going, begun, Joins, Did, idle, limits, letters, alone, repeats, recalls, completes, grows, rejects}
+use Rattle.engine.proofs.Doing.{New, Alone, refuses, answers, Start, going, begun, Did, idle, limits, letters, alone, repeats, recalls, completes, grows, rejects}
 
 -- the reference that a reply is to
 abbrev pub replyTo : Reply → Code

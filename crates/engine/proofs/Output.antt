@@ -1,6 +1,6 @@
 -- The output never needs more than 33,705 bytes; a closing book no more than its own length.
-use Prim.Native.Nat.{ℕ, _+_, _*_, _≤_, _<_}
-use mathlib.Core.Path.{_≡_, refl, sym, ap, _∙_}
+use Prim.Native.Nat.{_+_, _≤_}
+use mathlib.Core.Path.{_≡_, refl}
 use mathlib.Core.Bool.{Bool, true, false, cond}
 use mathlib.Core.List.{List, [], _∷_, _++_}
 use native.Mathlib.Omega.{arith}
@@ -12,18 +12,16 @@ use Rattle.engine.specs.declared.Action.the-variants.{Opening, Message, 
 use Rattle.engine.specs.declared.Answer.{Answer}
 use Rattle.engine.specs.declared.Answer.the-variants.{Done, Refused}
 use Rattle.engine.specs.State.{State}
-use Rattle.engine.specs.Replies.{Reply, textsFrom}
 use Rattle.engine.specs.Messages.{Acted}
 use Rattle.engine.specs.Ending.{settledReplies}
 use Rattle.engine.specs.Days.{openingAnswer}
-use Rattle.engine.specs.Calls.{Call, Engine, Result, isOpen, rightDay, roomNeeded, judge, begun, act, tested, isClose, replies, left, lastReplies, goesOn, closes, stepped, openedBy, bookGiven, performed, judged, call, cleared, run}
-use Rattle.engine.specs.Rules.{Each, Opened, Valid, liveMessages}
+use Rattle.engine.specs.Calls.{Call, Engine, rightDay, roomNeeded, judge, begun, act, tested, isClose, replies, left, lastReplies, goesOn, closes, stepped, openedBy, performed, judged, call, cleared}
+use Rattle.engine.specs.Rules.{Each, Opened, Valid}
 use Rattle.engine.proofs.Agreement.{right-day}
 use Rattle.engine.proofs.Doing.{did}
 use Rattle.engine.proofs.Settling.{each-append}
 use Rattle.engine.proofs.Keeping.{Readers, begun-stood, acted-stood, tested-stood}
 use Rattle.engine.proofs.Fitting.{Fits, texts-fit, acted-fit, settled-fit, close-fit, few-messages}
-use Rattle.engine.proofs.Answering.{Counted}
 use Rattle.engine.proofs.Validity.{k, open-in, acted-counted, left-answered, close-answered, call-valid}
 
 module _ (readers : Readers) (e : Engine) (c : Call) (v : Valid (e .state)) where

@@ -1,11 +1,11 @@
 -- Every action keeps the rules of the batch places and of the house.
-use Prim.Native.Nat.{ℕ, zero, suc, _+_, _≤_, _<_}
-use mathlib.Core.Path.{_≡_, refl, sym, ap, _∙_}
-use mathlib.Core.Bool.{Bool, true, false, cond, false≢true}
-use mathlib.Core.List.{List, [], _∷_, _++_}
+use Prim.Native.Nat.{ℕ, _<_}
+use mathlib.Core.Path.{_≡_, refl, sym, _∙_}
+use mathlib.Core.Bool.{true, false, false≢true}
+use mathlib.Core.List.{[], _∷_}
 use native.Mathlib.Omega.{arith}
 use lib.Dec.{eqb}
-use lib.ListN.{length, getD, set, length-append, length-set}
+use lib.ListN.{length, length-append, length-set}
 use lib.Seq.{getD-set-other, getD-set-same}
 use borrow.Author.Tests.{eqb-true, eqb-false}
 use Rattle.chars.specs.Words.{bytes, member}
@@ -14,17 +14,16 @@ use Rattle.request.specs.declared.Outcome.the-variants.{Settlement}
 use Rattle.request.specs.declared.Reading.{Reading}
 use Rattle.settle.specs.Rules.{Distinct}
 use Rattle.queue.proofs.MemoryLaws.{byBool}
-use Rattle.engine.specs.declared.Answer.the-variants.{Done}
 use Rattle.engine.specs.State.{isFree, Batch, Place, free, live, Batches, Known, State, placeAt, withPlace}
-use Rattle.engine.specs.Messages.{arrived, firstBatch, Acted, ended, firstBroken, messageRules, withMessage}
+use Rattle.engine.specs.Messages.{arrived, firstBatch, Acted, ended, withMessage}
 use Rattle.engine.specs.Changes.{withLetter}
-use Rattle.engine.specs.Rules.{RightBatch, RightHouse}
+use Rattle.engine.specs.Rules.{RightHouse}
 use Rattle.engine.proofs.Seeking.{Answers, no-times, or-false, Assembling}
-use Rattle.engine.proofs.Standing.{Standing, vacant, building, awaits, stands, StandsAt, Stood, Around, alike, ended-stood, put-stood, tail-stood}
+use Rattle.engine.proofs.Standing.{Standing, vacant, building, awaits, stands, Stood, Around, alike, ended-stood, put-stood, tail-stood}
 use Rattle.engine.proofs.Admitting.{TextGives, Takes, takes, message-right}
 use Rattle.engine.proofs.Lettering.{a-status, a-byte, lettered-standing}
 use Rattle.engine.proofs.Settling.{house-limited}
-use Rattle.engine.proofs.Doing.{Start, going, begun, Joins, Did, idle, limits, letters, alone, repeats, recalls, completes, grows, rejects}
+use Rattle.engine.proofs.Doing.{Start, going, begun, Did, idle, limits, letters, alone, repeats, recalls, completes, grows, rejects}
 
 module _ (s : State) (h : Stood (s .house .banks) (s .batches)) where
   ends : (p : ℕ) → Stood (s .house .banks) (ended (s .batches) p)

@@ -1,15 +1,15 @@
 -- "Nothing changed": a call that comes at the wrong moment (05) or with too little room (07), and a book that is refused (11 to 15, 05).
 use Prim.Native.Nat.{ℕ}
-use mathlib.Core.Path.{_≡_, refl, sym, ap, subst, _∙_}
-use mathlib.Core.List.{List, [], _∷_}
+use mathlib.Core.Path.{_≡_, ap, subst, _∙_}
+use mathlib.Core.List.{[]}
 use native.Mathlib.Omega.{arith}
 use Rattle.chars.specs.declared.Refusal.{Refusal}
 use Rattle.engine.specs.declared.Action.{Action}
-use Rattle.engine.specs.declared.Action.the-variants.{Opening, ClosingBook}
+use Rattle.engine.specs.declared.Action.the-variants.{Opening}
 use Rattle.engine.specs.declared.Answer.{Answer}
 use Rattle.engine.specs.declared.Answer.the-variants.{Done, Refused}
 use Rattle.engine.specs.Days.{openingAnswer}
-use Rattle.engine.specs.Calls.{Call, Engine, Result, judge, refused, openedBy, bookGiven, performed, judged, call}
+use Rattle.engine.specs.Calls.{Call, Engine, judge, refused, openedBy, performed, judged, call}
 
 -- 05 and 07: no table, no byte, no try
 pub refusals-change-nothing : (e : Engine) (c : Call) (r : Refusal) → judge (e .state) c ≡ Refused r → call e c ≡ refused e r

@@ -1,12 +1,12 @@
 -- Every action keeps the rules of references and BINs, and of live BINs.
-use Prim.Native.Nat.{ℕ, zero, suc, _+_, _≤_, _<_}
-use mathlib.Core.Path.{_≡_, refl, sym, ap, subst, _∙_}
+use Prim.Native.Nat.{ℕ}
+use mathlib.Core.Path.{_≡_, refl, sym, ap, _∙_}
 use mathlib.Core.Logic.{_⊎_, inl, inr}
-use mathlib.Core.Bool.{Bool, true, false, _||_, _&&_, not, cond, false≢true}
+use mathlib.Core.Bool.{Bool, true, false, false≢true}
 use mathlib.Core.List.{List, [], _∷_}
 use native.Mathlib.Omega.{arith}
 use lib.Dec.{eqb}
-use lib.ListN.{length, getD, set, replicate}
+use lib.ListN.{getD, set}
 use lib.Seq.{getD-set-same}
 use borrow.Author.Tests.{eqb-true}
 use Rattle.codes.specs.Codes.{unpacked, named, spelled, longText, longOf, packOn}
@@ -14,15 +14,15 @@ use Rattle.codes.specs.declared.Code.{Code}
 use Rattle.request.specs.declared.Outcome.the-variants.{Settlement, Recall}
 use Rattle.request.specs.declared.Reading.{Reading}
 use Rattle.queue.proofs.MemoryLaws.{byBool}
-use Rattle.engine.specs.State.{sameCode, noCode, Batch, Place, free, live, Batches, Known, State, placeAt, Entry}
-use Rattle.engine.specs.Messages.{Acted, today, reference, bin, noted, withBin, withMessage, ended, toTail, firstBatch}
+use Rattle.engine.specs.State.{sameCode, noCode, Batch, Place, free, live, Batches, Known, State, placeAt}
+use Rattle.engine.specs.Messages.{Acted, today, reference, bin, noted, withMessage, ended, firstBatch}
 use Rattle.engine.specs.Changes.{withLetter}
 use Rattle.engine.specs.Ending.{emptied}
-use Rattle.engine.specs.Rules.{Each, isReference, isBin, RightKnown, remembered, Unlike, AllUnlike, has}
-use Rattle.engine.proofs.Admitting.{TextGives, Gives}
-use Rattle.engine.proofs.Noting.{same-self, same-sym, and-true, unlike-used, Noted}
+use Rattle.engine.specs.Rules.{isReference, isBin, RightKnown, remembered, Unlike, has}
+use Rattle.engine.proofs.Admitting.{Gives}
+use Rattle.engine.proofs.Noting.{and-true, unlike-used, Noted}
 use Rattle.engine.proofs.Noting.{noted as note-keeps}
-use Rattle.engine.proofs.Bins.{LiveWith, Binned, binned-more, binned-less, binned-same, binned-new}
+use Rattle.engine.proofs.Bins.{LiveWith, Binned, binned-more, binned-same, binned-new}
 use Rattle.engine.proofs.Doing.{New, Start, going, begun, Joins, Did, idle, limits, letters, alone, repeats, recalls, completes, grows, rejects}
 
 -- ---- a right reference or BIN is a code

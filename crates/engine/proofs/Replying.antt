@@ -1,9 +1,9 @@
 -- The texts of a call, and to whom: over any calls from a fresh start each text answers a reference that is remembered.
 use Prim.Native.Nat.{ℕ, zero, suc, _+_}
-use mathlib.Core.Path.{_≡_, refl, sym, ap, subst, _∙_}
-use mathlib.Core.Bool.{Bool, true, false, cond, false≢true}
+use mathlib.Core.Path.{_≡_, refl}
+use mathlib.Core.Bool.{Bool, true, false, cond}
 use mathlib.Core.List.{List, [], _∷_, _++_}
-use lib.ListN.{getD, replicate}
+use lib.ListN.{replicate}
 use borrow.Author.Tests.{not-true}
 use Rattle.codes.specs.declared.Code.{Code}
 use Rattle.request.specs.Request.{requestAt}
@@ -12,13 +12,13 @@ use Rattle.engine.specs.declared.Action.{Action}
 use Rattle.engine.specs.declared.Action.the-variants.{Opening, Message, SubLimit, Status, Tick, Close, ClosingBook}
 use Rattle.engine.specs.declared.Answer.{Answer}
 use Rattle.engine.specs.declared.Answer.the-variants.{Done, Refused}
-use Rattle.engine.specs.State.{Place, free, Batches, State, noBatches, placeMessages}
+use Rattle.engine.specs.State.{free, State}
 use Rattle.engine.specs.Replies.{Reply, textsFrom}
 use Rattle.engine.specs.Joining.{join}
 use Rattle.engine.specs.Messages.{Acted, today}
 use Rattle.engine.specs.Ending.{afterTest, settledReplies}
 use Rattle.engine.specs.Days.{openingAnswer, opened, closingText}
-use Rattle.engine.specs.Calls.{Call, Engine, Result, isOpen, rightDay, judge, begun, act, tested, isClose, replies, left, lastReplies, goesOn, closes, stepped, openedBy, bookGiven, performed, judged, call, cleared}
+use Rattle.engine.specs.Calls.{Call, Engine, isOpen, rightDay, judge, begun, isClose, replies, left, lastReplies, goesOn, closes, stepped, openedBy, performed, judged, call, cleared}
 use Rattle.engine.specs.Rules.{remembered, has}
 use Rattle.engine.proofs.Agreement.{right-day}
 use Rattle.engine.proofs.Settling.{each-append}

@@ -1,19 +1,16 @@
 -- What is found: laws of seeking and of small lists.
 use Prim.Native.Nat.{ℕ, zero, suc, _+_, _≤_, _<_}
-use mathlib.Core.Path.{_≡_, refl, sym, ap, _∙_}
-use mathlib.Core.Bool.{Bool, true, false, _||_, cond, false≢true}
-use mathlib.Core.List.{List, [], _∷_, _++_}
+use mathlib.Core.Path.{_≡_, refl, sym, _∙_}
+use mathlib.Core.Bool.{Bool, true, false, _||_, false≢true}
+use mathlib.Core.List.{List, [], _∷_}
 use native.Mathlib.Omega.{arith}
-use native.Mathlib.Numerals.{add-one}
 use lib.Dec.{eqb}
 use lib.ListN.{length, getD, take}
-use borrow.Author.Tests.{eqb-true}
 use Rattle.chars.specs.Words.{member}
 use Rattle.queue.proofs.MemoryLaws.{byBool}
 use Rattle.codes.specs.declared.Code.{Code}
-use Rattle.engine.specs.State.{Found, at, nowhere, onFound, seekFrom, seek, House, Place, free, live, Batches, hasBin, placeAt, batchOf}
+use Rattle.engine.specs.State.{Found, at, nowhere, seekFrom, seek, House, free, Batches, hasBin, batchOf}
 use Rattle.engine.specs.Messages.{bankPlace, waits, assembling, waiting}
-use Rattle.engine.specs.Rules.{Each}
 use Rattle.engine.proofs.Counting.{times, a-member}
 
 pub byFound {ℓ} : {X : Type ℓ} (f : Found) → ((p : ℕ) → f ≡ at p → X) → (f ≡ nowhere → X) → X

@@ -1,25 +1,24 @@
 -- What the queue test does to the batch places and to the accounts.
 use Prim.Native.Nat.{ℕ, zero, suc, _+_, _-_, _≤_, _<_}
-use mathlib.Core.Path.{_≡_, refl, sym, ap, subst, _∙_}
-use mathlib.Core.Bool.{Bool, true, false, _||_, cond, false≢true}
-use mathlib.Core.List.{List, [], _∷_, _++_, append-nil}
+use mathlib.Core.Path.{_≡_, refl, ap, _∙_}
+use mathlib.Core.Bool.{Bool}
+use mathlib.Core.List.{List, [], _∷_, _++_}
 use native.Mathlib.Omega.{arith}
-use lib.Dec.{eqb}
-use lib.ListN.{length, getD, set, take, drop, length-set}
+use lib.ListN.{length, getD, set, drop, length-set}
 use lib.Seq.{getD-set-other, drop-set-lt}
-use Rattle.settle.specs.Payments.{Payment, credit, debit, bankOf, centsOf}
-use Rattle.settle.specs.Settlement.{Accounts, accounts, paid, settled}
-use Rattle.settle.specs.Rules.{sum, credits, debits, Ranged, Distinct, Books}
+use Rattle.settle.specs.Payments.{Payment, credit, debit}
+use Rattle.settle.specs.Settlement.{Accounts, paid, settled}
+use Rattle.settle.specs.Rules.{Ranged, Books}
 use Rattle.queue.specs.Promise.{All, Trail, halt, pass, Fair, limited}
-use Rattle.queue.specs.Tests.{Turn, Outcome, stays, leaves, some, turn, settle, walk, test, fuel}
+use Rattle.queue.specs.Tests.{Turn, Outcome, stays, leaves, some, turn, walk, test, fuel}
 use Rattle.queue.specs.declared.Step.{Step}
 use Rattle.queue.specs.declared.Step.the-variants.{Omitted, Failed, Passed}
 use Rattle.queue.proofs.MemoryLaws.{byBool}
 use Rattle.queue.proofs.Steps.{test-stop, test-more}
 use Rattle.queue.proofs.Trail.{test-trail, test-each}
 use Rattle.queue.proofs.Balances.{trail-length, trail-limits, trail-total}
-use Rattle.engine.specs.State.{House, Message, Batch, Place, free, live, Batches, placePayments, placeAt, paymentsAt, paymentsOf}
-use Rattle.engine.specs.Rules.{Each, Priced, RightMessage, RightBatch, Complete, RightHouse}
+use Rattle.engine.specs.State.{House, Message, Place, Batches, placePayments, paymentsAt, paymentsOf}
+use Rattle.engine.specs.Rules.{Each, Priced, RightMessage, RightHouse}
 use Rattle.engine.proofs.Counting.{times, times-append, times-all}
 use Rattle.engine.proofs.Standing.{Standing, vacant, building, awaits, stands, Stood}
 

@@ -1,9 +1,9 @@
 -- "Letting a stranger's message end another administrator's batch": a message of a sender that is not the stream's administrator leaves
 -- what a tick at its clock leaves. Only its answer differs.
 use Prim.Native.Nat.{ℕ}
-use mathlib.Core.Path.{_≡_, refl, sym, ap, _∙_}
+use mathlib.Core.Path.{_≡_, refl}
 use mathlib.Core.Bool.{Bool, true, false, cond}
-use mathlib.Core.List.{List, [], _∷_}
+use mathlib.Core.List.{[]}
 use lib.Dec.{eqb}
 use borrow.Author.Tests.{eqb-true}
 use Rattle.chars.specs.declared.Refusal.{Refusal}
@@ -18,7 +18,7 @@ use Rattle.engine.specs.declared.Answer.{Answer}
 use Rattle.engine.specs.declared.Answer.the-variants.{Done, Refused}
 use Rattle.engine.specs.State.{Found, at, nowhere, onFound, State}
 use Rattle.engine.specs.Messages.{Acted, streamCode, streamPlace, administrator, untouched, leaving, sent, received, message}
-use Rattle.engine.specs.Calls.{Call, Engine, Result, judge, begun, act, woken, tested, replies, left, goesOn, stepped, judged, call}
+use Rattle.engine.specs.Calls.{Call, Engine, Result, judge, begun, act, tested, replies, left, goesOn, stepped, judged, call}
 
 -- "sender not that stream's administrator"
 abbrev pub Stranger : State → (sender : ℕ) → Reading → Type 0

@@ -1,5 +1,8 @@
 -- A small day, by computation.
 use Prim.Native.Nat.{ℕ}
+use native.Mathlib.Omega.{arith}
+use mathlib.Core.Logic.{inl, inr}
+use Rattle.engine.proofs.Admitting.{TextGives}
 use mathlib.Core.Path.{_≡_, refl}
 use mathlib.Core.Bool.{Bool, true, false}
 use mathlib.Core.List.{List, [], _∷_, _++_}
@@ -66,3 +69,18 @@ settles : call (record { state = start; memory = noMemory }) one .out
     ≡ bytes ":20:B0000001\r\n:12:132\r\n:77E:\r\n:21:REF1\r\n:22A:PROP\r\n:119:PROP0001\r\n:451:0\r\n:13E:270203101530\r\n"
 unfolding isDigit isLetter isCode digitValue packOn shortAt longOf longAt february months daysIn isTrue dayOf minuteOf begins litAt run codesAt codeAt digits digitsAt numberAt lineEnd lineEndAt textOf forbiddenAt referenceAt numeralAt wordAt binAt numbered numbersAt dateAt timeAt sideAt hundredths amountAt countAt isStatus isFourth judgedAt lettersAt fieldAt activationAt termsAt bankAt creditAt debitAt paymentAt moreAt paymentsOn paymentsAt namedAt addressAt settlementAt recallAt messageAt requestAt unpacked named shortText spelled longText monthDay dateOf isRemembered hasBegun hhmmssOf digitsOf headText batchText settledText rejectedText settlementText recallText covered payment needsOf firstUncovered paid settled credits debits creditedBy credited wake some again omits remember tried turn walk test forgotten seekFrom isUsed vacant note repliesTo textsFrom replyText keep insert byTime join firstBroken streamPlace bankPlace ended assembling waiting linePayments lineRules messageRules completed admit settling recalling sent message emptied afterTest settledReplies closeReplies judge begun act woken tested goesOn closes left lastReplies stepped call replies
 settles = refl
+
+-- what the reader gives of this text is what the table rules ask
+text-gives : TextGives (requestAt text)
+unfolding isDigit isLetter isCode digitValue packOn shortAt longOf longAt february months daysIn isTrue dayOf minuteOf begins litAt run codesAt codeAt digits digitsAt numberAt lineEnd lineEndAt textOf forbiddenAt referenceAt numeralAt wordAt binAt numbered numbersAt dateAt timeAt sideAt hundredths amountAt countAt isStatus isFourth judgedAt lettersAt fieldAt activationAt termsAt bankAt creditAt debitAt paymentAt moreAt paymentsOn paymentsAt namedAt addressAt settlementAt recallAt messageAt requestAt longText named spelled unpacked shortText
+text-gives = record {
+  reference = refl;
+  bin = refl;
+  number = (omega arith, omega arith);
+  count = (omega arith, omega arith);
+  minute = tt;
+  some = omega arith;
+  few = omega arith;
+  money = (omega arith, (omega arith, tt));
+  letters = (inr (omega arith, refl), (inl refl, tt));
+}

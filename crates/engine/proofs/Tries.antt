@@ -1,10 +1,10 @@
 -- The try row never needs more than 528 numbers.
-use Prim.Native.Nat.{ℕ, _≤_}
+use Prim.Native.Nat.{_≤_}
 use mathlib.Core.Bool.{Bool, true, false, cond}
 use mathlib.Core.List.{List, [], _∷_}
 use native.Mathlib.Omega.{arith}
 use lib.ListN.{length}
-use Rattle.queue.specs.Tests.{Outcome, fuel}
+use Rattle.queue.specs.Tests.{Outcome}
 use Rattle.queue.proofs.Promises.{tries-fit}
 use Rattle.engine.specs.declared.Action.{Action}
 use Rattle.engine.specs.declared.Action.the-variants.{Opening, Message, SubLimit, Status, Tick, Close, ClosingBook}
@@ -13,7 +13,7 @@ use Rattle.engine.specs.declared.Answer.the-variants.{Done, Refused}
 use Rattle.engine.specs.State.{State, paymentsAt}
 use Rattle.engine.specs.Messages.{Acted}
 use Rattle.engine.specs.Days.{openingAnswer}
-use Rattle.engine.specs.Calls.{Call, Engine, Result, judge, begun, act, woken, tested, isClose, goesOn, closes, stepped, openedBy, bookGiven, performed, judged, call, cleared, run}
+use Rattle.engine.specs.Calls.{Call, Engine, judge, begun, act, woken, tested, isClose, goesOn, closes, stepped, openedBy, performed, judged, call, cleared, run}
 use Rattle.engine.specs.Rules.{Each}
 use Rattle.engine.proofs.Standing.{few-queued}
 use Rattle.engine.proofs.Keeping.{Readers, Kept, acted-stood, fresh-kept, call-kept}

@@ -1,19 +1,18 @@
 -- The table rules hold from a fresh start on: 06 never comes from the engine's own tables.
 use Prim.Native.Nat.{ℕ, zero, suc, _+_, _≤_, _<_}
-use mathlib.Core.Path.{_≡_, refl, sym, ap, subst, _∙_}
-use mathlib.Core.Logic.{_⊎_, inl, inr}
-use mathlib.Core.Bool.{Bool, true, false, _||_, _&&_, not, cond, false≢true}
-use mathlib.Core.List.{List, [], _∷_, _++_}
+use mathlib.Core.Path.{_≡_, refl, sym, ap, subst}
+use mathlib.Core.Logic.{inl}
+use mathlib.Core.Bool.{Bool, true, false, _||_, _&&_, cond, false≢true}
+use mathlib.Core.List.{List, [], _∷_}
 use native.Mathlib.Omega.{arith}
 use lib.Dec.{ltb, leb}
 use lib.ListN.{length, replicate, length-replicate, length-append}
 use borrow.Author.Tests.{not-true, ltb-true}
-use Rattle.codes.specs.declared.Code.{Code}
 use Rattle.chars.specs.declared.Refusal.{Refusal}
 use Rattle.chars.specs.declared.Refusal.the-variants.{WrongMoment, ShortBuffer}
 use Rattle.request.specs.Request.{requestAt}
 use Rattle.book.specs.Book.{bookCheck}
-use Rattle.book.specs.Accounts.{dayIn, streamsIn, banksIn}
+use Rattle.book.specs.Accounts.{dayIn, banksIn}
 use Rattle.book.specs.declared.Answer.{Answer as Check}
 use Rattle.book.specs.declared.Answer.the-variants.{Sound, Fault}
 use Rattle.queue.specs.Tests.{Outcome, fuel}
@@ -23,17 +22,16 @@ use Rattle.engine.specs.declared.Action.{Action}
 use Rattle.engine.specs.declared.Action.the-variants.{Opening, Message, SubLimit, Status, Tick, Close, ClosingBook}
 use Rattle.engine.specs.declared.Answer.{Answer}
 use Rattle.engine.specs.declared.Answer.the-variants.{Done, Refused}
-use Rattle.engine.specs.State.{Batch, Place, free, live, Batches, Entry, noEntry, State, fresh, noBatches, placeAt, paymentsAt}
-use Rattle.engine.specs.Replies.{Reply}
+use Rattle.engine.specs.State.{Batch, Place, live, noEntry, State, fresh, noBatches, paymentsAt}
 use Rattle.engine.specs.Messages.{Acted, today}
 use Rattle.engine.specs.Joining.{join}
-use Rattle.engine.specs.Ending.{afterTest, settledReplies, closeReplies}
+use Rattle.engine.specs.Ending.{afterTest, settledReplies}
 use Rattle.engine.specs.Days.{isFresh, opened, isLater, checked, openingAnswer}
-use Rattle.engine.specs.Calls.{Call, Engine, Result, isOpen, isClosed, isOpening, roomNeeded, rowsNeeded, rightClock, rightDay, judge, begun, act, woken, tested, isClose, replies, left, lastReplies, goesOn, closes, stepped, openedBy, bookGiven, performed, judged, call, cleared, run}
-use Rattle.engine.specs.Rules.{Each, RightEntry, remembered, AllUnlike, isReference, isBin, RightKnown, Opened, Idle, ValidIn, Valid, RightBatch, liveMessages, notedToday}
+use Rattle.engine.specs.Calls.{Call, Engine, isOpen, isClosed, isOpening, roomNeeded, rowsNeeded, rightDay, judge, begun, act, woken, tested, isClose, replies, left, lastReplies, goesOn, closes, stepped, openedBy, bookGiven, performed, judged, call, cleared, run}
+use Rattle.engine.specs.Rules.{Each, RightEntry, remembered, isReference, isBin, RightKnown, Opened, Idle, ValidIn, Valid, liveMessages, notedToday}
 use Rattle.engine.proofs.Agreement.{right-day}
 use Rattle.engine.proofs.Counting.{times}
-use Rattle.engine.proofs.Standing.{Standing, vacant, building, awaits, stands, Stood, stood, right, free-stood, at-most-once}
+use Rattle.engine.proofs.Standing.{Standing, vacant, building, awaits, stands, stood, right, free-stood, at-most-once}
 use Rattle.engine.proofs.Settling.{test-times}
 use Rattle.engine.proofs.Doing.{did}
 use Rattle.engine.proofs.Noting.{and-true, once-later, entries-later}
