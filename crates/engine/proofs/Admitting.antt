@@ -22,7 +22,8 @@ use Rattle.engine.specs.declared.Answer.the-variants.{Done, Refused}
 use Rattle.engine.specs.State.{at, onFound, Message, Batch, State, paymentsOf}
 use Rattle.engine.specs.Messages.{Rule, firstBroken, bankPlace, lineBank, linePayment, linePayments, lines, arrived, hasNumber, lineRules, banksIn, messageRules, withMessage}
 use Rattle.engine.specs.Rules.{Each, isReference, isBin, areLetters, Priced, Lettered, numbers, RightMinute, RightMessage, RightBatch}
-use Rattle.engine.proofs.Seeking.{byFound, bank-below, or-false}
+use Rattle.engine.proofs.Truth.{or-false}
+use Rattle.engine.proofs.Seeking.{byFound, bank-below}
 
 -- what a settlement request that was read gives: each value is one that document 01's table allows
 abbrev pub LetterWord : ℕ → Type 0

@@ -2,11 +2,11 @@
 -- take from the live messages.
 use Prim.Native.Nat.{ℕ, zero, suc, _+_, _≤_, _<_}
 use mathlib.Core.Path.{_≡_, refl, sym, ap, _∙_}
-use mathlib.Core.Bool.{Bool, true, false, _||_, _&&_, not, cond, false≢true}
+use mathlib.Core.Bool.{Bool, true, false, _&&_, not, cond, false≢true}
 use mathlib.Core.List.{List, [], _∷_, _++_}
 use native.Mathlib.Omega.{arith}
 use lib.Dec.{eqb}
-use lib.ListN.{length, getD, set, length-append}
+use lib.ListN.{length, getD, set, length-append, length-set}
 use lib.Seq.{getD-set-same, getD-set-other}
 use borrow.Author.Tests.{eqb-true, eqb-false, eq-eqb}
 use Rattle.codes.specs.declared.Code.{Code}
@@ -23,6 +23,7 @@ use Rattle.engine.specs.Messages.{Acted, today, bin, arrived, noted, wit
 use Rattle.engine.specs.Changes.{withLetter}
 use Rattle.engine.specs.Ending.{emptied, settledReplies, closeReplies}
 use Rattle.engine.specs.Rules.{isBin, remembered, AllUnlike, has, notedToday, liveMessages}
+use Rattle.engine.proofs.Truth.{or-right}
 use Rattle.engine.proofs.Counting.{times}
 use Rattle.engine.proofs.Seeking.{seek-answers, byFound}
 use Rattle.engine.proofs.Admitting.{Gives}
@@ -80,16 +81,11 @@ module _ (s : State) (r : Reading) (g : Gives r) where
   begins n (begun {p = p} a u v) =
       let ps : List Place = s .batches .places in
       record {
-        inside = rw (length-kept ps p (live (firstBatch s r))) (a .inside);
+        inside = rw (length-set ps p (live (firstBatch s r))) (a .inside);
         same = omega (arith, live-set ps p (live (firstBatch s r)) (a .inside), free-messages (getD ps p free) (a .yes));
         there = ap (λ (y : Place). length (placeMessages y)) (getD-set-same ps p (live (firstBatch s r)) free (a .inside));
         one = one-more n;
       }
-    where
-      length-kept : (l : List Place) (i : ℕ) (y : Place) → length (set l i y) ≡ length l
-      length-kept [] i y = refl
-      length-kept (z ∷ l) zero y = refl
-      length-kept (z ∷ l) (suc i) y = ap suc (length-kept l i y)
 
   -- the message is live with its batch
   lives : {b : Batches} {k : Known} {p : ℕ} {x : Batch} → Begins b k p x → liveMessages (set (b .places) p (live (withMessage s r x))) ≡ before + 1
@@ -199,11 +195,7 @@ module _ (d : Day) (now : ℕ) (b : Batches) (bins : (p : ℕ) (x : Batch) → p
   counts e = not (sameCode (e .code) noCode) && isRemembered (e .day) now
 
   has-cons : (c : Code) (e : Entry) (es : List Entry) → has c (remembered now es) ≡ true → has c (remembered now (e ∷ es)) ≡ true
-  has-cons c e es h = byBool (counts e) (λ t. rw t (right (sameCode c (e .code)) h)) (λ t. rw t h)
-    where
-      right : {v : Bool} (u : Bool) → v ≡ true → (u || v) ≡ true
-      right true k = refl
-      right false k = k
+  has-cons c e es h = byBool (counts e) (λ t. rw t (or-right (sameCode c (e .code)) (has c (remembered now es)) h)) (λ t. rw t h)
 
   -- an entry whose batch the close finds
   record Ends (e : Entry) (p : ℕ) : Type 0 where

@@ -1,8 +1,8 @@
 -- What an action can do, each way with what is known where it is taken. A rule that each way keeps is kept by every action.
 use Prim.Native.Nat.{ℕ, _≤_, _<_}
-use mathlib.Core.Path.{_≡_, refl, sym}
+use mathlib.Core.Path.{_≡_, refl}
 use mathlib.Core.Logic.{_⊎_, inl, inr}
-use mathlib.Core.Bool.{Bool, true, false, _||_, _&&_, cond, false≢true}
+use mathlib.Core.Bool.{Bool, true, false, _&&_, cond}
 use mathlib.Core.List.{List, [], _∷_}
 use lib.Dec.{eqb, leb}
 use borrow.Author.Tests.{leb-true}
@@ -26,6 +26,7 @@ use Rattle.engine.specs.Replies.{Reply, settlement, recall, repliesTo}
 use Rattle.engine.specs.Messages.{today, reference, bin, streamCode, isKnown, firstBatch, withBin, assembling, waiting, isThere, referenceFits, binFits, noted, streamPlace, administrator, bankPlace, Acted, bank, place, leaving, rejecting, ended, toTail, isComplete, isEven, completed, firstBroken, messageRules, admitted, admit, withMessage, settling, recalling, housed, repeated, sent, received, message}
 use Rattle.engine.specs.Changes.{subLimit, hasDebit, withLetter, status}
 use Rattle.engine.specs.Calls.{act}
+use Rattle.engine.proofs.Truth.{or-second, and-true}
 use Rattle.engine.proofs.Seeking.{Answers, seek-answers, bank-below, Assembling, Waiting, is-assembling, is-waiting}
 
 -- r is the text of the call, as it was read
@@ -85,14 +86,6 @@ module _ (s : State) (r : Reading) where
   by-live : {d : Acted} {k : Batch → Acted} (x : Place) → Did d → ((b : Batch) → x ≡ live b → Did (k b)) → Did (onLive x d k)
   by-live free f g = f
   by-live (live b) f g = g b refl
-
-  and-true : (x y : Bool) → (x && y) ≡ true → (x ≡ true) × (y ≡ true)
-  and-true true y h = (refl, h)
-  and-true false y h = absurd (false≢true h)
-
-  or-second : (x y : Bool) → (x || y) ≡ true → x ≡ false → y ≡ true
-  or-second true y h e = absurd (false≢true (sym e))
-  or-second false y h e = h
 
   module _ (b : Batches) (k : Known) (p : ℕ) (x : Batch) (j : Joins b k p x) where
     did-completed : (stream : ℕ) → firstBroken (messageRules s r stream x) ≡ Done → Did (completed s r b k p (withMessage s r x))

@@ -27,8 +27,8 @@ use Rattle.engine.specs.Replies.{Reply, settlement, recall, streamOf, re
 use Rattle.engine.specs.Messages.{Acted, withMessage, bin}
 use Rattle.engine.specs.Ending.{settledReplies, closeReplies}
 use Rattle.engine.specs.Rules.{Each, allAre, isWhole, isBin, liveMessages}
+use Rattle.engine.proofs.Truth.{and-true}
 use Rattle.engine.proofs.Seeking.{Answers, seek-answers, byFound}
-use Rattle.engine.proofs.Noting.{and-true}
 use Rattle.engine.proofs.Standing.{Standing, vacant, building, awaits, stands, Stood}
 use Rattle.engine.proofs.Settling.{each-append}
 use Rattle.engine.proofs.Admitting.{Gives}

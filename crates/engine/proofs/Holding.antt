@@ -1,7 +1,7 @@
 -- The quick test's memory: what it holds is of a queued batch, a bank with a debit there. Every call keeps that.
 use Prim.Native.Nat.{ℕ, zero, suc, _+_, _≤_, _<_}
 use mathlib.Core.Path.{_≡_, refl, sym, ap, _∙_}
-use mathlib.Core.Bool.{Bool, true, false, _||_, not, cond, false≢true}
+use mathlib.Core.Bool.{Bool, true, false, not, cond, false≢true}
 use mathlib.Core.List.{List, [], _∷_, map}
 use native.Mathlib.Omega.{arith}
 use lib.Dec.{eqb}
@@ -35,6 +35,7 @@ use Rattle.engine.specs.Ending.{emptied, afterTest}
 use Rattle.engine.specs.Days.{openingAnswer, opened}
 use Rattle.engine.specs.Calls.{Call, Engine, judge, begun, act, woken, tested, isClose, left, goesOn, closes, stepped, openedBy, performed, judged, call, cleared, run}
 use Rattle.engine.specs.Rules.{Each, RightMemory}
+use Rattle.engine.proofs.Truth.{or-right}
 use Rattle.engine.proofs.Moved.{Moved, still, one, sub, moved}
 use Rattle.engine.proofs.Counting.{times, times-append, times-kept, no-member, a-member, times-all}
 use Rattle.engine.proofs.Standing.{emptied-off}
@@ -71,12 +72,8 @@ module _ (quick : Bool) (batch : ℕ → List Payment) (all : List ℕ) where
   stops-debit a (credit j c ∷ ps) k h = stops-debit a ps k h
   stops-debit a (debit l j c ∷ ps) k h =
       byBool (isCovered a (record { letters = l; bank = j; cents = c }))
-      (λ e. let g : firstUncovered a (needsOf ps) ≡ Stops k = rw e at h in or-right (eqb j k) (stops-debit a ps k g))
+      (λ e. let g : firstUncovered a (needsOf ps) ≡ Stops k = rw e at h in or-right (eqb j k) (hasDebit k ps) (stops-debit a ps k g))
       (λ e. let g : Stops j ≡ Stops k = rw e at h in let i : j ≡ k = cc in rw (eq-eqb j k i))
-    where
-      or-right : {v : Bool} (u : Bool) → v ≡ true → (u || v) ≡ true
-      or-right true e = refl
-      or-right false e = e
 
   put-held : (m : List ℕ) (p k : ℕ) → Holds all batch m → 0 < times p all → hasDebit k (batch p) ≡ true → Holds all batch (set m p (suc k))
   put-held m p k h t d q j e =

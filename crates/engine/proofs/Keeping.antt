@@ -21,10 +21,10 @@ use Rattle.engine.specs.State.{State, fresh, noBatches, paymentsAt}
 use Rattle.engine.specs.Messages.{Acted}
 use Rattle.engine.specs.Days.{columnOf, opened, checked, openingAnswer}
 use Rattle.engine.specs.Calls.{Call, Engine, isOpen, rightDay, judge, begun, act, tested, isClose, left, goesOn, closes, stepped, openedBy, performed, judged, call}
-use Rattle.engine.specs.Rules.{Each, RightHouse, RightBatches}
+use Rattle.engine.specs.Rules.{Each, RightHouse}
 use Rattle.engine.proofs.Agreement.{right-day}
 use Rattle.engine.proofs.Admitting.{Gives}
-use Rattle.engine.proofs.Standing.{Stood, right, join-stood, free-stood, test-stood}
+use Rattle.engine.proofs.Standing.{Stood, join-stood, free-stood, test-stood}
 use Rattle.engine.proofs.Settling.{test-times, house-tested}
 use Rattle.engine.proofs.Doing.{did}
 use Rattle.engine.proofs.Placing.{places-kept, house-kept}
@@ -169,7 +169,3 @@ module _ (readers : Readers) (e : Engine) (c : Call) (k : Kept (e .state)) where
   pub call-kept : Kept (call e c .engine .state)
   unfolding call
   call-kept = judged-kept (judge (e .state) c) refl
-
--- the rules of the batch places, in the words of the table rules
-pub kept-batches : (s : State) → Kept s → RightBatches (s .house .banks) (s .batches)
-kept-batches s k = right (s .house .banks) (s .batches) (k .batches)

@@ -1,7 +1,7 @@
 -- A status change leaves a right batch: only the ESA letter of a debit is another.
 use Prim.Native.Nat.{ℕ, suc, _+_, _*_, _/_, _%_, _<_}
 use mathlib.Core.Path.{_≡_, refl, sym, ap, _∙_}
-use mathlib.Core.Bool.{Bool, true, false, _||_, _&&_, cond, false≢true}
+use mathlib.Core.Bool.{true, false, _&&_, cond, false≢true}
 use mathlib.Core.List.{List, [], _∷_, _++_}
 use native.Mathlib.Omega.{arith}
 use lib.Dec.{eqb}
@@ -18,13 +18,10 @@ use Rattle.queue.proofs.MemoryLaws.{byBool}
 use Rattle.engine.specs.State.{Message, Batch, Place, paymentsOf}
 use Rattle.engine.specs.Changes.{relettered, withLetter}
 use Rattle.engine.specs.Rules.{Each, areLetters, Priced, Lettered, numbers, RightMessage, RightBatch, Complete}
+use Rattle.engine.proofs.Truth.{or-right}
 use Rattle.engine.proofs.Standing.{Standing, vacant, building, awaits, stands}
 
 -- ---- the letter
-
-or-right : (x y : Bool) → y ≡ true → (x || y) ≡ true
-or-right true y e = refl
-or-right false y e = e
 
 pub a-status : (x : ℕ) → member x (bytes "ADP") ≡ true → isStatus x ≡ true
 unfolding isStatus

@@ -3,6 +3,7 @@ pub mod Moved
 pub mod Agreement
 pub mod Refusals
 pub mod Strangers
+pub mod Truth
 pub mod Counting
 pub mod Standing
 pub mod Seeking

@@ -16,13 +16,10 @@ use Rattle.engine.specs.Memory.{holds, isUsed, isVacant, vacant, note}
 use Rattle.engine.specs.Messages.{isThere}
 use Rattle.request.specs.declared.Reading.{Reading}
 use Rattle.engine.specs.Rules.{Each, RightEntry, remembered, Unlike, AllUnlike, has, notedToday}
-use Rattle.engine.proofs.Seeking.{seek-answers, byFound, or-false}
+use Rattle.engine.proofs.Truth.{or-right, or-false, and-true}
+use Rattle.engine.proofs.Seeking.{each-set, seek-answers, byFound}
 
 -- ---- codes
-
-pub and-true : (x y : Bool) → (x && y) ≡ true → (x ≡ true) × (y ≡ true)
-and-true true y h = (refl, h)
-and-true false y h = absurd (false≢true h)
 
 eqb-sym : (a b : ℕ) → eqb a b ≡ eqb b a
 eqb-sym a b = byBool (eqb a b) (λ e. e ∙ sym (eq-eqb b a (sym (eqb-true a b e)))) (λ e. e ∙ sym (ne-eqb b a (λ d. eqb-false a b e (sym d))))
@@ -49,11 +46,6 @@ free-uncounted today e h = go (sameCode (e .code) noCode) (isRemembered (e .day)
 pub today-remembered : (d : ℕ) → isRemembered d d ≡ true
 unfolding isRemembered
 today-remembered d = rw (le-leb d d (omega arith), le-leb d (d + 14) (omega arith))
-
-pub each-set : {A : Type 0} (P : A → Type 0) (l : List A) (p : ℕ) (x : A) → Each P l → P x → Each P (set l p x)
-each-set P [] p x h y = tt
-each-set P (z ∷ l) zero x h y = (y, h .1)
-each-set P (z ∷ l) (suc p) x h y = (h .0, each-set P l p x (h .1) y)
 
 -- what a new entry leaves: l is es with the code noted today
 pub record Noted (today : ℕ) (code : Code) (es l : List Entry) : Type 0 where
@@ -145,11 +137,7 @@ module _ (today : ℕ) (code : Code) (named : sameCode code noCode ≡ false) wh
       → has c (remembered today es) ≡ true → has c (remembered today (set es p new)) ≡ true
   has-set c [] p l v h = h
   has-set c (x ∷ es) zero l v h =
-      let g : has c (remembered today es) ≡ true = rw (free-uncounted today x v) at h in rw new-counts (or-either (sameCode c code) (has c (remembered today es)) _ (λ k. k) (right (sameCode c code) (has c (remembered today es)) g))
-    where
-      right : (u w : Bool) → w ≡ true → (u || w) ≡ true
-      right true w e = refl
-      right false w e = e
+      let g : has c (remembered today es) ≡ true = rw (free-uncounted today x v) at h in rw new-counts (or-right (sameCode c code) (has c (remembered today es)) g)
   has-set c (x ∷ es) (suc p) l v h =
       byBool (counts today x)
       (λ e. let g : (sameCode c (x .code) || has c (remembered today es)) ≡ true = rw e at h in
@@ -161,12 +149,8 @@ module _ (today : ℕ) (code : Code) (named : sameCode code noCode ≡ false) wh
   has-new (x ∷ es) zero l = rw new-counts (or-left (sameCode code code) _ (same-self code))
   has-new (x ∷ es) (suc p) l =
       byBool (counts today x)
-      (λ e. rw e (or-either (sameCode code (x .code)) true _ (λ k. has-new es p (omega arith)) (all-or (sameCode code (x .code)))))
+      (λ e. rw e (or-right (sameCode code (x .code)) (has code (remembered today (set es p new))) (has-new es p (omega arith))))
       (λ e. rw e (has-new es p (omega arith)))
-    where
-      all-or : (u : Bool) → (u || true) ≡ true
-      all-or true = refl
-      all-or false = refl
 
   -- ---- all of it, of the lowest free place
 

@@ -18,7 +18,8 @@ use Rattle.engine.specs.State.{isFree, Batch, Place, free, live, Batches
 use Rattle.engine.specs.Messages.{arrived, firstBatch, Acted, ended, withMessage}
 use Rattle.engine.specs.Changes.{withLetter}
 use Rattle.engine.specs.Rules.{RightHouse}
-use Rattle.engine.proofs.Seeking.{Answers, no-times, or-false, Assembling}
+use Rattle.engine.proofs.Truth.{or-false}
+use Rattle.engine.proofs.Seeking.{Answers, no-times, Assembling}
 use Rattle.engine.proofs.Standing.{Standing, vacant, building, awaits, stands, Stood, Around, alike, ended-stood, put-stood, tail-stood}
 use Rattle.engine.proofs.Admitting.{TextGives, Takes, takes, message-right}
 use Rattle.engine.proofs.Lettering.{a-status, a-byte, lettered-standing}

@@ -19,8 +19,9 @@ use Rattle.engine.specs.Messages.{Acted, today, reference, bin, noted, w
 use Rattle.engine.specs.Changes.{withLetter}
 use Rattle.engine.specs.Ending.{emptied}
 use Rattle.engine.specs.Rules.{isReference, isBin, RightKnown, remembered, Unlike, has}
+use Rattle.engine.proofs.Truth.{and-true}
 use Rattle.engine.proofs.Admitting.{Gives}
-use Rattle.engine.proofs.Noting.{and-true, unlike-used, Noted}
+use Rattle.engine.proofs.Noting.{unlike-used, Noted}
 use Rattle.engine.proofs.Noting.{noted as note-keeps}
 use Rattle.engine.proofs.Bins.{LiveWith, Binned, binned-more, binned-same, binned-new}
 use Rattle.engine.proofs.Doing.{New, Start, going, begun, Joins, Did, idle, limits, letters, alone, repeats, recalls, completes, grows, rejects}

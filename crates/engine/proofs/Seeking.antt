@@ -1,16 +1,17 @@
 -- What is found: laws of seeking and of small lists.
 use Prim.Native.Nat.{ℕ, zero, suc, _+_, _≤_, _<_}
 use mathlib.Core.Path.{_≡_, refl, sym, _∙_}
-use mathlib.Core.Bool.{Bool, true, false, _||_, false≢true}
+use mathlib.Core.Bool.{Bool, true, false, false≢true}
 use mathlib.Core.List.{List, [], _∷_}
 use native.Mathlib.Omega.{arith}
 use lib.Dec.{eqb}
-use lib.ListN.{length, getD, take}
+use lib.ListN.{set, length, getD, take}
 use Rattle.chars.specs.Words.{member}
 use Rattle.queue.proofs.MemoryLaws.{byBool}
 use Rattle.codes.specs.declared.Code.{Code}
 use Rattle.engine.specs.State.{Found, at, nowhere, seekFrom, seek, House, free, Batches, hasBin, batchOf}
 use Rattle.engine.specs.Messages.{bankPlace, waits, assembling, waiting}
+use Rattle.engine.specs.Rules.{Each}
 use Rattle.engine.proofs.Counting.{times, a-member}
 
 pub byFound {ℓ} : {X : Type ℓ} (f : Found) → ((p : ℕ) → f ≡ at p → X) → (f ≡ nowhere → X) → X
@@ -68,10 +69,6 @@ no-times p l h = go (times p l) refl
     go zero e = refl
     go (suc n) e = absurd (false≢true (sym h ∙ a-member p l (omega arith)))
 
-pub or-false : (x y : Bool) → (x || y) ≡ false → (x ≡ false) × (y ≡ false)
-or-false true y h = absurd (false≢true (sym h))
-or-false false y h = (refl, h)
-
 pub record Assembling (b : Batches) (bin : Code) (p : ℕ) : Type 0 where
   pub there : Answers (hasBin bin) (b .places) free p
   pub idle : waits b p ≡ false
@@ -100,3 +97,10 @@ module _ (b : Batches) (bin : Code) where
       (λ w. let g : at q ≡ at p = rw (e, w) at h in let k : q ≡ p = cc in rw (sym k) (record { there = seek-answers (hasBin bin) free (b .places) q e; busy = w }))
       (λ w. let g : nowhere ≡ at p = rw (e, w) at h in not-found g))
       (λ e. let g : nowhere ≡ at p = rw e at h in not-found g)
+
+-- ---- one of a list is another
+
+pub each-set : {A : Type 0} (P : A → Type 0) (l : List A) (p : ℕ) (x : A) → Each P l → P x → Each P (set l p x)
+each-set P [] p x h y = tt
+each-set P (z ∷ l) zero x h y = (y, h .1)
+each-set P (z ∷ l) (suc p) x h y = (h .0, each-set P l p x (h .1) y)

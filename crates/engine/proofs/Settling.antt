@@ -19,6 +19,7 @@ use Rattle.queue.proofs.Trail.{test-trail, test-each}
 use Rattle.queue.proofs.Balances.{trail-length, trail-limits, trail-total}
 use Rattle.engine.specs.State.{House, Message, Place, Batches, placePayments, paymentsAt, paymentsOf}
 use Rattle.engine.specs.Rules.{Each, Priced, RightMessage, RightHouse}
+use Rattle.engine.proofs.Seeking.{each-set}
 use Rattle.engine.proofs.Counting.{times, times-append, times-all}
 use Rattle.engine.proofs.Standing.{Standing, vacant, building, awaits, stands, Stood}
 
@@ -141,11 +142,6 @@ house-after h {batch = batch} {a = a} {v = v} {ps = ps} r f t =
     }
 
 -- ---- a sub-limit change
-
-each-set : (P : ℕ → Type 0) (l : List ℕ) (k v : ℕ) → Each P l → P v → Each P (set l k v)
-each-set P [] k v h p = tt
-each-set P (x ∷ l) zero v h p = (p, h .1)
-each-set P (x ∷ l) (suc k) v h p = (h .0, each-set P l k v (h .1) p)
 
 pub house-limited : (h : House) (a : Accounts) (k v : ℕ) → RightHouse h (a .balances) (a .limits) → k < h .banks → v ≤ 6400000000000000
     → RightHouse h (limited a k v .balances) (limited a k v .limits)

@@ -18,6 +18,7 @@ use Rattle.engine.specs.Joining.{keep, byTime, time, isDue, join}
 use Rattle.engine.specs.Messages.{ended, toTail, mayQueue}
 use Rattle.engine.specs.Ending.{emptied, afterTest}
 use Rattle.engine.specs.Rules.{Each, RightPlace, RightBatch, RightBatches, Complete, Given, WaitsAt, Timed, Assembled}
+use Rattle.engine.proofs.Truth.{or-right}
 use Rattle.engine.proofs.Counting.{times, times-append, times-last, times-other, times-kept, times-left-out, times-parted, times-by-time, once-times, times-once, no-member, a-member, all-times, times-all, at-most}
 
 module _ (banks : ℕ) where
@@ -64,10 +65,6 @@ module _ (banks : ℕ) where
   some-there : (b : Batches) (p : ℕ) → 0 < times p (b .pending) + times p (b .queue) → (member p (b .pending) || member p (b .queue)) ≡ true
   some-there b p h = go (times p (b .pending)) refl
     where
-      or-right : (x y : Bool) → y ≡ true → (x || y) ≡ true
-      or-right true y e = refl
-      or-right false y e = e
-
       go : (m : ℕ) → times p (b .pending) ≡ m → (member p (b .pending) || member p (b .queue)) ≡ true
       go zero e = or-right (member p (b .pending)) (member p (b .queue)) (a-member p (b .queue) (omega arith))
       go (suc m) e = rw (a-member p (b .pending) (omega arith))

@@ -29,12 +29,13 @@ use Rattle.engine.specs.Ending.{afterTest, settledReplies}
 use Rattle.engine.specs.Days.{isFresh, opened, isLater, checked, openingAnswer}
 use Rattle.engine.specs.Calls.{Call, Engine, isOpen, isClosed, isOpening, roomNeeded, rowsNeeded, rightDay, judge, begun, act, woken, tested, isClose, replies, left, lastReplies, goesOn, closes, stepped, openedBy, bookGiven, performed, judged, call, cleared, run}
 use Rattle.engine.specs.Rules.{Each, RightEntry, remembered, isReference, isBin, RightKnown, Opened, Idle, ValidIn, Valid, liveMessages, notedToday}
+use Rattle.engine.proofs.Truth.{and-true}
 use Rattle.engine.proofs.Agreement.{right-day}
 use Rattle.engine.proofs.Counting.{times}
 use Rattle.engine.proofs.Standing.{Standing, vacant, building, awaits, stands, stood, right, free-stood, at-most-once}
 use Rattle.engine.proofs.Settling.{test-times}
 use Rattle.engine.proofs.Doing.{did}
-use Rattle.engine.proofs.Noting.{and-true, once-later, entries-later}
+use Rattle.engine.proofs.Noting.{once-later, entries-later}
 use Rattle.engine.proofs.Bins.{Binned, binned, bins-differ, bins-known}
 use Rattle.engine.proofs.Remembering.{known-kept, bins-kept, bins-emptied}
 use Rattle.engine.proofs.Answering.{Counted, counted, settled-live, close-few}
