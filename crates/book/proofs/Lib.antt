@@ -5,3 +5,4 @@ pub mod Filling
 pub mod Storing
 pub mod Sealing
 pub mod Writes
+pub mod Theorems
