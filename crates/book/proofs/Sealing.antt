@@ -11,13 +11,13 @@ use borrow.Author.Tests.{le-leb, leb-true, leb-false}
 use Rattle.book.proofs.Rules.{byHolds}
 use Rattle.checksum.specs.Sum.{wordOf, sumWords, blockSum}
 use Rattle.put.specs.Digits.{digitsOf}
-use Rattle.put.proofs.Laws.{then, digits-length}
+use Rattle.put.proofs.Laws.{digits-length}
 use Rattle.dates.specs.Dates.{dateOf}
 use Rattle.book.specs.Block.{head}
 use Rattle.book.specs.Book.{each}
 use Rattle.book.specs.Accounts.{Stream, Bank}
 use Rattle.book.specs.Closing.{littleOf, streamBytes, bankBytes, joined, padded, sealed, sealedAt, streamBlock, bankBlock, bankBlocksOf}
-use Rattle.book.proofs.Storing.{Storing, storing-part, little-length, stream-length, bank-length}
+use Rattle.book.proofs.Storing.{then, Storing, storing-part, little-length, stream-length, bank-length}
 
 -- the sum of the first words
 word-first : (b r : List ℕ) → 4 ≤ length b → wordOf (b ++ r) ≡ wordOf b

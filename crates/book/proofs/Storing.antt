@@ -9,10 +9,14 @@ use lib.Seq.{sets, length-sets}
 use Rattle.checksum.specs.Sum.{blockSum}
 use Rattle.codes.specs.Codes.{shortText}
 use Rattle.codes.proofs.Laws.{unpack-length}
-use Rattle.put.proofs.Laws.{sets-append, then}
+use Rattle.put.proofs.Laws.{sets-append, then as follows}
 use Rattle.book.specs.Book.{each}
 use Rattle.book.specs.Accounts.{Stream, Bank}
 use Rattle.book.specs.Closing.{littleOf, streamBytes, bankBytes, joined, sealedAt}
+
+-- a text after what is written already, whose place is known first
+pub then : (out p q : List ℕ) (at : ℕ) {o₁ o₂ : List ℕ} {a : ℕ} → o₁ ≡ sets out at p → a ≡ at + length p → o₂ ≡ sets o₁ a q → o₂ ≡ sets out at (p ++ q)
+then out p q at e x f = follows out p q at e f x
 
 -- what is still to be stored at j, for `text` to stand at `at` of what was lent
 pub record Storing (first : List ℕ) (at : ℕ) (text out : List ℕ) (j : ℕ) (rest : List ℕ) : Type 0 where

@@ -10,13 +10,13 @@ use Rattle.book.specs.declared.Book.{Book}
 use Rattle.chars.specs.Words.{within}
 use Rattle.chars.specs.declared.Refusal.the-variants.{BrokenTables, ShortBuffer}
 use Rattle.chars.proofs.Laws.{range-low, range-high}
-use Rattle.put.proofs.Laws.{then}
 use lib.ListN.{length}
 use lib.Seq.{sets}
 use Rattle.book.specs.declared.Writing.the-variants.{Written, Unwritten}
 use Rattle.book.specs.Book.{each}
 use Rattle.book.specs.Accounts.{rowsOf}
 use Rattle.book.specs.Closing.{Made, writeBook, bookBytes, streamsOf, banksOf, streamOf, bankOf, streamBlock, bankBlocksOf, blocksFor, holdingColumns, holdingRows, Reaching}
+use Rattle.book.proofs.Storing.{then}
 use Rattle.book.proofs.Accepted.{both}
 use Rattle.book.proofs.Sealing.{each-length, stream-block-length}
 
