@@ -114,9 +114,11 @@ line-sound s at tag k {i} {c} h = go₁ (litAt s at tag) refl h
           text = lit-sound s at tag l ∙ ap (λ (m : List ℕ). tag ++ m) (w .text ∙ ap (λ (m : List ℕ). w .value ++ m) (lit-sound s e crlf u));
           is = w .is;
         })
+
     go₂ : (a : ℕ) → litAt s at tag ≡ Next a → (r : Value) → valueAt s a k ≡ r → onRead r (λ x. Bad (broken at x)) (λ v e. onNext (litAt s e crlf) (Bad (wrong at)) (λ n. Good (item a e v) (place n))) ≡ Good i c → Line tag (Spelt s k) (drop at s) (drop (c .at) s)
     go₂ a l (Read v e) g h = go₃ a v e l g (litAt s e crlf) refl h
     go₂ a l (Unread x) g h = no-field h
+
     go₁ : (r : At) → litAt s at tag ≡ r → onNext r (Bad (absent at)) (λ a. onRead (valueAt s a k) (λ x. Bad (broken at x)) (λ v e. onNext (litAt s e crlf) (Bad (wrong at)) (λ n. Good (item a e v) (place n)))) ≡ Good i c → Line tag (Spelt s k) (drop at s) (drop (c .at) s)
     go₁ (Next a) l h = go₂ a l (valueAt s a k) refl h
     go₁ No l h = no-field h

@@ -472,7 +472,7 @@ module _ (s : List ℕ) (at : ℕ) where
           rw (← z) (record {
             value = bytes "AUD" ++ (whole ++ (bytes "," ++ part));
             text = join s at (bytes "AUD") (whole ++ (bytes "," ++ part)) a (digitsAt s b 2 .end) (lit-sound s at (bytes "AUD") q₁)
-              (join s a whole (bytes "," ++ part) d (digitsAt s b 2 .end) (w₁ .0) (join s d (bytes ",") part b (digitsAt s b 2 .end) (lit-sound s d (bytes ",") q₂) (w₂ .0)));
+                (join s a whole (bytes "," ++ part) d (digitsAt s b 2 .end) (w₁ .0) (join s d (bytes ",") part b (digitsAt s b 2 .end) (lit-sound s d (bytes ",") q₂) (w₂ .0)));
             ends = simp length-append (omega (arith, l₁, l₂, w₁ .1, w₂ .1));
             is = record {
               whole = whole;
@@ -485,6 +485,7 @@ module _ (s : List ℕ) (at : ℕ) where
               too = j .0 .all;
             };
           })
+
       go₁ : (a : ℕ) → litAt s at (bytes "AUD") ≡ Next a → (t : Bool) → eqb (digitsAt s a 10 .end) a ≡ t → cond t malformed (onNext (litAt s (digitsAt s a 10 .end) (bytes ",")) malformed (λ b. Read (digitsAt s a 10 .value * 100 + hundredths b (digitsAt s b 2)) (digitsAt s b 2 .end))) ≡ Read x e → SpeltAs IsAmount s at e
       go₁ a q true k h = unread h
       go₁ a q false k h = on-lit s (digitsAt s a 10 .end) (bytes ",") _ h (λ b q₂ r. go₂ a q (eqb-false (digitsAt s a 10 .end) a k) b q₂ r)
@@ -544,6 +545,7 @@ module _ (s : List ℕ) (at : ℕ) where
       judged a true true false b₃ l z p₀ p₁ p₂ p₃ h = unread h
       judged a true false b₂ b₃ l z p₀ p₁ p₂ p₃ h = unread h
       judged a false b₁ b₂ b₃ l z p₀ p₁ p₂ p₃ h = unread h
+
       sized : (a : ℕ) → lineEndAt s at 4 ≡ Next a → (b : Bool) → eqb a (at + 4) ≡ b → cond b (judgedAt s at a) malformed ≡ Read x e → SpeltAs IsLetters s at e
       sized a q true p h =
           let z = eqb-true a (at + 4) p in
@@ -551,6 +553,7 @@ module _ (s : List ℕ) (at : ℕ) where
           let l : at + 4 ≤ length s = omega (arith, z, ap length (g .0), length-drop a s) in
           judged a (isStatus (getD s (at + 0) 0)) (isStatus (getD s (at + 1) 0)) (isStatus (getD s (at + 2) 0)) (isFourth (getD s (at + 3) 0)) l z refl refl refl refl h
       sized a q false p h = unread h
+
       go : (r : At) → lineEndAt s at 4 ≡ r → onNext r malformed (λ a. cond (eqb a (at + 4)) (judgedAt s at a) malformed) ≡ Read x e → SpeltAs IsLetters s at e
       go (Next a) q h = sized a q (eqb a (at + 4)) refl h
       go No q h = unread h
