@@ -1,15 +1,14 @@
 -- A line as a grammar: a tag, a value of its kind and CR LF; that such a line is read, and that nothing else is.
-use Prim.Native.Nat.{ℕ, _+_, _-_, _≤_, _<_}
-use mathlib.Core.Path.{_≡_, refl, ap, sym, _∙_}
-use mathlib.Core.List.{List, [], _∷_, _++_}
+use Prim.Native.Nat.{ℕ, _+_, _-_}
+use mathlib.Core.Path.{_≡_, refl, ap, _∙_}
+use mathlib.Core.List.{List, _++_}
 use native.Mathlib.Omega.{arith}
 use lib.ListN.{length, drop}
-use Rattle.chars.specs.declared.Refusal.{Refusal}
 use Rattle.scan.specs.Scan.{onNext, crlf, litAt}
 use Rattle.scan.specs.declared.At.{At}
 use Rattle.scan.specs.declared.At.the-variants.{Next, No}
 use Rattle.scan.specs.declared.Cursor.{Cursor}
-use Rattle.scan.proofs.Standing.{past, lit-reads, lit-next, lit-sound}
+use Rattle.scan.proofs.Standing.{past, lit-reads, lit-sound}
 use Rattle.values.specs.Values.{textOf}
 use Rattle.values.specs.declared.Value.{Value}
 use Rattle.values.specs.declared.Value.the-variants.{Read, Unread}
@@ -17,7 +16,6 @@ use Rattle.values.proofs.Grammar.{IsReference, IsNumeral, IsWord, IsBin, IsNumb
 use Rattle.fields.specs.Fields.{absent, broken, wrong, item, place, onRead, valueAt, fieldAt}
 use Rattle.fields.specs.declared.Break.{Break}
 use Rattle.fields.specs.declared.Item.{Item}
-use Rattle.fields.specs.declared.Field.{Field}
 use Rattle.fields.specs.declared.Field.the-variants.{Good, Bad}
 use Rattle.fields.specs.declared.Kind.{Kind}
 use Rattle.fields.specs.declared.Kind.the-variants.{Reference, Numeral, Word, Bin, Numbers, Date, Time, Side, Amount, Letters, Count}

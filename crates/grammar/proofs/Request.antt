@@ -1,34 +1,33 @@
 -- The grammar of a request: "The text has every field once, in this order, and nothing else".
-use Prim.Native.Nat.{ℕ, zero, suc, _+_, _-_, _≤_, _<_}
+use Prim.Native.Nat.{ℕ, zero, suc, _+_, _-_, _≤_}
 use mathlib.Core.Path.{_≡_, refl, ap, sym, subst, _∙_}
 use mathlib.Core.List.{List, [], _∷_, _++_}
 use mathlib.Core.Bool.{Bool, true, false, cond, _||_, false≢true}
 use mathlib.Core.Logic.{_⊎_, inl, inr}
 use native.Mathlib.Omega.{arith}
-use borrow.Author.Tests.{eq-eqb, eqb-true, le-ltb, ltb-false}
+use borrow.Author.Tests.{eqb-true, le-ltb, ltb-false}
 use lib.Dec.{eqb, ltb}
-use lib.ListN.{length, take, drop, length-drop, drop-of-length-le}
-use lib.Seq.{take-at, take-append-seam}
+use lib.ListN.{length, drop, length-drop, drop-of-length-le}
+use lib.Seq.{take-append-seam}
 use Rattle.chars.specs.Words.{bytes, member}
 use Rattle.chars.specs.declared.Refusal.the-variants.{OtherSubType}
-use Rattle.scan.specs.Scan.{onNext, crlf, begins, litAt, numberAt}
+use Rattle.scan.specs.Scan.{onNext, crlf, begins, litAt}
 use Rattle.scan.specs.declared.At.{At}
 use Rattle.scan.specs.declared.At.the-variants.{Next, No}
 use Rattle.scan.specs.declared.Cursor.{Cursor}
-use Rattle.scan.proofs.Standing.{All, valueOf, past, lit-reads, number-reads}
+use Rattle.scan.proofs.Standing.{valueOf, past, lit-reads, number-reads}
 use Rattle.values.specs.Values.{textOf, numeralAt}
 use Rattle.values.specs.declared.Part.{Part}
-use Rattle.values.specs.declared.Value.{Value}
 use Rattle.values.specs.declared.Value.the-variants.{Read}
 use Rattle.values.proofs.Grammar.{IsReference, IsNumeral, IsWord, IsBin, IsNumbers, IsDate, IsTime, IsCount, word-sound}
-use Rattle.fields.specs.Fields.{absent, broken, item, place, onGood, valueAt, fieldAt}
+use Rattle.fields.specs.Fields.{absent, broken, item, place, onGood, fieldAt}
 use Rattle.fields.specs.declared.Break.{Break}
 use Rattle.fields.specs.declared.Item.{Item}
 use Rattle.fields.specs.declared.Field.{Field}
 use Rattle.fields.specs.declared.Field.the-variants.{Good, Bad}
 use Rattle.fields.specs.declared.Kind.{Kind}
 use Rattle.fields.specs.declared.Kind.the-variants.{Reference, Numeral, Word, Bin, Numbers, Date, Time, Count}
-use Rattle.fields.proofs.Grammar.{Line, Spelt, Passed, line-complete, line-sound}
+use Rattle.fields.proofs.Grammar.{Line, Spelt, line-complete, line-sound}
 use Rattle.terms.specs.Terms.{noPart, activationAt, onGiven, onWhole, terms, termsAt}
 use Rattle.terms.specs.declared.Terms.{Terms}
 use Rattle.terms.specs.declared.Activation.{Activation}
@@ -38,11 +37,9 @@ use Rattle.terms.specs.declared.Activated.the-variants.{Given, Ungiven}
 use Rattle.terms.specs.declared.Stated.{Stated}
 use Rattle.terms.specs.declared.Stated.the-variants.{Whole, Partial}
 use Rattle.payments.specs.Payments.{paymentsAt}
-use Rattle.payments.specs.declared.Payments.{Payments}
 use Rattle.payments.specs.declared.Ending.{Ending}
 use Rattle.payments.specs.declared.Ending.the-variants.{Done, Cut}
 use Rattle.request.specs.Request.{namedAt, address, nowhere, toStream, head, bare, refusal, settlement, addressAt, onTo, onDone, ending, settlementAt, recallAt, messageAt, requestAt}
-use Rattle.request.specs.declared.Named.{Named}
 use Rattle.request.specs.declared.Reached.the-variants.{Bin as Both}
 use Rattle.request.specs.declared.Address.{Address}
 use Rattle.request.specs.declared.Addressed.{Addressed}
@@ -51,7 +48,7 @@ use Rattle.request.specs.declared.Head.{Head}
 use Rattle.request.specs.declared.Outcome.{Outcome}
 use Rattle.request.specs.declared.Outcome.the-variants.{Settlement, Recall, Refused}
 use Rattle.request.specs.declared.Reading.{Reading}
-use Rattle.grammar.proofs.Payments.{PaymentText, credit, debit, PaymentsText, none-left, one-more, not-there, number-is, payment-begins, AllPaid, payments-complete, field-value, ReadOff, payments-sound}
+use Rattle.grammar.proofs.Payments.{PaymentText, credit, debit, PaymentsText, none-left, one-more, number-is, payments-complete, field-value, payments-sound}
 
 -- the lines 20 to 119 of a sub type, and then r
 pub record HeadText (kind : ℕ) (s r : List ℕ) : Type 0 where

@@ -1,6 +1,6 @@
 -- The values of document 01's table as a grammar: what it means that a list of bytes is such a value, that it is read, and that nothing else is.
-use Prim.Native.Nat.{ℕ, zero, suc, _+_, _*_, _-_, _≤_, _<_}
-use mathlib.Core.Path.{_≡_, refl, ap, sym, subst, _∙_}
+use Prim.Native.Nat.{ℕ, _+_, _*_, _-_, _≤_, _<_}
+use mathlib.Core.Path.{_≡_, refl, ap, sym, _∙_}
 use mathlib.Core.List.{List, [], _∷_, _++_, append-assoc}
 use mathlib.Core.Bool.{Bool, true, false, cond, not, _&&_, _||_, false≢true}
 use mathlib.Core.Logic.{_⊎_, inl, inr}
@@ -22,12 +22,11 @@ use Rattle.clock.specs.Clock.{minuteOf}
 use Rattle.clock.specs.declared.Minute.{Minute}
 use Rattle.clock.specs.declared.Minute.the-variants.{Number as Clocked, Untrue as Unclocked}
 use Rattle.scan.specs.Scan.{onNext, crlf, begins, litAt, codesAt, codeAt, digitsAt, numberAt, lineEndAt}
-use Rattle.scan.specs.declared.Run.{Run}
 use Rattle.scan.specs.declared.At.{At}
 use Rattle.scan.specs.declared.At.the-variants.{Next, No}
 use Rattle.scan.specs.declared.Fixed.{Fixed}
 use Rattle.scan.specs.declared.Fixed.the-variants.{Value as Digits, No as Unfit}
-use Rattle.scan.proofs.Laws.{lit-yes, lit-not}
+use Rattle.scan.proofs.Laws.{lit-not}
 use Rattle.scan.proofs.Standing.{All, valueOf, past, lit-reads, codes-reads, digits-reads, code-reads, number-reads, line-end-reads, lit-next, lit-sound, cut, Stretch, codes-sound, code-sound, digits-sound, number-sound, line-end-sound}
 use Rattle.values.specs.Values.{malformed, stands, onDigits, onDay, onMinute, textOf, forbiddenAt, referenceAt, numeralAt, wordAt, binAt, numbered, numbersAt, dateAt, timeAt, sideAt, hundredths, amountAt, countAt}
 use Rattle.values.specs.Letters.{isStatus, isFourth, judgedAt, lettersAt}
