@@ -5,4 +5,5 @@ pub mod Filling
 pub mod Storing
 pub mod Sealing
 pub mod Writes
+pub mod Again
 pub mod Theorems

@@ -9,8 +9,12 @@ use Rattle.chars.specs.declared.Refusal.{Refusal}
 use Rattle.book.specs.declared.Answer.the-variants.{Sound, Fault}
 use Rattle.book.specs.Block.{Rule, firstBroken}
 use Rattle.book.specs.Book.{bookRules, bookCheck}
+use Rattle.codes.proofs.Laws.{Bytes}
+use Rattle.book.specs.Accounts.{dayIn, streamsIn, banksIn}
+use Rattle.book.specs.Closing.{bookBytes}
+use Rattle.book.proofs.Again.{written-again}
 use Rattle.book.proofs.Rules.{byHolds, after-sound, breaks}
-use Rattle.book.proofs.Accepted.{AllHold, all-hold, none-broken}
+use Rattle.book.proofs.Accepted.{accepted, AllHold, all-hold, none-broken}
 
 -- a rule of the list is broken, those before it all hold, and its number is f
 pub record First (rs : List Rule) (f : Refusal) : Type 0 where
@@ -57,3 +61,7 @@ refused-first s f = (first-of (bookRules s) f, of-first (bookRules s) f)
 pub accepted-all : (s : List ℕ) → (bookCheck s ≡ Sound) ↔ AllHold (bookRules s)
 unfolding bookCheck
 accepted-all s = (all-hold (bookRules s), none-broken (bookRules s))
+
+-- an accepted book, read and written again, is the same bytes: one book of accounts has one file
+pub same-again : (s : List ℕ) → Bytes s → bookCheck s ≡ Sound → bookBytes (dayIn s) (streamsIn s) (banksIn s) ≡ s
+same-again s b h = written-again s b (accepted s h)
