@@ -27,8 +27,6 @@ use Rattle.response.specs.declared.Outcome.{Outcome}
 use Rattle.response.specs.declared.Outcome.the-variants.{Settled, Rejected}
 use Rattle.response.specs.declared.Answer.{Answer}
 use Rattle.response.specs.declared.Answer.the-variants.{Recalled, Kept}
-use Rattle.response.specs.declared.Settlement.{Settlement as Response132}
-use Rattle.response.specs.declared.Recall.{Recall as Response134}
 use Rattle.reply.specs.declared.Head.{Head}
 use Rattle.reply.specs.declared.Batch.{Batch}
 use Rattle.reply.specs.declared.Batched.{Batched}
@@ -37,7 +35,6 @@ use Rattle.reply.specs.declared.Ended.{Ended}
 use Rattle.reply.specs.declared.Ended.the-variants.{How, Unclear}
 use Rattle.reply.specs.declared.Answered.{Answered}
 use Rattle.reply.specs.declared.Answered.the-variants.{With, Without}
-use Rattle.reply.specs.declared.Reply.{Reply}
 use Rattle.reply.specs.declared.Reply.the-variants.{Settlement, Recall, Refused}
 use Rattle.reply.specs.declared.Parts.{Parts}
 use Rattle.reply.specs.declared.ReadResponse.{ReadResponse}
