@@ -231,7 +231,7 @@ date-written s h = fixed (numberAt s 8 6) refl h
     fixed Unfit q h = absurd (false≢true h)
 
 module _ (s : List ℕ) (b : Bytes s) (g : Accepted s) where
-  size : length s ≡ 512 * blocksIn s
+  pub size : length s ≡ 512 * blocksIn s
   size = omega (arith, g .whole)
 
   stream-written : streamBlock (dayIn s) (streamsIn s) (blocksIn s) ≡ take 512 s
@@ -312,6 +312,14 @@ module _ (s : List ℕ) (b : Bytes s) (g : Accepted s) where
       let n′ : 512 * suc n ≡ 512 + 512 * n = omega arith in
       rw (each-full f (20 * j) m (entriesAt s (512 * (1 + j))) (parts .0) (parts .1), each-drop f 20 (20 * j) m, bank-written j p, i′, m′, k′, banks-written n (j + 1) (omega arith), n′, ← a′)
       (sym (part-next s (512 * (1 + j)) 512 (512 * n)))
+
+  pub blocks-are : blocksFor (bankCount s (blocksIn s)) ≡ blocksIn s
+  unfolding blocksFor bankCount last
+  blocks-are = omega (arith, last-is .0, last-is .1, g .few)
+
+  pub banks-some : 1 ≤ bankCount s (blocksIn s)
+  unfolding bankCount last
+  banks-some = omega (arith, last-is .0)
 
   -- an accepted book, read and written again, is the same bytes
   pub written-again : bookBytes (dayIn s) (streamsIn s) (banksIn s) ≡ s

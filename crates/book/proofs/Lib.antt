@@ -6,4 +6,5 @@ pub mod Storing
 pub mod Sealing
 pub mod Writes
 pub mod Again
+pub mod Kept
 pub mod Theorems
