@@ -1,17 +1,18 @@
 -- Numbers that are written and read again, and the classes of the characters between.
 use Prim.Native.Nat.{ℕ, zero, suc, _+_, _*_, _-_, _/_, _%_, _≤_, _<_}
-use mathlib.Core.Path.{_≡_, refl, ap, sym, _∙_}
+use mathlib.Core.Path.{_≡_, refl, ap, sym, subst, _∙_}
 use mathlib.Core.Bool.{Bool, true, false, _||_, _&&_, not, or-true}
 use mathlib.Core.List.{List, [], _∷_, _++_, append-assoc, append-nil}
-use native.Mathlib.Nat.{add-zero, zero-add, add-suc, suc-add}
+use native.Mathlib.Nat.{add-zero, zero-add, add-suc, suc-add, div-add-mod'}
 use native.Mathlib.Omega.{arith}
 use borrow.Author.Tests.{not-true}
 use lib.Dec.{eqb}
 use lib.ListN.{length}
 use Rattle.chars.specs.Chars.{isDigit, isLetter, isCode, digitValue}
-use Rattle.chars.proofs.Laws.{in-range, range-low, range-high, digit-low, digit-high, digit-yes}
+use Rattle.chars.proofs.Laws.{in-range, range-low, range-high, digit-low, digit-high, digit-small, digit-yes}
 use Rattle.codes.proofs.Laws.{Bytes, NoZero}
 use Rattle.put.specs.Digits.{digitsOf}
+use Rattle.put.proofs.Laws.{digits-length}
 use Rattle.scan.specs.Scan.{begins, ten}
 use Rattle.scan.proofs.Standing.{All, valueOf}
 
@@ -49,6 +50,16 @@ value-digits (suc k) v t h =
 pub value-back : (k t : ℕ) → t < ten k → valueOf 0 (digitsOf k t) ≡ t
 value-back k t h = value-digits k 0 t h ∙ (omega arith)
 
+-- the value of digits has no more than they
+pub value-small : (l : List ℕ) → All isDigit l → valueOf 0 l < ten (length l)
+value-small l a = rw (zero-add) at (below l 0 0 (omega arith))
+  where
+    below : (l : List ℕ) (k v : ℕ) → v < ten k → valueOf v l < ten (k + length l)
+    below [] k v h = rw add-zero h
+    below (x ∷ l) k v h =
+        let e : suc k + length l ≡ k + suc (length l) = omega arith in
+        subst (λ (n : ℕ). valueOf (v * 10 + digitValue x) l < ten n) e (below l (suc k) (v * 10 + digitValue x) (omega (arith, digit-small x)))
+
 -- and digits are the digits of their value
 digits-one : (k v d : ℕ) → d < 10 → digitsOf (suc k) (v * 10 + d) ≡ digitsOf k v ++ ((d + 48) ∷ [])
 unfolding digitsOf
@@ -68,6 +79,14 @@ digits-on (x ∷ l) k v a =
 pub digits-back : (l : List ℕ) → All isDigit l → digitsOf (length l) (valueOf 0 l) ≡ l
 unfolding digitsOf
 digits-back l a = ap (λ (k : ℕ). digitsOf k (valueOf 0 l)) (sym (zero-add (length l))) ∙ digits-on l 0 0 a
+
+-- twelve digits are six and six
+pub moment-digits : (n : ℕ) → digitsOf 12 n ≡ digitsOf 6 (n / 1000000) ++ digitsOf 6 (n % 1000000)
+moment-digits n =
+    let v : valueOf (n / 1000000) (digitsOf 6 (n % 1000000)) ≡ n = value-digits 6 (n / 1000000) (n % 1000000) (omega arith) ∙ div-add-mod' n 1000000 in
+    ap (λ (k : ℕ). digitsOf (6 + k) n) (sym (digits-length 6 (n % 1000000)))
+    ∙ ap (digitsOf (6 + length (digitsOf 6 (n % 1000000)))) (sym v)
+    ∙ digits-on (digitsOf 6 (n % 1000000)) 6 (n / 1000000) (digits-all 6 (n % 1000000))
 
 -- ---- characters of a code
 

@@ -41,7 +41,7 @@ pub record Found (s : List ℕ) (f : Field) (v : List ℕ) (w : ℕ) (rest : Lis
 abbrev pub lined : List ℕ → List ℕ → List ℕ
 lined tag v = tag ++ (v ++ crlf)
 
-line-apart : (tag v rest : List ℕ) → lined tag v ++ rest ≡ tag ++ (v ++ (crlf ++ rest))
+pub line-apart : (tag v rest : List ℕ) → lined tag v ++ rest ≡ tag ++ (v ++ (crlf ++ rest))
 line-apart tag v rest = append-assoc tag (v ++ crlf) rest ∙ ap (λ (l : List ℕ). tag ++ l) (append-assoc v crlf rest)
 
 module _ (s : List ℕ) where
@@ -116,7 +116,7 @@ module _ (s : List ℕ) where
       go true = refl
       go false = refl
 
-  forbidden-there : (at : ℕ) (v r : List ℕ) → drop at s ≡ v ++ (crlf ++ r) → forbiddenAt s at ≡ forbidden v
+  pub forbidden-there : (at : ℕ) (v r : List ℕ) → drop at s ≡ v ++ (crlf ++ r) → forbiddenAt s at ≡ forbidden v
   unfolding forbiddenAt forbidden
   forbidden-there at v r h =
       simp (

@@ -21,6 +21,7 @@ use Rattle.values.specs.declared.Part.{Part}
 use Rattle.fields.specs.Fields.{place}
 use Rattle.fields.specs.declared.Field.the-variants.{Good}
 use Rattle.response.specs.Texts.{line, headText, batchText, settledText, rejectedText, outcomeText, settlementText, answerText, recallText}
+use Rattle.response.proofs.Laws.{recalled-end, kept-end, recall-length, settlement-most}
 use Rattle.response.specs.declared.Outcome.{Outcome}
 use Rattle.response.specs.declared.Outcome.the-variants.{Settled, Rejected}
 use Rattle.response.specs.declared.Answer.{Answer}
@@ -87,11 +88,11 @@ record Replied (s : List ℕ) (at : ℕ) (a : Answer) : Type 0 where
 at-end : (s : List ℕ) (n : ℕ) → drop n s ≡ [] → length s ≤ n
 at-end s n h = omega (arith, length-drop n s, ap length h)
 
-zero-status : bytes "0" ≡ digitsOf 1 0
+pub zero-status : bytes "0" ≡ digitsOf 1 0
 unfolding digitsOf
 zero-status = refl
 
-one-status : bytes "1" ≡ digitsOf 1 1
+pub one-status : bytes "1" ≡ digitsOf 1 1
 unfolding digitsOf
 one-status = refl
 
@@ -205,10 +206,10 @@ module _ (s : List ℕ) where
       }
 
 -- the lines of a text one after another
-settlement-lines : (a b c d e f x : List ℕ) → (a ++ (b ++ (c ++ d))) ++ ((e ++ f) ++ x) ≡ a ++ (b ++ (c ++ (d ++ (e ++ (f ++ x)))))
+pub settlement-lines : (a b c d e f x : List ℕ) → (a ++ (b ++ (c ++ d))) ++ ((e ++ f) ++ x) ≡ a ++ (b ++ (c ++ (d ++ (e ++ (f ++ x)))))
 settlement-lines a b c d e f x = simp append-assoc
 
-recall-lines : (a b c d x : List ℕ) → (a ++ (b ++ (c ++ d))) ++ x ≡ a ++ (b ++ (c ++ (d ++ x)))
+pub recall-lines : (a b c d x : List ℕ) → (a ++ (b ++ (c ++ d))) ++ x ≡ a ++ (b ++ (c ++ (d ++ x)))
 recall-lines a b c d x = simp append-assoc
 
 reads-132 : (s : List ℕ) (r : Response132) → Sound r → s ≡ settlementText r → responseAt s .reply ≡ Settlement r
@@ -243,3 +244,18 @@ settlement-reads r k = reads-132 (settlementText r) r k refl
 
 pub recall-reads : (r : Response134) → SoundRecall r → responseAt (recallText r) .reply ≡ Recall r
 recall-reads r k = reads-134 (recallText r) r k refl
+
+-- "105 bytes" is the longest text of a 132, and 69 bytes of a 134
+pub settlement-short : (r : Response132) → Sound r → length (settlementText r) ≤ 105
+settlement-short r k =
+    let n = k .batch in
+    settlement-most r (rw (referred-text (k .reference)) (k .reference .few)) (rw (bin-text n) (omega (arith, length-append (n .four) (n .digits), n .size, n .more)))
+
+answer-most : (a : Answer) → length (answerText a) ≤ 17
+answer-most Recalled = omega (arith, recalled-end Recalled refl)
+answer-most (Kept number) = omega (arith, kept-end (Kept number) refl)
+
+pub recall-short : (r : Response134) → SoundRecall r → length (recallText r) ≤ 69
+recall-short r k =
+    let few : length (longText (r .reference)) ≤ 16 = rw (referred-text (k .reference)) (k .reference .few) in
+    omega (arith, recall-length r refl refl, answer-most (r .answer))
