@@ -1,0 +1,252 @@
+-- Demand 3, over any calls from a fresh start. After each call no queued batch would pass; every payer of a settled batch covered its own
+-- payment on the balances just before that batch; each balance is the day's opening balance plus credits less debits of the batches settled
+-- since; the total never changes within a day.
+use Prim.Native.Nat.{ℕ, zero, suc, _+_, _≤_, _<_}
+use mathlib.Core.Path.{_≡_, refl, sym, ap, subst, _∙_}
+use mathlib.Core.Bool.{Bool, true, false, _&&_, not, cond, false≢true}
+use mathlib.Core.List.{List, [], _∷_, _++_, map, append-nil}
+use native.Mathlib.Omega.{arith}
+use lib.ListN.{length, getD, replicate}
+use borrow.Author.Tests.{not-true}
+use Rattle.request.specs.declared.Reading.{Reading}
+use Rattle.request.specs.Request.{requestAt}
+use Rattle.settle.specs.Payments.{Payment}
+use Rattle.settle.specs.Settlement.{Accounts, verdict}
+use Rattle.settle.specs.declared.Verdict.the-variants.{Passes}
+use Rattle.settle.specs.Rules.{sum}
+use Rattle.queue.specs.Promise.{True, Trail, All, Stuck, Off, Fair, limited, broughtBy, takenBy}
+use Rattle.queue.specs.Tests.{Outcome, test, fuel}
+use Rattle.queue.proofs.Trail.{All-zip, test-trail, test-stuck, test-parted}
+use Rattle.queue.proofs.Balances.{trail-sum, trail-total}
+use Rattle.engine.specs.declared.Action.{Action}
+use Rattle.engine.specs.declared.Action.the-variants.{Opening, Message, SubLimit, Status, Tick, Close, ClosingBook}
+use Rattle.engine.specs.declared.Answer.{Answer}
+use Rattle.engine.specs.declared.Answer.the-variants.{Done, Refused}
+use Rattle.engine.specs.State.{Place, free, Batches, State, noBatches, placeAt, placePayments, paymentsAt}
+use Rattle.engine.specs.Messages.{Acted}
+use Rattle.engine.specs.Ending.{emptied, afterTest}
+use Rattle.engine.specs.Days.{opened, openingAnswer}
+use Rattle.engine.specs.Calls.{Call, Engine, Result, isOpen, rightDay, judge, begun, act, woken, tested, isClose, left, goesOn, closes, stepped, openedBy, bookGiven, performed, judged, call, cleared, run}
+use Rattle.engine.proofs.Agreement.{Faithful, true-acted, right-day, call-faithful, cleared-faithful}
+use Rattle.engine.proofs.Counting.{times, times-append, once-times, times-once, off-none}
+use Rattle.engine.proofs.Standing.{Stood, at-most-once, emptied-off}
+use Rattle.engine.proofs.Settling.{gone-fair, house-books}
+use Rattle.engine.proofs.Doing.{Did, idle, limits, letters, alone, repeats, recalls, completes, grows, rejects, did}
+use Rattle.engine.proofs.Keeping.{Readers, Kept, acted-stood, acted-house, fresh-kept, call-kept}
+
+-- ---- the words
+
+-- a call's action, and its test
+abbrev pub acted : Engine → Call → Acted
+acted e c = act (begun (e .state) (c .clock)) (c .action) (c .input)
+
+abbrev pub outcome : Engine → Call → Outcome
+outcome e c = tested (c .quick) (acted e c) (e .memory)
+
+-- the batches that a call settles, in their order: only a call with a test settles any
+abbrev pub settledBy : Answer → Action → Engine → Call → List (List Payment)
+settledBy (Refused r) x e c = []
+settledBy Done Opening e c = []
+settledBy Done (Message n) e c = map (paymentsAt (acted e c .batches)) (outcome e c .done)
+settledBy Done (SubLimit k v) e c = map (paymentsAt (acted e c .batches)) (outcome e c .done)
+settledBy Done (Status k b l) e c = map (paymentsAt (acted e c .batches)) (outcome e c .done)
+settledBy Done Tick e c = map (paymentsAt (acted e c .batches)) (outcome e c .done)
+settledBy Done Close e c = map (paymentsAt (acted e c .batches)) (outcome e c .done)
+settledBy Done (ClosingBook d) e c = []
+
+-- the day's opening balances, and the batches settled since: an opening begins both anew
+pub record Ledger : Type 0 where
+  pub opening : List ℕ
+  pub gone : List (List Payment)
+
+abbrev pub anew : Answer → Engine → Call → Ledger → Ledger
+anew Done e c l = record { opening = opened (e .state) (c .clock) (c .input) .books .balances; gone = [] }
+anew (Refused r) e c l = l
+
+abbrev pub ledgerBy : Answer → Action → Engine → Call → Ledger → Ledger
+ledgerBy (Refused r) x e c l = l
+ledgerBy Done Opening e c l = anew (openingAnswer (e .state .day) (c .input)) e c l
+ledgerBy Done (Message n) e c l = record { opening = l .opening; gone = l .gone ++ settledBy Done (Message n) e c }
+ledgerBy Done (SubLimit k v) e c l = record { opening = l .opening; gone = l .gone ++ settledBy Done (SubLimit k v) e c }
+ledgerBy Done (Status k b x) e c l = record { opening = l .opening; gone = l .gone ++ settledBy Done (Status k b x) e c }
+ledgerBy Done Tick e c l = record { opening = l .opening; gone = l .gone ++ settledBy Done Tick e c }
+ledgerBy Done Close e c l = record { opening = l .opening; gone = l .gone ++ settledBy Done Close e c }
+ledgerBy Done (ClosingBook d) e c l = l
+
+unfoldable pub ledger : Engine → Call → Ledger → Ledger
+ledger e c l = ledgerBy (judge (e .state) c) (c .action) e c l
+
+-- what stands after a call
+pub record Stands (e : Engine) (l : Ledger) : Type 0 where
+  -- "after each call no queued batch would pass"
+  pub stuck : Stuck (paymentsAt (e .state .batches)) (e .state .books) (e .state .batches .queue)
+  -- "each balance is the day's opening balance plus credits less debits of the batches settled since"
+  pub money : (k : ℕ) → k < 64 → getD (e .state .books .balances) k 0 + takenBy k (l .gone) ≡ getD (l .opening) k 0 + broughtBy k (l .gone)
+  -- "the total never changes within a day"
+  pub total : sum (e .state .books .balances) ≡ sum (l .opening)
+
+-- "every payer of a settled batch covered its own payment on the balances just before that batch": from the accounts that the action left to
+-- those that the call leaves, v. A call without a test leaves the accounts, but for an opening
+abbrev pub PaidBy : Answer → Action → Engine → Call → Accounts → Type 0
+PaidBy (Refused r) x e c v = v ≡ e .state .books
+PaidBy Done Opening e c v = Unit {0}
+PaidBy Done (Message n) e c v = Trail (paymentsAt (acted e c .batches)) (acted e c .books) (outcome e c .done) v
+PaidBy Done (SubLimit k x) e c v = Trail (paymentsAt (acted e c .batches)) (acted e c .books) (outcome e c .done) v
+PaidBy Done (Status k b l) e c v = Trail (paymentsAt (acted e c .batches)) (acted e c .books) (outcome e c .done) v
+PaidBy Done Tick e c v = Trail (paymentsAt (acted e c .batches)) (acted e c .books) (outcome e c .done) v
+PaidBy Done Close e c v = Trail (paymentsAt (acted e c .batches)) (acted e c .books) (outcome e c .done) v
+PaidBy Done (ClosingBook d) e c v = v ≡ e .state .books
+
+unfoldable pub Paid : Engine → Call → Type 0
+Paid e c = PaidBy (judge (e .state) c) (c .action) e c (call e c .engine .state .books)
+
+-- all of it after each of some calls
+unfoldable pub Told : Engine → Ledger → List Call → Type 0
+Told e l [] = Unit {0}
+Told e l (c ∷ cs) = Paid e c × Stands (call e c .engine) (ledger e c l) × Told (call e c .engine) (ledger e c l) cs
+
+-- ---- the proofs
+
+brought-append : (k : ℕ) (a b : List (List Payment)) → broughtBy k (a ++ b) ≡ broughtBy k a + broughtBy k b
+unfolding broughtBy
+brought-append k [] b = omega arith
+brought-append k (x ∷ a) b = omega (arith, brought-append k a b)
+
+taken-append : (k : ℕ) (a b : List (List Payment)) → takenBy k (a ++ b) ≡ takenBy k a + takenBy k b
+unfolding takenBy
+taken-append k [] b = omega arith
+taken-append k (x ∷ a) b = omega (arith, taken-append k a b)
+
+-- no action moves money
+same-money : (s : State) (r : Reading) {a : Acted} → Did s r a → a .books .balances ≡ s .books .balances
+unfolding limited
+same-money s r (idle n) = refl
+same-money s r (limits k x b l) = refl
+same-money s r (letters k x p c m w) = refl
+same-money s r (alone n y w) = refl
+same-money s r (repeats p c f i) = refl
+same-money s r (recalls p y o n w) = refl
+same-money s r (completes stream b k p x j d e f) = refl
+same-money s r (grows stream b k p x j d e) = refl
+same-money s r (rejects f b k p x j) = refl
+
+module _ (readers : Readers) (e : Engine) (c : Call) (k : Kept (e .state)) (f : Faithful e) (l : Ledger) (h : Stands e l) where
+  abbrev s : State
+  s = begun (e .state) (c .clock)
+
+  abbrev a : Acted
+  a = acted e c
+
+  abbrev o : Outcome
+  o = outcome e c
+
+  abbrev on : Ledger
+  on = record { opening = l .opening; gone = l .gone ++ map (paymentsAt (a .batches)) (o .done) }
+
+  same : a .books .balances ≡ e .state .books .balances
+  unfolding begun
+  same = same-money s (requestAt (c .input)) (did s (c .action) (c .input))
+
+  paid : Trail (paymentsAt (a .batches)) (a .books) (o .done) (o .books)
+  unfolding tested
+  paid = test-trail (c .quick) (paymentsAt (a .batches)) (fuel (a .batches .queue)) (a .books) _ (a .batches .queue)
+
+  fair : All (λ p. Fair (paymentsAt (a .batches) p)) (o .done)
+  unfolding tested
+  fair = gone-fair (s .house) (a .batches) (a .books) (c .quick) _ (acted-house readers e c k) (acted-stood readers e c k)
+
+  tested-money : (i : ℕ) → i < 64 → getD (o .books .balances) i 0 + takenBy i (on .gone) ≡ getD (l .opening) i 0 + broughtBy i (on .gone)
+  tested-money i b =
+      let g = map (paymentsAt (a .batches)) (o .done) in
+      rw (brought-append i (l .gone) g, taken-append i (l .gone) g)
+      (omega (arith, h .money i b, trail-sum fair i (omega (arith, acted-house readers e c k .balances-long)) paid, ap (λ (x : List ℕ). getD x i 0) same))
+
+  tested-total : sum (o .books .balances) ≡ sum (l .opening)
+  tested-total = trail-total fair (house-books (s .house) (a .books) (acted-house readers e c k)) paid ∙ ap sum same ∙ h .total
+
+  -- the batches that are left have the payments that the test saw
+  tested-stuck : Stuck (paymentsAt (left s a o)) (o .books) (o .queue)
+  unfolding left afterTest tested
+  tested-stuck =
+      let q : List ℕ = a .batches .queue in
+      let b : ℕ → List Payment = paymentsAt (a .batches) in
+      let once = times-once q (λ p. omega (arith, at-most-once (s .house .banks) (acted-stood readers e c k .each p))) in
+      All-zip (λ x. Off x (o .done)) (λ x. verdict (o .books) (b x) ≡ Passes → ⊥) (λ x. verdict (o .books) (paymentsAt (left s a o) x) ≡ Passes → ⊥) (o .queue)
+      (λ x d n v. n (ap (λ (z : Place). verdict (o .books) (placePayments z)) (sym (emptied-off (s .house .banks) (o .done) (a .batches .places) x (off-none x (o .done) d))) ∙ v))
+      (test-parted (c .quick) b (fuel q) (a .books) _ q once .apart)
+      (test-stuck (c .quick) b (fuel q) (a .books) _ q (λ y. true-acted e c (f .true)) (omega arith))
+
+  goes-stands : Stands (goesOn s a o .engine) on
+  unfolding goesOn left afterTest
+  goes-stands = record { stuck = tested-stuck; money = tested-money; total = tested-total }
+
+  closes-stands : Stands (closes s a o .engine) on
+  unfolding closes
+  closes-stands = record { stuck = tt; money = tested-money; total = tested-total }
+
+  ends-stands : (t : Bool) → Stands (cond t (closes s a o) (goesOn s a o) .engine) on
+  ends-stands true = closes-stands
+  ends-stands false = goes-stands
+
+  stepped-stands : Stands (stepped e c .engine) on
+  unfolding stepped
+  stepped-stands = ends-stands (isClose (c .action))
+
+  opened-stands : (r : Answer) → isOpen (e .state .day .phase) ≡ false → Stands (openedBy r e c .engine) (anew r e c l)
+  unfolding opened broughtBy takenBy
+  opened-stands Done i = record { stuck = rw (k .idle i) tt; money = λ n b. refl; total = refl }
+  opened-stands (Refused r) i = h
+
+  performed-stands : (z : Action) → rightDay z (e .state .day) ≡ true → Stands (performed z e c .engine) (ledgerBy Done z e c l)
+  performed-stands Opening i = opened-stands (openingAnswer (e .state .day) (c .input)) (not-true _ i)
+  performed-stands (Message n) i = stepped-stands
+  performed-stands (SubLimit n v) i = stepped-stands
+  performed-stands (Status n b x) i = stepped-stands
+  performed-stands Tick i = stepped-stands
+  performed-stands Close i = stepped-stands
+  performed-stands (ClosingBook d) i = record { stuck = h .stuck; money = h .money; total = h .total }
+
+  judged-stands : (r : Answer) → judge (e .state) c ≡ r → Stands (judged r e c .engine) (ledgerBy r (c .action) e c l)
+  judged-stands Done i = performed-stands (c .action) (right-day (e .state) c i)
+  judged-stands (Refused r) i = h
+
+  ends-paid : (t : Bool) → Trail (paymentsAt (a .batches)) (a .books) (o .done) (cond t (closes s a o) (goesOn s a o) .engine .state .books)
+  unfolding closes goesOn
+  ends-paid true = paid
+  ends-paid false = paid
+
+  stepped-paid : Trail (paymentsAt (a .batches)) (a .books) (o .done) (stepped e c .engine .state .books)
+  unfolding stepped
+  stepped-paid = ends-paid (isClose (c .action))
+
+  performed-paid : (z : Action) → PaidBy Done z e c (performed z e c .engine .state .books)
+  performed-paid Opening = tt
+  performed-paid (Message n) = stepped-paid
+  performed-paid (SubLimit n v) = stepped-paid
+  performed-paid (Status n b x) = stepped-paid
+  performed-paid Tick = stepped-paid
+  performed-paid Close = stepped-paid
+  performed-paid (ClosingBook d) = refl
+
+  judged-paid : (r : Answer) → PaidBy r (c .action) e c (judged r e c .engine .state .books)
+  judged-paid Done = performed-paid (c .action)
+  judged-paid (Refused r) = refl
+
+  pub call-stands : Paid e c × Stands (call e c .engine) (ledger e c l)
+  unfolding call ledger Paid
+  call-stands = (judged-paid (judge (e .state) c), judged-stands (judge (e .state) c) refl)
+
+calls-told : (readers : Readers) (cs : List Call) (e : Engine) (l : Ledger) → Kept (e .state) → Faithful e → Stands e l → Told e l cs
+unfolding Told
+calls-told readers [] e l k f h = tt
+calls-told readers (c ∷ cs) e l k f h =
+    let i = call-stands readers e c k f l h in
+    (i .0, i .1, calls-told readers cs (call e c .engine) (ledger e c l) (call-kept readers e c k) (call-faithful e c f) (i .1))
+
+-- the ledger of a fresh start
+abbrev pub noLedger : Ledger
+noLedger = record { opening = replicate 64 0; gone = [] }
+
+pub demand-three : Readers → (cs : List Call) → Told cleared noLedger cs
+unfolding broughtBy takenBy
+demand-three readers cs = calls-told readers cs cleared noLedger fresh-kept cleared-faithful (record { stuck = tt; money = λ k b. refl; total = refl })

@@ -1,0 +1,87 @@
+-- "Letting a stranger's message end another administrator's batch": a message of a sender that is not the stream's administrator leaves
+-- what a tick at its clock leaves. Only its answer differs.
+use Prim.Native.Nat.{ℕ}
+use mathlib.Core.Path.{_≡_, refl, sym, ap, _∙_}
+use mathlib.Core.Bool.{Bool, true, false, cond}
+use mathlib.Core.List.{List, [], _∷_}
+use lib.Dec.{eqb}
+use borrow.Author.Tests.{eqb-true}
+use Rattle.chars.specs.declared.Refusal.{Refusal}
+use Rattle.chars.specs.declared.Refusal.the-variants.{WrongSender, Malformed}
+use Rattle.request.specs.Request.{requestAt}
+use Rattle.request.specs.declared.Outcome.{Outcome as Read}
+use Rattle.request.specs.declared.Outcome.the-variants.{Settlement, Recall, Refused as Unread}
+use Rattle.request.specs.declared.Reading.{Reading}
+use Rattle.engine.specs.declared.Action.{Action}
+use Rattle.engine.specs.declared.Action.the-variants.{Message, Tick}
+use Rattle.engine.specs.declared.Answer.{Answer}
+use Rattle.engine.specs.declared.Answer.the-variants.{Done, Refused}
+use Rattle.engine.specs.State.{Found, at, nowhere, onFound, State}
+use Rattle.engine.specs.Messages.{Acted, streamCode, streamPlace, administrator, untouched, leaving, sent, received, message}
+use Rattle.engine.specs.Calls.{Call, Engine, Result, judge, begun, act, woken, tested, replies, left, goesOn, stepped, judged, call}
+
+-- "sender not that stream's administrator"
+abbrev pub Stranger : State → (sender : ℕ) → Reading → Type 0
+Stranger s sender r = (i : ℕ) → streamPlace (s .house) (streamCode s r) ≡ at i → sender ≡ administrator (s .house) i → ⊥
+
+-- an action that touches nothing
+pub record Idle (s : State) (a : Acted) : Type 0 where
+  pub fault : Refusal
+  pub same : a ≡ untouched s fault
+
+module _ (s : State) (sender : ℕ) (r : Reading) (h : Stranger s sender r) where
+  by-stream : {k : ℕ → Acted} (f : Found) → streamPlace (s .house) (streamCode s r) ≡ f → ((i : ℕ) → streamPlace (s .house) (streamCode s r) ≡ at i → Idle s (k i))
+      → Idle s (onFound f (untouched s Malformed) k)
+  by-stream (at i) e g = g i e
+  by-stream nowhere e g = record { fault = Malformed; same = refl }
+
+  by-sender : {x y : Acted} (t : Bool) → (t ≡ true → Idle s x) → Idle s y → Idle s (cond t x y)
+  by-sender true g i = g refl
+  by-sender false g i = i
+
+  sent-idle : Idle s (sent s r sender)
+  unfolding sent
+  sent-idle = by-stream (streamPlace (s .house) (streamCode s r)) refl
+      (λ i e. by-sender (eqb sender (administrator (s .house) i)) (λ y. absurd (h i e (eqb-true sender (administrator (s .house) i) y))) (record { fault = WrongSender; same = refl }))
+
+  received-idle : (o : Read) → Idle s (received s r o sender)
+  received-idle Settlement = sent-idle
+  received-idle Recall = sent-idle
+  received-idle (Unread b) = record { fault = b .refusal; same = refl }
+
+  pub strangers-touch-nothing : Idle s (message s sender r)
+  unfolding message
+  strangers-touch-nothing = received-idle (r .outcome)
+
+-- the same call with another action
+abbrev pub asking : Action → Call → Call
+asking a c = record { quick = c .quick; clock = c .clock; action = a; input = c .input; room = c .room; rows = c .rows }
+
+-- results that differ in their answers at most
+pub record Alike (x y : Result) : Type 0 where
+  pub out : x .out ≡ y .out
+  pub tries : x .tries ≡ y .tries
+  pub engine : x .engine ≡ y .engine
+
+module _ (e : Engine) (c : Call) (sender : ℕ) where
+  abbrev s : State
+  s = begun (e .state) (c .clock)
+
+  abbrev step : Acted → Result
+  step a = goesOn s a (tested (c .quick) a (e .memory))
+
+  idle-alike : (f : Refusal) → Alike (step (untouched s f)) (step (leaving s Done [] [] (s .batches) (s .known)))
+  unfolding goesOn replies left tested
+  idle-alike f = record { out = refl; tries = refl; engine = refl }
+
+  stepped-alike : (a : Acted) → Idle s a → Alike (step a) (step (leaving s Done [] [] (s .batches) (s .known)))
+  stepped-alike a i = rw (i .same) (idle-alike (i .fault))
+
+  judged-alike : (j : Answer) → Stranger s sender (requestAt (c .input)) → Alike (judged j e (asking (Message sender) c)) (judged j e (asking Tick c))
+  unfolding stepped act
+  judged-alike Done h = stepped-alike (message s sender (requestAt (c .input))) (strangers-touch-nothing s sender (requestAt (c .input)) h)
+  judged-alike (Refused r) h = record { out = refl; tries = refl; engine = refl }
+
+  pub a-stranger-is-a-tick : Stranger s sender (requestAt (c .input)) → Alike (call e (asking (Message sender) c)) (call e (asking Tick c))
+  unfolding call judge
+  a-stranger-is-a-tick h = judged-alike (judge (e .state) (asking Tick c)) h

@@ -1,0 +1,72 @@
+-- The try row never needs more than 528 numbers.
+use Prim.Native.Nat.{ℕ, _≤_}
+use mathlib.Core.Bool.{Bool, true, false, cond}
+use mathlib.Core.List.{List, [], _∷_}
+use native.Mathlib.Omega.{arith}
+use lib.ListN.{length}
+use Rattle.queue.specs.Tests.{Outcome, fuel}
+use Rattle.queue.proofs.Promises.{tries-fit}
+use Rattle.engine.specs.declared.Action.{Action}
+use Rattle.engine.specs.declared.Action.the-variants.{Opening, Message, SubLimit, Status, Tick, Close, ClosingBook}
+use Rattle.engine.specs.declared.Answer.{Answer}
+use Rattle.engine.specs.declared.Answer.the-variants.{Done, Refused}
+use Rattle.engine.specs.State.{State, paymentsAt}
+use Rattle.engine.specs.Messages.{Acted}
+use Rattle.engine.specs.Days.{openingAnswer}
+use Rattle.engine.specs.Calls.{Call, Engine, Result, judge, begun, act, woken, tested, isClose, goesOn, closes, stepped, openedBy, bookGiven, performed, judged, call, cleared, run}
+use Rattle.engine.specs.Rules.{Each}
+use Rattle.engine.proofs.Standing.{few-queued}
+use Rattle.engine.proofs.Keeping.{Readers, Kept, acted-stood, fresh-kept, call-kept}
+
+module _ (readers : Readers) (e : Engine) (c : Call) (k : Kept (e .state)) where
+  abbrev s : State
+  s = begun (e .state) (c .clock)
+
+  abbrev a : Acted
+  a = act s (c .action) (c .input)
+
+  abbrev o : Outcome
+  o = tested (c .quick) a (e .memory)
+
+  tested-few : length (o .tries) ≤ 528
+  unfolding tested
+  tested-few = tries-fit (c .quick) (paymentsAt (a .batches)) (a .books) (woken (a .wakes) (e .memory)) (a .batches .queue) (few-queued (s .house .banks) (a .batches) (acted-stood readers e c k))
+
+  ends-few : (t : Bool) → length (cond t (closes s a o) (goesOn s a o) .tries) ≤ 528
+  unfolding closes goesOn
+  ends-few true = tested-few
+  ends-few false = tested-few
+
+  stepped-few : length (stepped e c .tries) ≤ 528
+  unfolding stepped
+  stepped-few = ends-few (isClose (c .action))
+
+  opened-few : (r : Answer) → length (openedBy r e c .tries) ≤ 528
+  opened-few Done = omega arith
+  opened-few (Refused r) = omega arith
+
+  performed-few : (z : Action) → length (performed z e c .tries) ≤ 528
+  performed-few Opening = opened-few (openingAnswer (e .state .day) (c .input))
+  performed-few (Message n) = stepped-few
+  performed-few (SubLimit n v) = stepped-few
+  performed-few (Status n b x) = stepped-few
+  performed-few Tick = stepped-few
+  performed-few Close = stepped-few
+  performed-few (ClosingBook d) = omega arith
+
+  judged-few : (r : Answer) → length (judged r e c .tries) ≤ 528
+  judged-few Done = performed-few (c .action)
+  judged-few (Refused r) = omega arith
+
+  pub call-tries : length (call e c .tries) ≤ 528
+  unfolding call
+  call-tries = judged-few (judge (e .state) c)
+
+runs-few : (readers : Readers) (cs : List Call) (e : Engine) → Kept (e .state) → Each (λ r. length (r .tries) ≤ 528) (run e cs)
+unfolding run
+runs-few readers [] e k = tt
+runs-few readers (c ∷ cs) e k = (call-tries readers e c k, runs-few readers cs (call e c .engine) (call-kept readers e c k))
+
+-- over any calls from a fresh start
+pub tries-never-over : Readers → (cs : List Call) → Each (λ r. length (r .tries) ≤ 528) (run cleared cs)
+tries-never-over readers cs = runs-few readers cs cleared fresh-kept

@@ -1,0 +1,11 @@
+pub mod Answers
+pub mod State
+pub mod Memory
+pub mod Replies
+pub mod Joining
+pub mod Messages
+pub mod Changes
+pub mod Ending
+pub mod Days
+pub mod Calls
+pub mod Rules
