@@ -61,7 +61,7 @@ use Rattle.reply.specs.declared.ReadResponse.{ReadResponse}
 use Rattle.reply.specs.Reply.{onSecond, onOf, onHow, onWith, ending, codeOf, noPart, refused, responseNumberAt, requestReferenceAt, batchAt, settledAt, rejectedAt, endedAt, answerAt, settlementOf, recallOf, settlementAt, recallAt, head, responseAt}
 use Rattle.reply.proofs.Digits.{value-small, digits-back, moment-digits}
 use Rattle.reply.proofs.Sound.{Referred, Named, SoundOutcome, SoundAnswer, Sound, SoundRecall}
-use Rattle.reply.proofs.RoundTrip.{referred-text, stream-text, bin-text, zero-status, one-status, settlement-lines, recall-lines}
+use Rattle.reply.proofs.RoundTrip.{referred-text, stream-text, bin-text, zero-status, one-status, settlement-lines, recall-lines, settlement-short, recall-short}
 use Rattle.reply.proofs.Lines.{lined, line-apart, forbidden-there}
 
 abbrev pub between : ℕ → ℕ → Part
@@ -501,3 +501,17 @@ one-settlement s t r h k = settlement-written s r h .0 ∙ sym (settlement-writt
 
 pub one-recall : (s t : List ℕ) (r : Response134) → responseAt s .reply ≡ Recall r → responseAt t .reply ≡ Recall r → s ≡ t
 one-recall s t r h k = recall-written s r h .0 ∙ sym (recall-written t r k .0)
+
+-- no text of more than 105 bytes is accepted
+abbrev pub Shortness : List ℕ → Reply → Type 0
+Shortness s (Settlement r) = length s ≤ 105
+Shortness s (Recall r) = length s ≤ 69
+Shortness s (Refused b) = Unit {0}
+
+pub accepted-short : (s : List ℕ) → Shortness s (responseAt s .reply)
+accepted-short s = go (responseAt s .reply) (accepted-back s)
+  where
+    go : (x : Reply) → Back s x → Shortness s x
+    go (Settlement r) b = rw (b .0) (settlement-short r (b .1))
+    go (Recall r) b = rw (b .0) (recall-short r (b .1))
+    go (Refused b) u = tt
