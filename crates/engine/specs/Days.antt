@@ -10,7 +10,8 @@ use Rattle.chars.specs.declared.Refusal.the-variants.{WrongMoment}
 use Rattle.dates.specs.Dates.{dayOf}
 use Rattle.dates.specs.declared.Day.{Day as Date}
 use Rattle.dates.specs.declared.Day.the-variants.{Number, Untrue}
-use Rattle.book.specs.Book.{bookCheck}
+use Rattle.book.specs.Book.{each, bookCheck}
+use Rattle.book.specs.Closing.{bankOf, bookBytes}
 use Rattle.book.specs.Accounts.{Bank, dayIn, streamsIn, banksIn, column}
 use Rattle.book.specs.declared.Answer.{Answer as Check}
 use Rattle.book.specs.declared.Answer.the-variants.{Sound, Fault}
@@ -64,6 +65,13 @@ abbrev pub rightDate : Day → Date → Bool
 rightDate d (Number k) = ltb (d .date) k
 rightDate d Untrue = false
 
--- the closing book of a date
+-- "A closing book carries the date given": streams, banks, balances and sub-limits as they stand
+abbrev pub onDate : Date → ℕ
+onDate (Number k) = k
+onDate Untrue = 0
+
+abbrev pub banksOf : House → Accounts → List Bank
+banksOf h a = each (bankOf (h .codes) (h .flags) (a .balances) (a .limits)) 0 (h .banks)
+
 unfoldable pub closingText : State → (date : ℕ) → List ℕ
-closingText s date = []
+closingText s date = bookBytes (onDate (dayOf date)) (s .house .streams) (banksOf (s .house) (s .books))

@@ -1,6 +1,6 @@
 -- How far a line reaches, and that two texts which begin alike have the same field.
 use Prim.Native.Nat.{ℕ, _+_, _-_, _≤_, _<_}
-use mathlib.Core.Path.{_≡_, refl, ap, sym, _∙_}
+use mathlib.Core.Path.{_≡_, refl}
 use mathlib.Core.List.{List}
 use mathlib.Core.Bool.{Bool, true, false}
 use mathlib.Core.Logic.{_⊎_, inl, inr}
@@ -9,15 +9,14 @@ use borrow.Author.Tests.{leb-true, leb-false}
 use lib.Dec.{leb}
 use lib.ListN.{length}
 use Rattle.chars.specs.declared.Refusal.{Refusal}
-use Rattle.scan.specs.Scan.{onNext, litAt, crlf}
+use Rattle.scan.specs.Scan.{litAt, crlf}
 use Rattle.scan.specs.declared.Cursor.{Cursor}
 use Rattle.scan.proofs.Standing.{lit-next}
 use Rattle.scan.proofs.Alike.{Alike, lit-alike, by-next, same-next}
-use Rattle.values.specs.declared.Part.{Part}
 use Rattle.values.specs.declared.Value.{Value}
 use Rattle.values.specs.declared.Value.the-variants.{Read, Unread}
 use Rattle.values.proofs.Alike.{EndsIn, reference-ends, numeral-ends, word-ends, bin-ends, numbers-ends, date-ends, time-ends, side-ends, amount-ends, letters-ends, count-ends, reference-alike, numeral-alike, word-alike, bin-alike, numbers-alike, date-alike, time-alike, side-alike, amount-alike, letters-alike, count-alike}
-use Rattle.fields.specs.Fields.{absent, broken, wrong, item, place, onRead, onGood, valueAt, fieldAt}
+use Rattle.fields.specs.Fields.{absent, onRead, onGood, valueAt, fieldAt}
 use Rattle.fields.specs.declared.Break.{Break}
 use Rattle.fields.specs.declared.Item.{Item}
 use Rattle.fields.specs.declared.Field.{Field}

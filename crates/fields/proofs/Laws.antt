@@ -1,6 +1,6 @@
 -- The answers of the steps over a line, by what their parts answer.
 use Prim.Native.Nat.{ℕ}
-use mathlib.Core.Path.{_≡_, refl}
+use mathlib.Core.Path.{_≡_}
 use mathlib.Core.List.{List}
 use Rattle.chars.specs.declared.Refusal.{Refusal}
 use Rattle.chars.specs.declared.Refusal.the-variants.{Malformed}
@@ -9,9 +9,8 @@ use Rattle.scan.specs.declared.At.{At}
 use Rattle.scan.specs.declared.At.the-variants.{Next, No}
 use Rattle.values.specs.declared.Value.{Value}
 use Rattle.values.specs.declared.Value.the-variants.{Read, Unread}
-use Rattle.fields.specs.Fields.{absent, broken, item, place, valueAt, fieldAt, whyNot}
+use Rattle.fields.specs.Fields.{absent, broken, item, place, valueAt, fieldAt}
 use Rattle.fields.specs.declared.Break.{Break}
-use Rattle.fields.specs.declared.Field.{Field}
 use Rattle.fields.specs.declared.Field.the-variants.{Good, Bad}
 use Rattle.fields.specs.declared.Kind.{Kind}
 

@@ -8,7 +8,6 @@ use Rattle.scan.specs.Scan.{onNext, litAt, crlf}
 use Rattle.scan.specs.declared.Cursor.{Cursor}
 use Rattle.values.specs.Values.{referenceAt, numeralAt, wordAt, binAt, numbersAt, dateAt, timeAt, sideAt, amountAt, countAt}
 use Rattle.values.specs.Letters.{lettersAt}
-use Rattle.values.specs.declared.Part.{Part}
 use Rattle.values.specs.declared.Value.{Value}
 use Rattle.values.specs.declared.Value.the-variants.{Read, Unread}
 use Rattle.fields.specs.declared.Break.{Break}

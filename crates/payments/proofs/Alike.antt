@@ -1,9 +1,9 @@
 -- How far the payments reach, and that two texts which begin alike have the same ones.
-use Prim.Native.Nat.{ℕ, zero, suc, _+_, _*_, _≤_, _<_}
-use mathlib.Core.Path.{_≡_, refl, ap, sym, _∙_}
+use Prim.Native.Nat.{ℕ, zero, suc, _+_, _*_, _≤_}
+use mathlib.Core.Path.{_≡_, refl, ap}
 use mathlib.Core.List.{List}
 use mathlib.Core.Bool.{Bool, true, false, cond}
-use mathlib.Core.Logic.{_⊎_, inl, inr}
+use mathlib.Core.Logic.{inl, inr}
 use native.Mathlib.Omega.{arith}
 use lib.Dec.{eqb}
 use lib.ListN.{set}
@@ -14,8 +14,7 @@ use Rattle.scan.specs.declared.At.the-variants.{Next, No}
 use Rattle.scan.specs.declared.Cursor.{Cursor}
 use Rattle.scan.proofs.Alike.{Alike, by-next}
 use Rattle.values.specs.Values.{stands}
-use Rattle.fields.specs.Fields.{wrong, place, onGood, fieldAt}
-use Rattle.fields.specs.declared.Break.{Break}
+use Rattle.fields.specs.Fields.{wrong, place, fieldAt}
 use Rattle.fields.specs.declared.Item.{Item}
 use Rattle.fields.specs.declared.Kind.the-variants.{Word, Side, Amount, Letters}
 use Rattle.fields.proofs.Alike.{Reaches, here, Or, field-in, field-alike, in-then, alike-then, look-alike}

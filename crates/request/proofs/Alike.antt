@@ -1,19 +1,18 @@
 -- How far a request is read, and that two texts which begin alike are read alike.
-use Prim.Native.Nat.{ℕ, _+_, _≤_, _<_}
+use Prim.Native.Nat.{ℕ, _+_, _≤_}
 use mathlib.Core.Path.{_≡_, refl, ap, sym, subst, _∙_}
 use mathlib.Core.List.{List, [], _∷_}
 use mathlib.Core.Bool.{Bool, true, false, cond}
-use mathlib.Core.Logic.{_⊎_, inl, inr}
+use mathlib.Core.Logic.{inl, inr}
 use native.Mathlib.Omega.{arith}
 use borrow.Author.Tests.{ltb-true, ltb-false}
 use lib.Dec.{eqb, ltb}
-use lib.ListN.{length, take}
-use lib.Seq.{take-take}
+use lib.ListN.{length}
 use Rattle.chars.specs.Words.{bytes, member}
 use Rattle.chars.specs.declared.Refusal.the-variants.{OtherSubType}
 use Rattle.codes.specs.Codes.{longOf, longAt}
 use Rattle.scan.specs.declared.Cursor.{Cursor}
-use Rattle.scan.proofs.Alike.{Alike, near, more-alike}
+use Rattle.scan.proofs.Alike.{Alike, more-alike}
 use Rattle.values.specs.Values.{textOf}
 use Rattle.values.specs.declared.Part.{Part}
 use Rattle.values.proofs.Alike.{text-alike, word-ends}
@@ -24,7 +23,7 @@ use Rattle.fields.specs.declared.Field.{Field}
 use Rattle.fields.specs.declared.Field.the-variants.{Good, Bad}
 use Rattle.fields.specs.declared.Kind.{Kind}
 use Rattle.fields.specs.declared.Kind.the-variants.{Reference, Numeral, Word, Bin, Count}
-use Rattle.fields.proofs.Alike.{Reaches, here, Or, In, Fine, PartIn, stop, field-in, field-near, part-in}
+use Rattle.fields.proofs.Alike.{Reaches, Or, In, Fine, PartIn, field-in, field-near, part-in}
 use Rattle.terms.specs.Terms.{onWhole, termsAt}
 use Rattle.terms.specs.declared.Terms.{Terms}
 use Rattle.terms.specs.declared.Stated.{Stated}

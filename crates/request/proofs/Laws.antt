@@ -1,15 +1,13 @@
 -- The steps over a request, by what their parts answer.
 use Prim.Native.Nat.{ℕ, _-_, _≤_, _<_}
-use mathlib.Core.Path.{_≡_, refl, ap, sym, _∙_}
+use mathlib.Core.Path.{_≡_, _∙_}
 use mathlib.Core.List.{List, [], _∷_}
 use mathlib.Core.Bool.{true, false}
 use native.Mathlib.Omega.{arith}
 use borrow.Author.Tests.{eq-eqb, ne-eqb, lt-ltb, le-ltb}
-use types.Run.{OneOf}
 use lib.ListN.{length}
 use Rattle.chars.specs.Words.{bytes, member}
 use Rattle.chars.specs.declared.Refusal.the-variants.{OtherSubType}
-use Rattle.chars.proofs.Laws.{is-member, not-member}
 use Rattle.codes.specs.Codes.{longAt}
 use Rattle.codes.specs.declared.Code.{Code}
 use Rattle.scan.specs.declared.Cursor.{Cursor}

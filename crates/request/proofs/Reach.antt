@@ -1,5 +1,5 @@
 -- The answer to a text: it is the only one, and it depends neither on the bytes after the line of the first break nor on any past the first 4,096.
-use Prim.Native.Nat.{ℕ, _+_, _≤_, _<_}
+use Prim.Native.Nat.{ℕ, _+_}
 use mathlib.Core.Path.{_≡_, ap, sym, _∙_}
 use mathlib.Core.List.{List}
 use mathlib.Core.Logic.{inl, inr}

@@ -7,10 +7,9 @@ use lib.Dec.{eqb, ltb}
 use Rattle.chars.specs.Words.{bytes, member}
 use Rattle.chars.specs.declared.Refusal.the-variants.{OtherSubType}
 use Rattle.codes.specs.Codes.{longAt}
-use Rattle.codes.specs.declared.Code.{Code}
 use Rattle.scan.specs.declared.Cursor.{Cursor}
 use Rattle.values.specs.declared.Part.{Part}
-use Rattle.fields.specs.Fields.{absent, broken, item, onGood, fieldAt}
+use Rattle.fields.specs.Fields.{absent, broken, onGood, fieldAt}
 use Rattle.fields.specs.declared.Break.{Break}
 use Rattle.fields.specs.declared.Item.{Item}
 use Rattle.fields.specs.declared.Kind.the-variants.{Reference, Numeral, Word, Bin, Count}

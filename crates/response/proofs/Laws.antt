@@ -1,8 +1,8 @@
 -- The lines of a response: their lengths, and how the pieces that are written make them up.
 use Prim.Native.Nat.{ℕ, _+_, _-_, _≤_, _<_}
-use mathlib.Core.Path.{_≡_, refl, ap, sym, _∙_}
-use mathlib.Core.Bool.{Bool, true, false, cond, not}
-use mathlib.Core.List.{List, [], _∷_, _++_, append-assoc}
+use mathlib.Core.Path.{_≡_, refl, sym, _∙_}
+use mathlib.Core.Bool.{Bool, true, false, not}
+use mathlib.Core.List.{List, [], _++_, append-assoc}
 use native.Mathlib.Omega.{arith}
 use borrow.Author.Tests.{le-leb, lt-leb, leb-true, leb-false, not-true, not-false}
 use lib.Dec.{leb}
@@ -124,3 +124,11 @@ pub recall-pieces : (r : Recall) (out : List ℕ) (at : ℕ) {n : ℕ} {o₁ o�
     → o₁ ≡ sets out at (headText (r .number) 134 (r .reference)) → o₂ ≡ sets o₁ (at + (36 + n)) (answerText (r .answer)) → o₂ ≡ sets out at (recallText r)
 unfolding recallText
 recall-pieces r out at p e f = then out (headText (r .number) 134 (r .reference)) (answerText (r .answer)) at e f (omega (arith, p, head-length (r .number) 134 (r .reference)))
+
+-- "A 132 is at most 105 bytes": 16 characters of a reference and 8 of a BIN are the most
+pub outcome-most : (o : Outcome) → length (outcomeText o) ≤ 27
+outcome-most (Settled day second) = omega (arith, settled-length day second)
+outcome-most (Rejected number) = omega (arith, rejected-length number)
+
+pub settlement-most : (r : Settlement) → length (longText (r .reference)) ≤ 16 → length (longText (r .bin)) ≤ 8 → length (settlementText r) ≤ 105
+settlement-most r p q = omega (arith, settlement-length r refl refl refl, outcome-most (r .outcome))

@@ -14,7 +14,6 @@ use Rattle.scan.specs.Scan.{crlf, onNext, begins, litAt, run, codesAt, c
 use Rattle.scan.specs.declared.Run.{Run}
 use Rattle.scan.specs.declared.At.{At}
 use Rattle.scan.specs.declared.At.the-variants.{Next, No}
-use Rattle.scan.specs.declared.Fixed.{Fixed}
 use Rattle.scan.specs.declared.Fixed.the-variants.{Value, No as Unfit}
 
 -- the same first n bytes

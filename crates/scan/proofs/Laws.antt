@@ -1,7 +1,7 @@
 -- What the answer at a place is, by what stands there.
 use Prim.Native.Nat.{ℕ, zero, suc, _+_, _-_, _*_, _≤_, _<_}
 use mathlib.Core.Path.{_≡_, refl, ap, sym, _∙_}
-use mathlib.Core.List.{List, [], _∷_, _++_}
+use mathlib.Core.List.{List, [], _∷_}
 use mathlib.Core.Bool.{Bool, true, false, cond, not, false≢true}
 use native.Mathlib.Nat.{add-zero, add-suc, suc-add, zero-add}
 use native.Mathlib.Numerals.{add-one}
@@ -11,9 +11,8 @@ use lib.Dec.{ltb}
 use lib.ListN.{length, getD, drop, drop-of-length-le}
 use lib.Seq.{drop-cons}
 use Rattle.chars.specs.Chars.{isCode, isDigit, digitValue}
-use Rattle.scan.specs.Scan.{crlf, begins, litAt, run, codesAt, codeAt, digits, digitsAt, numberAt, lineEnd, lineEndAt, most, ten, Fits}
+use Rattle.scan.specs.Scan.{crlf, begins, litAt, run, codesAt, codeAt, digits, digitsAt, numberAt, lineEnd, most, ten}
 use Rattle.scan.specs.declared.Run.{Run}
-use Rattle.scan.specs.declared.Fixed.{Fixed}
 use Rattle.scan.specs.declared.Fixed.the-variants.{Value, No as Unfit}
 use Rattle.scan.specs.declared.At.{At}
 use Rattle.scan.specs.declared.At.the-variants.{Next, No}

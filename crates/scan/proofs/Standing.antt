@@ -8,14 +8,13 @@ use native.Mathlib.Numerals.{add-one}
 use native.Mathlib.Omega.{arith}
 use borrow.Author.Tests.{eq-eqb, eqb-true, le-leb, leb-true, leb-false, not-true}
 use lib.Dec.{leb, eqb}
-use lib.ListN.{length, getD, drop, take, take-append-drop, length-take, length-append}
+use lib.ListN.{length, getD, drop, take, take-append-drop, length-take}
 use lib.Seq.{drop-cons, drop-drop, drop-append-seam, take-append-seam}
 use Rattle.chars.specs.Chars.{isCode, isDigit, digitValue}
 use Rattle.scan.specs.Scan.{crlf, begins, litAt, run, codesAt, codeAt, digits, digitsAt, numberAt, lineEnd, lineEndAt}
 use Rattle.scan.specs.declared.Run.{Run}
 use Rattle.scan.specs.declared.At.{At}
 use Rattle.scan.specs.declared.At.the-variants.{Next, No}
-use Rattle.scan.specs.declared.Fixed.{Fixed}
 use Rattle.scan.specs.declared.Fixed.the-variants.{Value, No as Unfit}
 use Rattle.scan.proofs.Laws.{lit-yes, end-past}
 

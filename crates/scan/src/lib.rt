@@ -1,6 +1,6 @@
 // Steps over a text at a place: a fixed string, a run of A-Z 0-9, a number, the end of a line.
 ghost use mathlib.Core.Path.{_≡_};
-ghost use Prim.Native.Nat.{_<_, _≤_};
+ghost use Prim.Native.Nat.{_<_};
 ghost use Rattle.scan.specs.Scan.{litAt, codesAt, codeAt, digitsAt, numberAt, lineEndAt, most, ten, Fits};
 
 // A place in a text.

@@ -1,8 +1,8 @@
 -- How far 16A, 171 and 175 reach, and that two texts which begin alike have the same ones.
-use Prim.Native.Nat.{ℕ, _+_, _≤_, _<_}
+use Prim.Native.Nat.{ℕ}
 use mathlib.Core.Path.{_≡_, refl}
 use mathlib.Core.List.{List}
-use mathlib.Core.Logic.{_⊎_, inl, inr}
+use mathlib.Core.Logic.{inl, inr}
 use native.Mathlib.Omega.{arith}
 use Rattle.chars.specs.Words.{bytes}
 use Rattle.scan.specs.Scan.{onNext, litAt}
@@ -10,13 +10,11 @@ use Rattle.scan.specs.declared.At.{At}
 use Rattle.scan.specs.declared.At.the-variants.{Next, No}
 use Rattle.scan.specs.declared.Cursor.{Cursor}
 use Rattle.scan.proofs.Alike.{Alike, by-next}
-use Rattle.values.specs.declared.Part.{Part}
 use Rattle.fields.specs.Fields.{place, onGood, fieldAt}
 use Rattle.fields.specs.declared.Item.{Item}
 use Rattle.fields.specs.declared.Kind.the-variants.{Numbers, Date, Time}
 use Rattle.fields.proofs.Alike.{Reaches, here, Or, field-in, field-alike, in-then, alike-then, look-alike}
 use Rattle.terms.specs.Terms.{noPart, activationAt, onGiven, terms, termsAt}
-use Rattle.terms.specs.declared.Activation.{Activation}
 use Rattle.terms.specs.declared.Activation.the-variants.{AtOnce, Minute}
 use Rattle.terms.specs.declared.Activated.{Activated}
 use Rattle.terms.specs.declared.Activated.the-variants.{Given, Ungiven}

@@ -1,6 +1,6 @@
 -- The steps over 16A, 171 and 175, by what their parts answer.
 use Prim.Native.Nat.{ℕ}
-use mathlib.Core.Path.{_≡_, refl}
+use mathlib.Core.Path.{_≡_}
 use mathlib.Core.List.{List}
 use Rattle.chars.specs.Words.{bytes}
 use Rattle.scan.specs.Scan.{litAt}

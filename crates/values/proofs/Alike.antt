@@ -1,6 +1,6 @@
 -- Where a value ends, and that two texts which begin alike have the same value.
-use Prim.Native.Nat.{ℕ, zero, suc, _+_, _*_, _-_, _≤_, _<_}
-use mathlib.Core.Path.{_≡_, refl, ap, sym, _∙_}
+use Prim.Native.Nat.{ℕ, zero, suc, _+_, _*_, _-_, _≤_}
+use mathlib.Core.Path.{_≡_, refl, ap}
 use mathlib.Core.List.{List, [], _∷_}
 use mathlib.Core.Bool.{Bool, true, false, cond}
 use native.Mathlib.Omega.{arith}
@@ -9,10 +9,7 @@ use borrow.Author.Tests.{eqb-true, leb-true, leb-false}
 use lib.ListN.{length, getD, take, drop, length-take}
 use Rattle.chars.specs.Words.{bytes}
 use Rattle.codes.specs.Codes.{packOn, shortAt}
-use Rattle.scan.specs.Scan.{onNext, litAt, codesAt, codeAt, digitsAt, numberAt, lineEndAt}
-use Rattle.scan.specs.declared.Run.{Run}
-use Rattle.scan.specs.declared.At.{At}
-use Rattle.scan.specs.declared.At.the-variants.{Next, No}
+use Rattle.scan.specs.Scan.{litAt, codesAt, codeAt, digitsAt, numberAt, lineEndAt}
 use Rattle.scan.specs.declared.Fixed.{Fixed}
 use Rattle.scan.specs.declared.Fixed.the-variants.{Value as Digits, No as Unfit}
 use Rattle.scan.proofs.Standing.{lit-next, codes-sound, code-sound, digits-sound, number-sound}
@@ -23,7 +20,7 @@ use Rattle.dates.specs.declared.Day.the-variants.{Number, Untrue}
 use Rattle.clock.specs.Clock.{minuteOf}
 use Rattle.clock.specs.declared.Minute.{Minute}
 use Rattle.clock.specs.declared.Minute.the-variants.{Number as Clocked, Untrue as Unclocked}
-use Rattle.values.specs.Values.{malformed, onDigits, onDay, onMinute, textOf, forbiddenAt, referenceAt, numeralAt, wordAt, binAt, numbered, numbersAt, dateAt, timeAt, sideAt, hundredths, amountAt, countAt}
+use Rattle.values.specs.Values.{malformed, onDigits, onDay, onMinute, textOf, forbiddenAt, referenceAt, numeralAt, wordAt, binAt, numbered, numbersAt, dateAt, timeAt, sideAt, amountAt, countAt}
 use Rattle.values.specs.Letters.{isStatus, isFourth, judgedAt, lettersAt}
 use Rattle.values.specs.declared.Part.{Part}
 use Rattle.values.specs.declared.Value.{Value}

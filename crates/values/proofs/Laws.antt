@@ -1,6 +1,6 @@
 -- The answers of the steps that read a value, by what their parts answer.
 use Prim.Native.Nat.{ℕ, _+_, _*_, _-_, _≤_, _<_}
-use mathlib.Core.Path.{_≡_, refl, ap, sym, _∙_}
+use mathlib.Core.Path.{_≡_, refl, sym, _∙_}
 use mathlib.Core.List.{List, []}
 use mathlib.Core.Bool.{Bool, true, false, not, or-true, and-false}
 use native.Mathlib.Omega.{arith}

@@ -1,5 +1,4 @@
 use borrow.Author.Needs.{needs}
-use native.Mathlib.Omega.{arith}
 use Rattle.scan.proofs.Laws.{codes-from, code-1, code-2}
 use Rattle.scan.proofs.code.Statement.{statement}
 use Rattle.scan.proofs.code.Tie as tie

@@ -1,8 +1,7 @@
-use Prim.Native.Nat.{_≤_, _-_}
+use Prim.Native.Nat.{_-_}
 use mathlib.Core.Path.{_≡_, refl, sym, _∙_}
 use native.Mathlib.Omega.{arith}
 use borrow.Author.Needs.{needs}
-use lib.ListN.{length, drop}
 use Rattle.scan.specs.Scan.{codesAt}
 use Rattle.scan.proofs.Laws.{codes-none, codes-end, codes-stop, codes-down}
 use borrow.Author.Tests.{not-true, not-false}

@@ -1,11 +1,10 @@
-use Prim.Native.Nat.{_≤_, _-_}
-use mathlib.Core.Path.{_≡_, refl, sym, _∙_}
+use Prim.Native.Nat.{_-_}
+use mathlib.Core.Path.{_≡_}
 use mathlib.Core.Logic.{⊎-elim}
 use native.Mathlib.Omega.{arith}
 use borrow.Author.Needs.{needs}
 use borrow.Author.Tests.{lt-ltb, le-ltb}
-use lib.ListN.{length, drop}
-use Rattle.scan.specs.Scan.{digitsAt, most}
+use Rattle.scan.specs.Scan.{most}
 use Rattle.scan.proofs.Laws.{Going, going-start, going-end, going-stop, going-none, going-on, going-fits, most-18}
 use Rattle.scan.proofs.digits.Statement.{statement}
 use Rattle.scan.proofs.digits.Tie as tie

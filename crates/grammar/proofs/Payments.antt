@@ -1,0 +1,242 @@
+-- The payments of a request as a grammar.
+use Prim.Native.Nat.{ℕ, zero, suc, _+_, _≤_}
+use mathlib.Core.Path.{_≡_, refl, ap, sym, subst, _∙_}
+use mathlib.Core.List.{List, _++_}
+use mathlib.Core.Bool.{Bool, true, false, cond}
+use mathlib.Core.Logic.{_⊎_, inl, inr}
+use native.Mathlib.Omega.{arith}
+use borrow.Author.Tests.{eq-eqb, ne-eqb, eqb-true, eqb-false}
+use lib.Dec.{eqb}
+use lib.ListN.{length, drop, set}
+use Rattle.chars.specs.Words.{bytes}
+use Rattle.scan.specs.Scan.{onNext, crlf, begins, litAt}
+use Rattle.scan.specs.declared.At.{At}
+use Rattle.scan.specs.declared.At.the-variants.{Next, No}
+use Rattle.scan.specs.declared.Cursor.{Cursor}
+use Rattle.scan.proofs.Standing.{past, lit-reads, lit-next}
+use Rattle.values.specs.Values.{sideAt}
+use Rattle.values.specs.declared.Value.{Value}
+use Rattle.values.specs.declared.Value.the-variants.{Read, Unread}
+use Rattle.values.proofs.Grammar.{IsSide, IsAmount, IsWord, IsLetters}
+use Rattle.fields.specs.Fields.{absent, broken, wrong, item, place, onRead, onGood, valueAt, fieldAt}
+use Rattle.fields.specs.declared.Break.{Break}
+use Rattle.fields.specs.declared.Item.{Item}
+use Rattle.fields.specs.declared.Field.{Field}
+use Rattle.fields.specs.declared.Field.the-variants.{Good, Bad}
+use Rattle.fields.specs.declared.Kind.{Kind}
+use Rattle.fields.specs.declared.Kind.the-variants.{Word, Side, Amount, Letters}
+use Rattle.fields.proofs.Grammar.{Line, line-complete, line-sound}
+use Rattle.payments.specs.Payments.{nothing, none, payment, bankAt, creditAt, debitAt, paymentAt, moreAt, onPaid, ended, paymentsOn, paymentsAt}
+use Rattle.payments.specs.declared.Payment.{Payment}
+use Rattle.payments.specs.declared.Paid.{Paid}
+use Rattle.payments.specs.declared.Paid.the-variants.{One, Unpaid}
+use Rattle.payments.specs.declared.Ending.the-variants.{Done, Cut}
+use Rattle.payments.specs.declared.Payments.{Payments}
+
+-- "127, 32B, 113, 102: one payment .. 113 stands after DR and never after CR": l is a payment, and then r
+pub data PaymentText : List ℕ → List ℕ → Type 0 where
+  credit : {l m n r : List ℕ} → Line (bytes ":127:") (λ (v : List ℕ). v ≡ bytes "CR") l m → Line (bytes ":32B:") IsAmount m n → Line (bytes ":102:") (IsWord 4) n r → PaymentText l r
+  debit : {l m n o r : List ℕ} → Line (bytes ":127:") (λ (v : List ℕ). v ≡ bytes "DR") l m → Line (bytes ":32B:") IsAmount m n → Line (bytes ":113:") IsLetters n o → Line (bytes ":102:") (IsWord 4) o r → PaymentText l r
+
+-- so many payments, one after the other
+pub data PaymentsText : ℕ → List ℕ → List ℕ → Type 0 where
+  none-left : {r : List ℕ} → PaymentsText 0 r r
+  one-more : {k : ℕ} {l m r : List ℕ} → PaymentText l m → PaymentsText k m r → PaymentsText (suc k) l r
+
+-- what a fixed string is not, from its first bytes
+pub not-there : (s : List ℕ) (at : ℕ) (p q r : List ℕ) → drop at s ≡ q ++ r → begins p (q ++ r) ≡ false → litAt s at p ≡ No
+unfolding litAt
+not-there s at p q r h e = rw (h, e)
+
+-- the number of a side
+side-cr : (s : List ℕ) (at : ℕ) (r : List ℕ) → drop at s ≡ bytes "CR" ++ r → sideAt s at ≡ Read 0 (at + 2)
+unfolding sideAt
+side-cr s at r h = simp (lit-reads s at (bytes "CR") r h)
+
+side-dr : (s : List ℕ) (at : ℕ) (r : List ℕ) → drop at s ≡ bytes "DR" ++ r → sideAt s at ≡ Read 1 (at + 2)
+unfolding sideAt begins
+side-dr s at r h = simp (not-there s at (bytes "CR") (bytes "DR") r h refl, lit-reads s at (bytes "DR") r h)
+
+pub number-is : {v : Value} {x y d e : ℕ} → v ≡ Read x d → v ≡ Read y e → x ≡ y
+number-is p q = cc
+
+-- complete
+pub record Paying (s : List ℕ) (at : ℕ) (r : List ℕ) : Type 0 where
+  pub payment : Payment
+  pub next : ℕ
+  pub is : paymentAt s at ≡ One payment (place next)
+  pub rest : drop next s ≡ r
+
+abbrev with-side : (w : List ℕ) {l r : List ℕ} → IsSide w → Line (bytes ":127:") (λ (v : List ℕ). v ≡ w) l r → Line (bytes ":127:") IsSide l r
+with-side w i g = record { value = g .value; text = g .text; is = subst IsSide (sym (g .is)) i }
+
+payment-complete : (s : List ℕ) (at : ℕ) {l r : List ℕ} → drop at s ≡ l → PaymentText l r → Paying s at r
+unfolding paymentAt creditAt debitAt bankAt begins
+payment-complete s at h (credit {m = m} {r = r} g₁ g₂ g₃) =
+    let a = line-complete s at (bytes ":127:") Side 0 tt h (with-side (bytes "CR") (inl refl) g₁) in
+    let b = line-complete s (at + 5 + length (g₁ .value) + 2) (bytes ":32B:") Amount 0 tt (a .rest) g₂ in
+    let n = at + 5 + length (g₁ .value) + 2 + 5 + length (g₂ .value) + 2 in
+    let c = line-complete s n (bytes ":102:") (Word 4) 0 (omega arith) (b .rest) g₃ in
+    let z : a .number ≡ 0 = number-is (a .value) (side-cr s (at + 5) (crlf ++ m) (a .part ∙ ap (λ (l : List ℕ). l ++ (crlf ++ m)) (g₁ .is))) in
+    let x : litAt s n (bytes ":113:") ≡ No = not-there s n (bytes ":113:") (bytes ":102:") (g₃ .value ++ (crlf ++ r)) (b .rest ∙ g₃ .text) refl in
+    record {
+      payment = payment (item (at + 5) (at + 5 + length (g₁ .value)) (a .number)) (item (at + 5 + length (g₁ .value) + 2 + 5) (at + 5 + length (g₁ .value) + 2 + 5 + length (g₂ .value)) (b .number)) nothing (item (n + 5) (n + 5 + length (g₃ .value)) (c .number));
+      next = n + 5 + length (g₃ .value) + 2;
+      is = simp (a .is, b .is, eq-eqb (a .number) 0 z, x, c .is);
+      rest = c .rest;
+    }
+payment-complete s at h (debit {m = m} {r = r} g₁ g₂ g₃ g₄) =
+    let a = line-complete s at (bytes ":127:") Side 0 tt h (with-side (bytes "DR") (inr refl) g₁) in
+    let b = line-complete s (at + 5 + length (g₁ .value) + 2) (bytes ":32B:") Amount 0 tt (a .rest) g₂ in
+    let n = at + 5 + length (g₁ .value) + 2 + 5 + length (g₂ .value) + 2 in
+    let c = line-complete s n (bytes ":113:") Letters 0 tt (b .rest) g₃ in
+    let d = line-complete s (n + 5 + length (g₃ .value) + 2) (bytes ":102:") (Word 4) 0 (omega arith) (c .rest) g₄ in
+    let z : a .number ≡ 1 = number-is (a .value) (side-dr s (at + 5) (crlf ++ m) (a .part ∙ ap (λ (l : List ℕ). l ++ (crlf ++ m)) (g₁ .is))) in
+    let y : (a .number ≡ 0 → ⊥) = λ e. omega (arith, z, e) in
+    record {
+      payment = payment (item (at + 5) (at + 5 + length (g₁ .value)) (a .number)) (item (at + 5 + length (g₁ .value) + 2 + 5) (at + 5 + length (g₁ .value) + 2 + 5 + length (g₂ .value)) (b .number)) (item (n + 5) (n + 5 + length (g₃ .value)) (c .number)) (item (n + 5 + length (g₃ .value) + 2 + 5) (n + 5 + length (g₃ .value) + 2 + 5 + length (g₄ .value)) (d .number));
+      next = n + 5 + length (g₃ .value) + 2 + 5 + length (g₄ .value) + 2;
+      is = simp (a .is, b .is, ne-eqb (a .number) 0 y, c .is, d .is);
+      rest = d .rest;
+    }
+
+-- a payment begins with its tag, and a count with another
+pub payment-begins : {l r : List ℕ} → PaymentText l r → begins (bytes ":127:") l ≡ true
+unfolding begins
+payment-begins (credit g₁ g₂ g₃) = rw (g₁ .text)
+payment-begins (debit g₁ g₂ g₃ g₄) = rw (g₁ .text)
+
+more-is : (s : List ℕ) (at : ℕ) (b : Bool) {l : List ℕ} → drop at s ≡ l → begins (bytes ":127:") l ≡ b → moreAt s at ≡ b
+unfolding moreAt litAt
+more-is s at true h e = rw (h, e)
+more-is s at false h e = rw (h, e)
+
+pub record AllPaid (x : Payments) (s : List ℕ) (n : ℕ) (r : List ℕ) : Type 0 where
+  pub next : ℕ
+  pub is : x .ending ≡ Done (place next)
+  pub count : x .n ≡ n
+  pub rest : drop next s ≡ r
+
+on-complete : (s : List ℕ) (room k : ℕ) {l r : List ℕ} (at n : ℕ) (items : List Payment) → drop at s ≡ l → PaymentsText (suc k) l r → suc k ≤ room → begins (bytes ":127:") r ≡ false → AllPaid (paymentsOn room s at n items) s (n + suc k) r
+unfolding paymentsOn
+on-complete s zero k at n items h (one-more p q) m e = absurd (omega arith)
+on-complete s (suc room) zero at n items h (one-more p none-left) m e =
+    let g = payment-complete s at h p in
+    let w = more-is s (g .next) false (g .rest) e in
+    record { next = g .next; is = simp (g .is, w); count = simp (g .is, w) (omega arith); rest = g .rest }
+on-complete s (suc room) (suc k) at n items h (one-more p (one-more q o)) m e =
+    let g = payment-complete s at h p in
+    let w = more-is s (g .next) true (g .rest) (payment-begins q) in
+    let i = on-complete s room k (g .next) (n + 1) (set items n (g .payment)) (g .rest) (one-more q o) (omega arith) e in
+    record { next = i .next; is = simp (g .is, w) (i .is); count = simp (g .is, w) (i .count ∙ omega arith); rest = i .rest }
+
+pub payments-complete : (s : List ℕ) (at k : ℕ) {l r : List ℕ} → drop at s ≡ l → PaymentsText (suc k) l r → suc k ≤ 10 → begins (bytes ":127:") r ≡ false → AllPaid (paymentsAt s at) s (suc k) r
+unfolding paymentsAt
+payments-complete s at k h p m e = let g = on-complete s 10 k at 0 none h p m e in record { next = g .next; is = g .is; count = g .count ∙ omega arith; rest = g .rest }
+
+-- sound
+unpaid : {A : Type 0} {b : Break} {p : Payment} {c : Cursor} → Unpaid b ≡ One p c → A
+unpaid h = let z : _≡_ {A = ℕ} 0 1 = cc in absurd (omega arith)
+
+on-field : {A : Type 0} (s : List ℕ) (at : ℕ) (tag : List ℕ) (k : Kind) (f : Item → Cursor → Paid) {p : Payment} {c : Cursor} → onGood (fieldAt s at tag k) Unpaid f ≡ One p c → ((i : Item) (d : Cursor) → fieldAt s at tag k ≡ Good i d → f i d ≡ One p c → A) → A
+on-field {A} s at tag k f {p} {c} h g = go (fieldAt s at tag k) refl h
+  where
+    go : (x : Field) → fieldAt s at tag k ≡ x → onGood x Unpaid f ≡ One p c → A
+    go (Good i d) q h = g i d q h
+    go (Bad b) q h = unpaid h
+
+bank-sound : (s : List ℕ) (at : ℕ) (side amount letters : Item) {p : Payment} {c : Cursor} → bankAt s at side amount letters ≡ One p c → Line (bytes ":102:") (IsWord 4) (drop at s) (drop (c .at) s)
+unfolding bankAt
+bank-sound s at side amount letters {p} {c} h = on-field s at (bytes ":102:") (Word 4) (λ bank d. One (payment side amount letters bank) d) h (λ i d q r.
+    let z : d ≡ c = cc in
+    rw (← z) (line-sound s at (bytes ":102:") (Word 4) q))
+
+no-field : {A : Type 0} {b : Break} {i : Item} {c : Cursor} → Bad b ≡ Good i c → A
+no-field h = let z : _≡_ {A = ℕ} 0 1 = cc in absurd (omega arith)
+
+-- the number beside a field is that of its value, and its part begins after the tag
+pub field-value : (s : List ℕ) (at : ℕ) (tag : List ℕ) (k : Kind) {i : Item} {c : Cursor} → fieldAt s at tag k ≡ Good i c → (valueAt s (at + length tag) k ≡ Read (i .number) (i .part .end)) × (i .part .start ≡ at + length tag)
+unfolding fieldAt
+field-value s at tag k {i} {c} h = go₁ (litAt s at tag) refl h
+  where
+    go₃ : (a v e : ℕ) → litAt s at tag ≡ Next a → valueAt s a k ≡ Read v e → (r : At) → onNext r (Bad (wrong at)) (λ n. Good (item a e v) (place n)) ≡ Good i c → (valueAt s (at + length tag) k ≡ Read (i .number) (i .part .end)) × (i .part .start ≡ at + length tag)
+    go₃ a v e l g No h = no-field h
+    go₃ a v e l g (Next n) h =
+        let z : item a e v ≡ i = cc in
+        rw (← z, ← lit-next s at tag l) (g, refl)
+
+    go₂ : (a : ℕ) → litAt s at tag ≡ Next a → (r : Value) → valueAt s a k ≡ r → onRead r (λ x. Bad (broken at x)) (λ v e. onNext (litAt s e crlf) (Bad (wrong at)) (λ n. Good (item a e v) (place n))) ≡ Good i c → (valueAt s (at + length tag) k ≡ Read (i .number) (i .part .end)) × (i .part .start ≡ at + length tag)
+    go₂ a l (Read v e) g h = go₃ a v e l g (litAt s e crlf) h
+    go₂ a l (Unread x) g h = no-field h
+
+    go₁ : (r : At) → litAt s at tag ≡ r → onNext r (Bad (absent at)) (λ a. onRead (valueAt s a k) (λ x. Bad (broken at x)) (λ v e. onNext (litAt s e crlf) (Bad (wrong at)) (λ n. Good (item a e v) (place n)))) ≡ Good i c → (valueAt s (at + length tag) k ≡ Read (i .number) (i .part .end)) × (i .part .start ≡ at + length tag)
+    go₁ (Next a) l h = go₂ a l (valueAt s a k) refl h
+    go₁ No l h = no-field h
+
+-- which side it is, by its number
+abbrev Sided : List ℕ → ℕ → Item → Cursor → Type 0
+Sided s at i d = (Line (bytes ":127:") (λ (v : List ℕ). v ≡ bytes "CR") (drop at s) (drop (d .at) s) × (i .number ≡ 0)) ⊎ (Line (bytes ":127:") (λ (v : List ℕ). v ≡ bytes "DR") (drop at s) (drop (d .at) s) × (i .number ≡ 1))
+
+side-sound : (s : List ℕ) (at : ℕ) (i : Item) (d : Cursor) → fieldAt s at (bytes ":127:") Side ≡ Good i d → Sided s at i d
+side-sound s at i d q = go (g .is)
+  where
+    g : Line (bytes ":127:") IsSide (drop at s) (drop (d .at) s)
+    g = line-sound s at (bytes ":127:") Side q
+
+    here : drop (at + 5) s ≡ g .value ++ (crlf ++ drop (d .at) s)
+    here = past s at (bytes ":127:") (g .value ++ (crlf ++ drop (d .at) s)) (g .text)
+
+    go : IsSide (g .value) → Sided s at i d
+    go (inl e) = inl (record { value = g .value; text = g .text; is = e }, number-is (field-value s at (bytes ":127:") Side q .0) (side-cr s (at + 5) (crlf ++ drop (d .at) s) (here ∙ ap (λ (l : List ℕ). l ++ (crlf ++ drop (d .at) s)) e)))
+    go (inr e) = inr (record { value = g .value; text = g .text; is = e }, number-is (field-value s at (bytes ":127:") Side q .0) (side-dr s (at + 5) (crlf ++ drop (d .at) s) (here ∙ ap (λ (l : List ℕ). l ++ (crlf ++ drop (d .at) s)) e)))
+
+payment-sound : (s : List ℕ) (at : ℕ) {p : Payment} {c : Cursor} → paymentAt s at ≡ One p c → PaymentText (drop at s) (drop (c .at) s)
+unfolding paymentAt creditAt debitAt
+payment-sound s at {p} {c} h = on-field s at (bytes ":127:") Side _ h (λ i d q₁ r₁.
+    on-field s (d .at) (bytes ":32B:") Amount _ r₁ (λ m e q₂ r₂. go i d m e (side-sound s at i d q₁) (line-sound s (d .at) (bytes ":32B:") Amount q₂) (eqb (i .number) 0) refl r₂))
+  where
+    no-letters : (i m : Item) (e : Cursor) (r : At) → onNext r (bankAt s (e .at) i m nothing) (λ a. Unpaid (wrong (e .at))) ≡ One p c → Line (bytes ":102:") (IsWord 4) (drop (e .at) s) (drop (c .at) s)
+    no-letters i m e No h = bank-sound s (e .at) i m nothing h
+    no-letters i m e (Next a) h = unpaid h
+
+    go : (i : Item) (d : Cursor) (m : Item) (e : Cursor) → Sided s at i d → Line (bytes ":32B:") IsAmount (drop (d .at) s) (drop (e .at) s) → (b : Bool) → eqb (i .number) 0 ≡ b → cond b (onNext (litAt s (e .at) (bytes ":113:")) (bankAt s (e .at) i m nothing) (λ a. Unpaid (wrong (e .at)))) (onGood (fieldAt s (e .at) (bytes ":113:") Letters) Unpaid (λ letters f. bankAt s (f .at) i m letters)) ≡ One p c → PaymentText (drop at s) (drop (c .at) s)
+    go i d m e (inl g) a true b h = credit (g .0) a (no-letters i m e (litAt s (e .at) (bytes ":113:")) h)
+    go i d m e (inl g) a false b h = absurd (eqb-false (i .number) 0 b (g .1))
+    go i d m e (inr g) a true b h = absurd (omega (arith, eqb-true (i .number) 0 b, g .1))
+    go i d m e (inr g) a false b h = on-field s (e .at) (bytes ":113:") Letters _ h (λ j f q r.
+        debit (g .0) a (line-sound s (e .at) (bytes ":113:") Letters q) (bank-sound s (f .at) i m j r))
+
+-- so many payments were read
+pub record ReadOff (x : Payments) (s : List ℕ) (at n room : ℕ) (d : Cursor) : Type 0 where
+  pub many : ℕ
+  pub most : many ≤ room
+  pub least : 1 ≤ room → 1 ≤ many
+  pub count : x .n ≡ n + many
+  pub text : PaymentsText many (drop at s) (drop (d .at) s)
+
+cut-off : {A : Type 0} {b : Break} {d : Cursor} → Cut b ≡ Done d → A
+cut-off h = let z : _≡_ {A = ℕ} 0 1 = cc in absurd (omega arith)
+
+abbrev onward : List ℕ → ℕ → ℕ → List Payment → Bool → Payment → Cursor → Payments
+onward s room n items b p c = cond b (paymentsOn room s (c .at) (n + 1) (set items n p)) (ended (Done (place (c .at))) (n + 1) (set items n p))
+
+on-sound : (s : List ℕ) (room at n : ℕ) (items : List Payment) (d : Cursor) → paymentsOn room s at n items .ending ≡ Done d → ReadOff (paymentsOn room s at n items) s at n room d
+unfolding paymentsOn
+on-sound s zero at n items d h =
+    let z : place at ≡ d = cc in
+    record { many = 0; most = omega arith; least = λ z. z; count = omega arith; text = rw (← z) none-left }
+on-sound s (suc room) at n items d h = paid (paymentAt s at) refl h (λ c p. on-sound s room (c .at) (n + 1) (set items n p) d)
+  where
+    more : (b : Bool) (p : Payment) (c : Cursor) → PaymentText (drop at s) (drop (c .at) s) → (paymentsOn room s (c .at) (n + 1) (set items n p) .ending ≡ Done d → ReadOff (paymentsOn room s (c .at) (n + 1) (set items n p)) s (c .at) (n + 1) room d) → onward s room n items b p c .ending ≡ Done d → ReadOff (onward s room n items b p c) s at n (suc room) d
+    more true p c g f h = let i = f h in record { many = suc (i .many); most = omega (arith, i .most); least = λ z. omega arith; count = i .count ∙ omega arith; text = one-more g (i .text) }
+    more false p c g f h =
+        let z : place (c .at) ≡ d = cc in
+        record { many = 1; most = omega arith; least = λ z. omega arith; count = refl; text = rw (← z) (one-more g none-left) }
+
+    paid : (x : Paid) → paymentAt s at ≡ x → onPaid x (λ b. ended (Cut b) n items) (λ p c. onward s room n items (moreAt s (c .at)) p c) .ending ≡ Done d → ((c : Cursor) (p : Payment) → paymentsOn room s (c .at) (n + 1) (set items n p) .ending ≡ Done d → ReadOff (paymentsOn room s (c .at) (n + 1) (set items n p)) s (c .at) (n + 1) room d) → ReadOff (onPaid x (λ b. ended (Cut b) n items) (λ p c. onward s room n items (moreAt s (c .at)) p c)) s at n (suc room) d
+    paid (One p c) q h f = more (moreAt s (c .at)) p c (payment-sound s at q) (f c p) h
+    paid (Unpaid b) q h f = cut-off h
+
+pub payments-sound : (s : List ℕ) (at : ℕ) (d : Cursor) → paymentsAt s at .ending ≡ Done d → ReadOff (paymentsAt s at) s at 0 10 d
+unfolding paymentsAt
+payments-sound s at d h = on-sound s 10 at 0 none d h

@@ -1,0 +1,431 @@
+-- The grammar of a request: "The text has every field once, in this order, and nothing else".
+use Prim.Native.Nat.{ℕ, zero, suc, _+_, _-_, _≤_}
+use mathlib.Core.Path.{_≡_, refl, ap, sym, subst, _∙_}
+use mathlib.Core.List.{List, [], _∷_, _++_}
+use mathlib.Core.Bool.{Bool, true, false, cond, _||_, false≢true}
+use mathlib.Core.Logic.{_⊎_, inl, inr}
+use native.Mathlib.Omega.{arith}
+use borrow.Author.Tests.{eqb-true, le-ltb, ltb-false}
+use lib.Dec.{eqb, ltb}
+use lib.ListN.{length, drop, length-drop, drop-of-length-le}
+use lib.Seq.{take-append-seam}
+use Rattle.chars.specs.Words.{bytes, member}
+use Rattle.chars.specs.declared.Refusal.the-variants.{OtherSubType}
+use Rattle.scan.specs.Scan.{onNext, crlf, begins, litAt}
+use Rattle.scan.specs.declared.At.{At}
+use Rattle.scan.specs.declared.At.the-variants.{Next, No}
+use Rattle.scan.specs.declared.Cursor.{Cursor}
+use Rattle.scan.proofs.Standing.{valueOf, past, lit-reads, number-reads}
+use Rattle.values.specs.Values.{textOf, numeralAt}
+use Rattle.values.specs.declared.Part.{Part}
+use Rattle.values.specs.declared.Value.the-variants.{Read}
+use Rattle.values.proofs.Grammar.{IsReference, IsNumeral, IsWord, IsBin, IsNumbers, IsDate, IsTime, IsCount, word-sound}
+use Rattle.fields.specs.Fields.{absent, broken, item, place, onGood, fieldAt}
+use Rattle.fields.specs.declared.Break.{Break}
+use Rattle.fields.specs.declared.Item.{Item}
+use Rattle.fields.specs.declared.Field.{Field}
+use Rattle.fields.specs.declared.Field.the-variants.{Good, Bad}
+use Rattle.fields.specs.declared.Kind.{Kind}
+use Rattle.fields.specs.declared.Kind.the-variants.{Reference, Numeral, Word, Bin, Numbers, Date, Time, Count}
+use Rattle.fields.proofs.Grammar.{Line, Spelt, line-complete, line-sound}
+use Rattle.terms.specs.Terms.{noPart, activationAt, onGiven, onWhole, terms, termsAt}
+use Rattle.terms.specs.declared.Terms.{Terms}
+use Rattle.terms.specs.declared.Activation.{Activation}
+use Rattle.terms.specs.declared.Activation.the-variants.{AtOnce, Minute}
+use Rattle.terms.specs.declared.Activated.{Activated}
+use Rattle.terms.specs.declared.Activated.the-variants.{Given, Ungiven}
+use Rattle.terms.specs.declared.Stated.{Stated}
+use Rattle.terms.specs.declared.Stated.the-variants.{Whole, Partial}
+use Rattle.payments.specs.Payments.{paymentsAt}
+use Rattle.payments.specs.declared.Ending.{Ending}
+use Rattle.payments.specs.declared.Ending.the-variants.{Done, Cut}
+use Rattle.request.specs.Request.{namedAt, address, nowhere, toStream, head, bare, refusal, settlement, addressAt, onTo, onDone, ending, settlementAt, recallAt, messageAt, requestAt}
+use Rattle.request.specs.declared.Reached.the-variants.{Bin as Both}
+use Rattle.request.specs.declared.Address.{Address}
+use Rattle.request.specs.declared.Addressed.{Addressed}
+use Rattle.request.specs.declared.Addressed.the-variants.{To, Lost}
+use Rattle.request.specs.declared.Head.{Head}
+use Rattle.request.specs.declared.Outcome.{Outcome}
+use Rattle.request.specs.declared.Outcome.the-variants.{Settlement, Recall, Refused}
+use Rattle.request.specs.declared.Reading.{Reading}
+use Rattle.grammar.proofs.Payments.{PaymentText, credit, debit, PaymentsText, none-left, one-more, number-is, payments-complete, field-value, payments-sound}
+
+-- the lines 20 to 119 of a sub type, and then r
+pub record HeadText (kind : ℕ) (s r : List ℕ) : Type 0 where
+  pub r₁ : List ℕ
+  pub r₂ : List ℕ
+  pub r₃ : List ℕ
+  pub r₄ : List ℕ
+  pub reference : Line (bytes ":20:") IsReference s r₁
+  pub three-digits : Line (bytes ":12:") (λ (v : List ℕ). IsNumeral 3 v × (valueOf 0 v ≡ kind)) r₁ r₂
+  pub empty : Line (bytes ":77E:") (IsWord 0) r₂ r₃
+  pub stream : Line (bytes ":22A:") (IsWord 4) r₃ r₄
+  pub bin : Line (bytes ":119:") (IsBin (stream .value)) r₄ r
+
+-- "A recall ends after 119."
+abbrev pub RecallText : List ℕ → Type 0
+RecallText s = HeadText 133 s []
+
+-- what follows 119 in a settlement request
+pub record BodyText (l : List ℕ) : Type 0 where
+  pub r₂ : List ℕ
+  pub r₃ : List ℕ
+  pub r₄ : List ℕ
+  pub r₅ : List ℕ
+  pub numbers : Line (bytes ":16A:") IsNumbers l r₂
+  pub date : Line (bytes ":171:") IsDate r₂ r₃
+  pub activation : (r₃ ≡ r₄) ⊎ Line (bytes ":175:") IsTime r₃ r₄
+  pub many : ℕ
+  pub least : 1 ≤ many
+  pub most : many ≤ 10
+  pub payments : PaymentsText many r₄ r₅
+  pub count : Line (bytes ":203:") (IsCount many) r₅ []
+
+pub record SettlementText (s : List ℕ) : Type 0 where
+  pub rest : List ℕ
+  pub head : HeadText 131 s rest
+  pub body : BodyText rest
+
+-- the number of a sub type
+numeral-reads : (s : List ℕ) (at n : ℕ) (v r : List ℕ) → drop at s ≡ v ++ r → n ≤ 18 → IsNumeral n v → numeralAt s at n ≡ Read (valueOf 0 v) (at + length v)
+unfolding numeralAt
+numeral-reads s at n v r h m g = rw (← g .size) (simp (number-reads s at v r h (g .all) (omega (arith, g .size))))
+
+-- a part of the text is the value that stands there
+part-is : (s : List ℕ) (a e : ℕ) (v r : List ℕ) → drop a s ≡ v ++ r → e ≡ a + length v → textOf s (record { start = a; end = e }) ≡ v
+unfolding textOf
+part-is s a e v r h z = let y : e - a ≡ length v = omega arith in rw (y, h) (take-append-seam v r)
+
+-- complete: the head
+pub record HeadRead (kind : ℕ) (s r : List ℕ) : Type 0 where
+  pub of : Head
+  pub next : ℕ
+  pub is : requestAt s ≡ cond (eqb kind 131) (settlementAt s next of) (recallAt s next of)
+  pub rest : drop next s ≡ r
+
+address-complete : (s : List ℕ) (at : ℕ) {l m n r : List ℕ} → drop at s ≡ l → Line (bytes ":77E:") (IsWord 0) l m → (g : Line (bytes ":22A:") (IsWord 4) m n) → Line (bytes ":119:") (IsBin (g .value)) n r → (a : Address) × ((k : ℕ) × ((addressAt s at ≡ To a (place k)) × (drop k s ≡ r)))
+unfolding addressAt
+address-complete s at {n = n} h g₁ g₂ g₃ =
+    let a = line-complete s at (bytes ":77E:") (Word 0) 0 (omega arith) h g₁ in
+    let p = at + 5 + length (g₁ .value) + 2 in
+    let b = line-complete s p (bytes ":22A:") (Word 4) 0 (omega arith) (a .rest) g₂ in
+    let q : Part = record { start = p + 5; end = p + 5 + length (g₂ .value) } in
+    let t = part-is s (p + 5) (p + 5 + length (g₂ .value)) (g₂ .value) (crlf ++ n) (b .part) refl in
+    let g : Line (bytes ":119:") (Spelt s (Bin q)) n _ = record { value = g₃ .value; text = g₃ .text; is = subst (λ (w : List ℕ). IsBin w (g₃ .value)) (sym t) (g₃ .is) } in
+    let k = p + 5 + length (g₂ .value) + 2 in
+    let c = line-complete s k (bytes ":119:") (Bin q) (p + 5 + length (g₂ .value)) (omega arith, omega (arith, g₂ .is .size)) (b .rest) g in
+    (address Both (item (p + 5) (p + 5 + length (g₂ .value)) (b .number)) (namedAt s (record { start = k + 5; end = k + 5 + length (g₃ .value) })), (k + 5 + length (g₃ .value) + 2, (simp (a .is, b .is, c .is), c .rest)))
+
+pub head-complete : (kind : ℕ) (s : List ℕ) {r : List ℕ} → member kind (131 ∷ 133 ∷ []) ≡ true → HeadText kind s r → HeadRead kind s r
+unfolding requestAt messageAt
+head-complete kind s m g =
+    let a = line-complete s 0 (bytes ":20:") Reference 0 tt refl (g .reference) in
+    let p = 0 + 4 + length (g .reference .value) + 2 in
+    let d : Line (bytes ":12:") (IsNumeral 3) (g .r₁) (g .r₂) = record { value = g .three-digits .value; text = g .three-digits .text; is = g .three-digits .is .0 } in
+    let b = line-complete s p (bytes ":12:") (Numeral 3) 0 (omega arith) (a .rest) d in
+    let z : b .number ≡ kind = number-is (b .value) (numeral-reads s (p + 4) 3 (d .value) (crlf ++ g .r₂) (b .part) (omega arith) (d .is)) ∙ g .three-digits .is .1 in
+    let c = address-complete s (p + 4 + length (d .value) + 2) (b .rest) (g .empty) (g .stream) (g .bin) in
+    record {
+      of = head (namedAt s (record { start = 4; end = 4 + length (g .reference .value) })) (item (p + 4) (p + 4 + length (d .value)) (b .number)) (c .0);
+      next = c .1 .0;
+      is = simp (a .is, b .is, c .1 .1 .0, z, m);
+      rest = c .1 .1 .1;
+    }
+
+-- a payment begins with a tag that is no 175
+not-timed : {l r : List ℕ} → PaymentText l r → begins (bytes ":175:") l ≡ false
+unfolding begins
+not-timed (credit g₁ g₂ g₃) = rw (g₁ .text)
+not-timed (debit g₁ g₂ g₃ g₄) = rw (g₁ .text)
+
+not-timed-many : {k : ℕ} {l r : List ℕ} → 1 ≤ k → PaymentsText k l r → begins (bytes ":175:") l ≡ false
+not-timed-many h none-left = absurd (omega arith)
+not-timed-many h (one-more p q) = not-timed p
+
+lit-none : (s : List ℕ) (at : ℕ) (p : List ℕ) {l : List ℕ} → drop at s ≡ l → begins p l ≡ false → litAt s at p ≡ No
+unfolding litAt
+lit-none s at p h e = rw (h, e)
+
+pub record Activates (s : List ℕ) (at : ℕ) (r : List ℕ) : Type 0 where
+  pub of : Activation
+  pub part : Part
+  pub next : ℕ
+  pub is : activationAt s at ≡ Given of part (place next)
+  pub rest : drop next s ≡ r
+
+activation-complete : (s : List ℕ) (at : ℕ) {l r : List ℕ} → drop at s ≡ l → ((l ≡ r) ⊎ Line (bytes ":175:") IsTime l r) → begins (bytes ":175:") r ≡ false → Activates s at r
+unfolding activationAt
+activation-complete s at h (inl e) n = record { of = AtOnce; part = noPart; next = at; is = simp (lit-none s at (bytes ":175:") (h ∙ e) n); rest = h ∙ e }
+activation-complete s at {r = r} h (inr g) n =
+    let a = line-complete s at (bytes ":175:") Time 0 tt h g in
+    record { of = Minute (a .number); part = record { start = at + 5; end = at + 5 + length (g .value) }; next = at + 5 + length (g .value) + 2; is = simp (lit-reads s at (bytes ":175:") (g .value ++ (crlf ++ r)) (h ∙ g .text), a .is); rest = a .rest }
+
+-- nothing is left of the text
+ended-here : (s : List ℕ) (at : ℕ) → drop at s ≡ [] → ltb at (length s) ≡ false
+ended-here s at h = le-ltb at (length s) (omega (arith, sym (length-drop at s) ∙ ap length h))
+
+not-more : {n : ℕ} {l r : List ℕ} → Line (bytes ":203:") (IsCount n) l r → begins (bytes ":127:") l ≡ false
+unfolding begins
+not-more g = rw (g .text)
+
+settled : (s : List ℕ) (at : ℕ) (h : Head) {l : List ℕ} (g : BodyText l) → drop at s ≡ l → settlementAt s at h .outcome ≡ Settlement
+unfolding settlementAt termsAt
+settled s at h g e = go (g .many) (g .least) (g .most) (g .payments) (g .count)
+  where
+    go : (m : ℕ) → 1 ≤ m → m ≤ 10 → PaymentsText m (g .r₄) (g .r₅) → Line (bytes ":203:") (IsCount m) (g .r₅) [] → settlementAt s at h .outcome ≡ Settlement
+    go zero l u p c = absurd (omega arith)
+    go (suc k) l u p c =
+        let a = line-complete s at (bytes ":16A:") Numbers 0 tt e (g .numbers) in
+        let b = line-complete s (at + 5 + length (g .numbers .value) + 2) (bytes ":171:") Date 0 tt (a .rest) (g .date) in
+        let t = activation-complete s (at + 5 + length (g .numbers .value) + 2 + 5 + length (g .date .value) + 2) (b .rest) (g .activation) (not-timed-many l p) in
+        let q = payments-complete s (t .next) k (t .rest) p u (not-more c) in
+        let w = line-complete s (q .next) (bytes ":203:") (Count (suc k)) 0 tt (q .rest) c in
+        simp (a .is, b .is, t .is, q .is, q .count, w .is, ended-here s (q .next + 5 + length (c .value) + 2) (w .rest))
+
+-- complete: a text of the grammar is accepted
+pub settlement-complete : (s : List ℕ) → SettlementText s → requestAt s .outcome ≡ Settlement
+settlement-complete s g =
+    let h = head-complete 131 s refl (g .head) in
+    ap (λ (r : Reading). r .outcome) (h .is) ∙ settled s (h .next) (h .of) (g .body) (h .rest)
+
+recalled : (s : List ℕ) (at : ℕ) (h : Head) → drop at s ≡ [] → recallAt s at h .outcome ≡ Recall
+unfolding recallAt
+recalled s at h e = simp (ended-here s at e)
+
+pub recall-complete : (s : List ℕ) → RecallText s → requestAt s .outcome ≡ Recall
+recall-complete s g =
+    let h = head-complete 133 s refl g in
+    ap (λ (r : Reading). r .outcome) (h .is) ∙ recalled s (h .next) (h .of) (h .rest)
+
+-- sound: what is accepted is a text of the grammar
+unaddressed : {A : Type 0} {b : Break} {x a : Address} {c : Cursor} → Lost b x ≡ To a c → A
+unaddressed h = let z : _≡_ {A = ℕ} 0 1 = cc in absurd (omega arith)
+
+pub record AddressText (l r : List ℕ) : Type 0 where
+  pub r₃ : List ℕ
+  pub r₄ : List ℕ
+  pub empty : Line (bytes ":77E:") (IsWord 0) l r₃
+  pub stream : Line (bytes ":22A:") (IsWord 4) r₃ r₄
+  pub bin : Line (bytes ":119:") (IsBin (stream .value)) r₄ r
+
+on-address : {A : Type 0} (s : List ℕ) (at : ℕ) (tag : List ℕ) (k : Kind) (x : Address) (f : Item → Cursor → Addressed) {a : Address} {c : Cursor} → onGood (fieldAt s at tag k) (λ b. Lost b x) f ≡ To a c → ((i : Item) (d : Cursor) → fieldAt s at tag k ≡ Good i d → f i d ≡ To a c → A) → A
+on-address {A} s at tag k x f {a} {c} h g = go (fieldAt s at tag k) refl h
+  where
+    go : (y : Field) → fieldAt s at tag k ≡ y → onGood y (λ b. Lost b x) f ≡ To a c → A
+    go (Good i d) q h = g i d q h
+    go (Bad b) q h = unaddressed h
+
+stream-text : (s : List ℕ) (at : ℕ) {i : Item} {d : Cursor} → fieldAt s at (bytes ":22A:") (Word 4) ≡ Good i d → (g : Line (bytes ":22A:") (IsWord 4) (drop at s) (drop (d .at) s)) → textOf s (i .part) ≡ g .value
+stream-text s at {i} {d} q g =
+    let f = field-value s at (bytes ":22A:") (Word 4) q in
+    let w = word-sound s (at + 5) 4 (f .0) in
+    let h = past s at (bytes ":22A:") (g .value ++ (crlf ++ drop (d .at) s)) (g .text) in
+    let z : i .part ≡ record { start = at + 5; end = i .part .end } = ap (λ (a : ℕ). record { start = a; end = i .part .end }) (f .1) in
+    ap (textOf s) z ∙ part-is s (at + 5) (i .part .end) (g .value) (crlf ++ drop (d .at) s) h (omega (arith, w .ends, w .is .size, g .is .size))
+
+address-sound : (s : List ℕ) (at : ℕ) {a : Address} {c : Cursor} → addressAt s at ≡ To a c → AddressText (drop at s) (drop (c .at) s)
+unfolding addressAt
+address-sound s at {a} {c} h = on-address s at (bytes ":77E:") (Word 0) nowhere _ h (λ i d q₁ r₁.
+    on-address s (d .at) (bytes ":22A:") (Word 4) nowhere _ r₁ (λ j e q₂ r₂.
+    on-address s (e .at) (bytes ":119:") (Bin (j .part)) (toStream j) _ r₂ (λ k f q₃ r₃.
+    let z : f ≡ c = cc in
+    let g₂ = line-sound s (d .at) (bytes ":22A:") (Word 4) q₂ in
+    let g₃ = line-sound s (e .at) (bytes ":119:") (Bin (j .part)) (q₃ ∙ ap (Good k) z) in
+    record {
+      r₃ = drop (d .at) s;
+      r₄ = drop (e .at) s;
+      empty = line-sound s at (bytes ":77E:") (Word 0) q₁;
+      stream = g₂;
+      bin = record { value = g₃ .value; text = g₃ .text; is = subst (λ (w : List ℕ). IsBin w (g₃ .value)) (stream-text s (d .at) q₂ g₂) (g₃ .is) };
+    })))
+
+ungiven : {A : Type 0} {b : Break} {m : Activation} {p : Part} {c : Cursor} → Ungiven b ≡ Given m p c → A
+ungiven h = let z : _≡_ {A = ℕ} 0 1 = cc in absurd (omega arith)
+
+activation-sound : (s : List ℕ) (at : ℕ) {m : Activation} {p : Part} {c : Cursor} → activationAt s at ≡ Given m p c → (drop at s ≡ drop (c .at) s) ⊎ Line (bytes ":175:") IsTime (drop at s) (drop (c .at) s)
+unfolding activationAt
+activation-sound s at {m} {p} {c} h = go (litAt s at (bytes ":175:")) h
+  where
+    timed : (x : Field) → fieldAt s at (bytes ":175:") Time ≡ x → onGood x Ungiven (λ i d. Given (Minute (i .number)) (i .part) d) ≡ Given m p c → Line (bytes ":175:") IsTime (drop at s) (drop (c .at) s)
+    timed (Good i d) q h = let z : d ≡ c = cc in line-sound s at (bytes ":175:") Time (q ∙ ap (Good i) z)
+    timed (Bad b) q h = ungiven h
+
+    go : (r : At) → onNext r (Given AtOnce noPart (place at)) (λ a. onGood (fieldAt s at (bytes ":175:") Time) Ungiven (λ i d. Given (Minute (i .number)) (i .part) d)) ≡ Given m p c → (drop at s ≡ drop (c .at) s) ⊎ Line (bytes ":175:") IsTime (drop at s) (drop (c .at) s)
+    go No h = let z : place at ≡ c = cc in inl (ap (λ (k : Cursor). drop (k .at) s) z)
+    go (Next a) h = inr (timed (fieldAt s at (bytes ":175:") Time) refl h)
+
+pub record TermsText (l r : List ℕ) : Type 0 where
+  pub r₂ : List ℕ
+  pub r₃ : List ℕ
+  pub numbers : Line (bytes ":16A:") IsNumbers l r₂
+  pub date : Line (bytes ":171:") IsDate r₂ r₃
+  pub activation : (r₃ ≡ r) ⊎ Line (bytes ":175:") IsTime r₃ r
+
+partial : {A : Type 0} {b : Break} {t : Terms} {c : Cursor} → Partial b ≡ Whole t c → A
+partial h = let z : _≡_ {A = ℕ} 0 1 = cc in absurd (omega arith)
+
+terms-sound : (s : List ℕ) (at : ℕ) {t : Terms} {c : Cursor} → termsAt s at ≡ Whole t c → TermsText (drop at s) (drop (c .at) s)
+unfolding termsAt
+terms-sound s at {t} {c} h = go₁ (fieldAt s at (bytes ":16A:") Numbers) refl h
+  where
+    go₃ : (i j : Item) (d e : Cursor) → fieldAt s at (bytes ":16A:") Numbers ≡ Good i d → fieldAt s (d .at) (bytes ":171:") Date ≡ Good j e → (x : Activated) → activationAt s (e .at) ≡ x → onGiven x Partial (λ m p f. Whole (terms i j m p) f) ≡ Whole t c → TermsText (drop at s) (drop (c .at) s)
+    go₃ i j d e q₁ q₂ (Given m p f) q₃ h =
+        let z : f ≡ c = cc in
+        record { r₂ = drop (d .at) s; r₃ = drop (e .at) s; numbers = line-sound s at (bytes ":16A:") Numbers q₁; date = line-sound s (d .at) (bytes ":171:") Date q₂; activation = activation-sound s (e .at) (q₃ ∙ ap (Given m p) z) }
+    go₃ i j d e q₁ q₂ (Ungiven b) q₃ h = partial h
+
+    go₂ : (i : Item) (d : Cursor) → fieldAt s at (bytes ":16A:") Numbers ≡ Good i d → (x : Field) → fieldAt s (d .at) (bytes ":171:") Date ≡ x → onGood x Partial (λ j e. onGiven (activationAt s (e .at)) Partial (λ m p f. Whole (terms i j m p) f)) ≡ Whole t c → TermsText (drop at s) (drop (c .at) s)
+    go₂ i d q₁ (Good j e) q₂ h = go₃ i j d e q₁ q₂ (activationAt s (e .at)) refl h
+    go₂ i d q₁ (Bad b) q₂ h = partial h
+
+    go₁ : (x : Field) → fieldAt s at (bytes ":16A:") Numbers ≡ x → onGood x Partial (λ i d. onGood (fieldAt s (d .at) (bytes ":171:") Date) Partial (λ j e. onGiven (activationAt s (e .at)) Partial (λ m p f. Whole (terms i j m p) f))) ≡ Whole t c → TermsText (drop at s) (drop (c .at) s)
+    go₁ (Good i d) q₁ h = go₂ i d q₁ (fieldAt s (d .at) (bytes ":171:") Date) refl h
+    go₁ (Bad b) q₁ h = partial h
+
+-- an outcome that is no refusal
+module _ (o : Outcome) (ok : (b : Break) → Refused b ≡ o → ⊥) where
+  on-reading : {A : Type 0} (s : List ℕ) (at : ℕ) (tag : List ℕ) (k : Kind) (x : Address) (f : Item → Cursor → Reading) → onGood (fieldAt s at tag k) (λ b. refusal b x) f .outcome ≡ o → ((i : Item) (d : Cursor) → fieldAt s at tag k ≡ Good i d → f i d .outcome ≡ o → A) → A
+  on-reading {A} s at tag k x f h g = go (fieldAt s at tag k) refl h
+    where
+      go : (y : Field) → fieldAt s at tag k ≡ y → onGood y (λ b. refusal b x) f .outcome ≡ o → A
+      go (Good i d) q h = g i d q h
+      go (Bad b) q h = absurd (ok b h)
+
+  on-ending : {A : Type 0} (s : List ℕ) (at : ℕ) (x : Address) (r : Reading) → ending s at x r .outcome ≡ o → (drop at s ≡ [] → r .outcome ≡ o → A) → A
+  on-ending {A} s at x r h f = go (ltb at (length s)) refl h
+    where
+      go : (b : Bool) → ltb at (length s) ≡ b → cond b (refusal (absent at) x) r .outcome ≡ o → A
+      go true q h = absurd (ok (absent at) h)
+      go false q h = f (drop-of-length-le s (ltb-false at (length s) q)) h
+
+  -- the head
+  pub record HeadStands (s : List ℕ) : Type 0 where
+    pub kind : ℕ
+    pub known : member kind (131 ∷ 133 ∷ []) ≡ true
+    pub of : Head
+    pub next : ℕ
+    pub text : HeadText kind s (drop next s)
+    pub is : cond (eqb kind 131) (settlementAt s next of) (recallAt s next of) .outcome ≡ o
+
+  head-sound : (s : List ℕ) → requestAt s .outcome ≡ o → HeadStands s
+  unfolding requestAt messageAt
+  head-sound s h = on-reading s 0 (bytes ":20:") Reference nowhere _ h (λ i c q₁ r₁.
+      on-reading s (c .at) (bytes ":12:") (Numeral 3) nowhere _ r₁ (λ t d q₂ r₂. typed i c t d q₁ q₂ (member (t .number) (131 ∷ 133 ∷ [])) refl r₂))
+    where
+      addressed : (i : Item) (c : Cursor) (t : Item) (d : Cursor) → fieldAt s 0 (bytes ":20:") Reference ≡ Good i c → fieldAt s (c .at) (bytes ":12:") (Numeral 3) ≡ Good t d → member (t .number) (131 ∷ 133 ∷ []) ≡ true → (x : Addressed) → addressAt s (d .at) ≡ x → onTo x refusal (λ a e. cond (eqb (t .number) 131) (settlementAt s (e .at) (head (namedAt s (i .part)) t a)) (recallAt s (e .at) (head (namedAt s (i .part)) t a))) .outcome ≡ o → HeadStands s
+      addressed i c t d q₁ q₂ m (Lost b a) q₃ h = absurd (ok b h)
+      addressed i c t d q₁ q₂ m (To a e) q₃ h =
+          let g₁ = line-sound s 0 (bytes ":20:") Reference q₁ in
+          let g₂ = line-sound s (c .at) (bytes ":12:") (Numeral 3) q₂ in
+          let g₃ = address-sound s (d .at) q₃ in
+          let p = past s (c .at) (bytes ":12:") (g₂ .value ++ (crlf ++ drop (d .at) s)) (g₂ .text) in
+          let v = number-is (numeral-reads s (c .at + 4) 3 (g₂ .value) (crlf ++ drop (d .at) s) p (omega arith) (g₂ .is)) (field-value s (c .at) (bytes ":12:") (Numeral 3) q₂ .0) in
+          record {
+            kind = t .number;
+            known = m;
+            of = head (namedAt s (i .part)) t a;
+            next = e .at;
+            text = record {
+              r₁ = drop (c .at) s;
+              r₂ = drop (d .at) s;
+              r₃ = g₃ .r₃;
+              r₄ = g₃ .r₄;
+              reference = g₁;
+              three-digits = record { value = g₂ .value; text = g₂ .text; is = (g₂ .is, v) };
+              empty = g₃ .empty;
+              stream = g₃ .stream;
+              bin = g₃ .bin;
+            };
+            is = h;
+          }
+
+      typed : (i : Item) (c : Cursor) (t : Item) (d : Cursor) → fieldAt s 0 (bytes ":20:") Reference ≡ Good i c → fieldAt s (c .at) (bytes ":12:") (Numeral 3) ≡ Good t d → (b : Bool) → member (t .number) (131 ∷ 133 ∷ []) ≡ b → cond b (onTo (addressAt s (d .at)) refusal (λ a e. cond (eqb (t .number) 131) (settlementAt s (e .at) (head (namedAt s (i .part)) t a)) (recallAt s (e .at) (head (namedAt s (i .part)) t a)))) (refusal (broken (c .at) OtherSubType) nowhere) .outcome ≡ o → HeadStands s
+      typed i c t d q₁ q₂ true m h = addressed i c t d q₁ q₂ m (addressAt s (d .at)) refl h
+      typed i c t d q₁ q₂ false m h = absurd (ok (broken (c .at) OtherSubType) h)
+
+  -- what follows 119
+  pub record BodyStands (l : List ℕ) : Type 0 where
+    pub text : BodyText l
+    pub settles : Settlement ≡ o
+
+  body-sound : (s : List ℕ) (at : ℕ) (x : Head) → settlementAt s at x .outcome ≡ o → BodyStands (drop at s)
+  unfolding settlementAt
+  body-sound s at x h = go₁ (termsAt s at) refl h
+    where
+      go₂ : (u : Terms) (c : Cursor) → termsAt s at ≡ Whole u c → (e : Ending) → paymentsAt s (c .at) .ending ≡ e → onDone e (λ b. refusal b (x .address)) (λ d. onGood (fieldAt s (d .at) (bytes ":203:") (Count (paymentsAt s (c .at) .n))) (λ b. refusal b (x .address)) (λ count f. ending s (f .at) (x .address) (settlement x u (paymentsAt s (c .at)) count))) .outcome ≡ o → BodyStands (drop at s)
+      go₂ u c q (Cut b) p h = absurd (ok b h)
+      go₂ u c q (Done d) p h = on-reading s (d .at) (bytes ":203:") (Count (paymentsAt s (c .at) .n)) (x .address) _ h (λ i f q₃ r.
+          on-ending s (f .at) (x .address) (settlement x u (paymentsAt s (c .at)) i) r (λ nil last.
+          let g = terms-sound s at q in
+          let w = payments-sound s (c .at) d p in
+          let n : paymentsAt s (c .at) .n ≡ w .many = w .count ∙ omega arith in
+          let k = line-sound s (d .at) (bytes ":203:") (Count (paymentsAt s (c .at) .n)) q₃ in
+          record {
+            text = record {
+              r₂ = g .r₂;
+              r₃ = g .r₃;
+              r₄ = drop (c .at) s;
+              r₅ = drop (d .at) s;
+              numbers = g .numbers;
+              date = g .date;
+              activation = g .activation;
+              many = w .many;
+              least = w .least (omega arith);
+              most = w .most;
+              payments = w .text;
+              count = record { value = k .value; text = k .text ∙ ap (λ (l : List ℕ). bytes ":203:" ++ (k .value ++ (crlf ++ l))) nil; is = subst (λ (m : ℕ). IsCount m (k .value)) n (k .is) };
+            };
+            settles = last;
+          }))
+
+      go₁ : (t : Stated) → termsAt s at ≡ t → onWhole t (λ b. refusal b (x .address)) (λ u c. onDone (paymentsAt s (c .at) .ending) (λ b. refusal b (x .address)) (λ d. onGood (fieldAt s (d .at) (bytes ":203:") (Count (paymentsAt s (c .at) .n))) (λ b. refusal b (x .address)) (λ count f. ending s (f .at) (x .address) (settlement x u (paymentsAt s (c .at)) count)))) .outcome ≡ o → BodyStands (drop at s)
+      go₁ (Whole u c) q h = go₂ u c q (paymentsAt s (c .at) .ending) refl h
+      go₁ (Partial b) q h = absurd (ok b h)
+
+  recall-ends : (s : List ℕ) (at : ℕ) (x : Head) → recallAt s at x .outcome ≡ o → (drop at s ≡ []) × (Recall ≡ o)
+  unfolding recallAt
+  recall-ends s at x h = on-ending s at (x .address) (bare Recall x) h (λ nil last. (nil, last))
+
+settles-not : (b : Break) → Refused b ≡ Settlement → ⊥
+settles-not b h = let z : _≡_ {A = ℕ} 0 1 = cc in omega arith
+
+recalls-not : (b : Break) → Refused b ≡ Recall → ⊥
+recalls-not b h = let z : _≡_ {A = ℕ} 0 1 = cc in omega arith
+
+pub settlement-sound : (s : List ℕ) → requestAt s .outcome ≡ Settlement → SettlementText s
+settlement-sound s h = go (eqb (g .kind) 131) refl (g .is)
+  where
+    g : HeadStands Settlement settles-not s
+    g = head-sound Settlement settles-not s h
+
+    go : (b : Bool) → eqb (g .kind) 131 ≡ b → cond b (settlementAt s (g .next) (g .of)) (recallAt s (g .next) (g .of)) .outcome ≡ Settlement → SettlementText s
+    go true e h =
+        let z = eqb-true (g .kind) 131 e in
+        record { rest = drop (g .next) s; head = subst (λ (k : ℕ). HeadText k s (drop (g .next) s)) z (g .text); body = body-sound Settlement settles-not s (g .next) (g .of) h .text }
+    go false e h =
+        let p = recall-ends Settlement settles-not s (g .next) (g .of) h .1 in
+        let z : _≡_ {A = ℕ} 0 1 = cc in
+        absurd (omega arith)
+
+other-kind : (k : ℕ) → member k (131 ∷ 133 ∷ []) ≡ true → eqb k 131 ≡ false → k ≡ 133
+other-kind k m e = go (eqb k 133) refl (rw e at m)
+  where
+    go : (b : Bool) → eqb k 133 ≡ b → (b || false) ≡ true → k ≡ 133
+    go true q h = eqb-true k 133 q
+    go false q h = absurd (false≢true h)
+
+pub recall-sound : (s : List ℕ) → requestAt s .outcome ≡ Recall → RecallText s
+recall-sound s h = go (eqb (g .kind) 131) refl (g .is)
+  where
+    g : HeadStands Recall recalls-not s
+    g = head-sound Recall recalls-not s h
+
+    go : (b : Bool) → eqb (g .kind) 131 ≡ b → cond b (settlementAt s (g .next) (g .of)) (recallAt s (g .next) (g .of)) .outcome ≡ Recall → RecallText s
+    go true e h =
+        let p = body-sound Recall recalls-not s (g .next) (g .of) h .settles in
+        let z : _≡_ {A = ℕ} 0 1 = cc in
+        absurd (omega arith)
+    go false e h =
+        let p = recall-ends Recall recalls-not s (g .next) (g .of) h in
+        let t = subst (λ (k : ℕ). HeadText k s (drop (g .next) s)) (other-kind (g .kind) (g .known) e) (g .text) in
+        subst (λ (r : List ℕ). HeadText 133 s r) (p .0) t

@@ -1,0 +1,1 @@
+// The grammar of a request, and that the reader accepts it and nothing else: proofs alone.
