@@ -1,3 +1,4 @@
 pub mod Block
 pub mod Book
 pub mod Accounts
+pub mod Closing

@@ -92,14 +92,14 @@ uncovered-settle : (a : Accounts) (c : List Payment) {ns : List Need} {k : ℕ} 
 uncovered-settle a c {k = k} e u = uncovered-less (settled-dip (a .balances) c k e) refl u
 
 -- what holds of every place of the memory holds after a store, and after waking
-set-keep : (Q : ℕ → ℕ → Type 0) (m : List ℕ) (p v : ℕ) → ((x : ℕ) → Q x (getD m x 0)) → Q p v → (x : ℕ) → Q x (getD (set m p v) x 0)
+pub set-keep : (Q : ℕ → ℕ → Type 0) (m : List ℕ) (p v : ℕ) → ((x : ℕ) → Q x (getD m x 0)) → Q p v → (x : ℕ) → Q x (getD (set m p v) x 0)
 set-keep Q [] p v h g x = h x
 set-keep Q (y ∷ m) zero v h g zero = g
 set-keep Q (y ∷ m) zero v h g (suc x) = h (suc x)
 set-keep Q (y ∷ m) (suc p) v h g zero = h zero
 set-keep Q (y ∷ m) (suc p) v h g (suc x) = set-keep (λ i s. Q (suc i) s) m p v (λ i. h (suc i)) g x
 
-wake-keep : (Q R : ℕ → Type 0) (f : ℕ → Bool) (m : List ℕ) (x : ℕ) → R 0 → ((k : ℕ) → f k ≡ false → Q (suc k) → R (suc k)) → Q (getD m x 0) → R (getD (map (wake f) m) x 0)
+pub wake-keep : (Q R : ℕ → Type 0) (f : ℕ → Bool) (m : List ℕ) (x : ℕ) → R 0 → ((k : ℕ) → f k ≡ false → Q (suc k) → R (suc k)) → Q (getD m x 0) → R (getD (map (wake f) m) x 0)
 unfolding wake
 wake-keep Q R f [] x r g q = r
 wake-keep Q R f (zero ∷ m) zero r g q = r

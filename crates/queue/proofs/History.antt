@@ -151,7 +151,7 @@ module _ (batch : ℕ → List Payment) (fresh : List ℕ) (none : (x : ℕ) →
   test-by-rule (suc f) a m es q i l =
       let r : Outcome = walk true batch a m q in (
         walk-by-rule a m es q i l,
-        test-by-rule f (r .books) (r .memory) (walkEvents true batch a m q ++ es) (r .queue)
+        λ e. test-by-rule f (r .books) (r .memory) (walkEvents true batch a m q ++ es) (r .queue)
             (walk-replays true batch a m q ∙ ap (replay (walkEvents true batch a m q)) i ∙ sym (replay-append (walkEvents true batch a m q) es fresh))
             (walk-each true batch (λ p. p < length fresh) a m q l .left),
       )

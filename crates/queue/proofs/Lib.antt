@@ -4,6 +4,7 @@ pub mod TurnLaws
 pub mod WalkLaws
 pub mod RunLaws
 pub mod Agree
+pub mod Named
 pub mod Trail
 pub mod Balances
 pub mod History

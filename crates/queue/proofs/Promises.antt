@@ -1,12 +1,12 @@
 -- What is promised of the queue: theorems 1 to 5, and the marked examples 12 and 13.
 -- The code's two tests leave what `plainTest` and `quickTest` leave (their contracts), so each theorem here is one of the code.
-use mathlib.Core.Path.{_≡_, refl}
+use mathlib.Core.Path.{_≡_, refl, sym, ap, _∙_}
 use mathlib.Core.Logic.{_↔_}
 use mathlib.Core.Bool.{Bool, true, false, false≢true}
 use mathlib.Core.List.{List, [], _∷_, map}
 use Prim.Native.Nat.{ℕ, zero, suc, _+_, _-_, _≤_, _<_}
 use native.Mathlib.Omega.{arith}
-use lib.ListN.{length, getD, replicate}
+use lib.ListN.{length, getD, take, replicate}
 use Rattle.chars.specs.Words.{bytes}
 use Rattle.settle.specs.Cover.{covered}
 use Rattle.settle.specs.Payments.{Payment, credit, debit, paymentsOf, needsOf}
@@ -16,13 +16,14 @@ use Rattle.settle.specs.declared.Verdict.the-variants.{Passes}
 use Rattle.settle.proofs.Money.{at-most-sum}
 use Rattle.settle.proofs.Examples.{lettered}
 use Rattle.queue.specs.Memory.{wake, credited, creditedBy}
-use Rattle.queue.specs.Tests.{seen, passedOf, some, again, omits, remember, tried, turn, walk, test, fuel, plainTest, quickTest}
-use Rattle.queue.specs.Rows.{AllGood, most}
-use Rattle.queue.specs.Promise.{True, AllCovered, Trail, All, Stuck, Fair, broughtBy, takenBy}
+use Rattle.queue.specs.Tests.{Outcome, seen, passedOf, some, again, omits, remember, tried, turn, walk, test, fuel, plainTest, quickTest}
+use Rattle.queue.specs.Rows.{AllGood, most, Tested}
+use Rattle.queue.specs.Promise.{True, Named, AllCovered, Trail, All, Stuck, Fair, broughtBy, takenBy}
 use Rattle.queue.specs.History.{Event, replay, TestByRule}
 use Rattle.queue.specs.Day.{State, Act, act, actMemory, called, calledMemory, runs, AllFine, DayByRule, Kept, Day}
 use Rattle.queue.proofs.RunLaws.{most-le}
 use Rattle.queue.proofs.Agree.{true-test, tests-agree}
+use Rattle.queue.proofs.Named.{test-named}
 use Rattle.queue.proofs.Trail.{passes-covered, covered-passes, test-trail, test-stuck, test-tries, test-passed, test-each, quick-tries-no-more}
 use Rattle.queue.proofs.Balances.{trail-sum, trail-total, trail-books}
 use Rattle.queue.proofs.History.{test-by-rule}
@@ -38,7 +39,11 @@ pub memory-stays-true : (quick : Bool) (batch : ℕ → List Payment) (a : Accou
     → True batch (test quick batch (fuel q) a m q .books) (test quick batch (fuel q) a m q .memory)
 memory-stays-true quick batch a m q h = true-test batch quick (fuel q) a m q h
 
--- and so do enqueuing, ending a batch, sub-limit and status changes, by themselves and with the test that follows
+-- and in any memory, true or not, what they remember is a bank with a debit in that batch
+pub memory-names-payers : (quick : Bool) (batch : ℕ → List Payment) (a : Accounts) (m q : List ℕ) → Named batch m → Named batch (test quick batch (fuel q) a m q .memory)
+memory-names-payers quick batch a m q h = test-named quick batch (fuel q) a m q h
+
+-- enqueuing, ending a batch, sub-limit and status changes keep it true too, by themselves and with the test that follows
 pub actions-keep-it-true : (c : Act) (s : State) (m : List ℕ) → True (s .batch) (s .books) m → True (act c s .batch) (act c s .books) (actMemory c m)
 actions-keep-it-true c s m h = days.true-act c s m h
 
@@ -139,6 +144,14 @@ opening-keeps-the-rules b l h = record {
 
 pub after-each-call : (cs : List Act) (quick : ℕ → Bool) (o : List ℕ) (s : State) → AllFine 32 quick cs s fresh → Kept 32 o [] s → Day 32 quick cs o [] s fresh
 after-each-call cs quick o s f k = days.day 32 cs quick o [] s fresh f (fresh-true (s .batch) (s .books)) k
+
+-- ---- a test's contract leaves one outcome: accounts, memory, waiting places, tries
+
+pub outcome-is-one : {o : Outcome} {l q : List ℕ} {n : ℕ} {r : List ℕ} {k : ℕ} {b₁ m₁ q₁ r₁ b₂ m₂ q₂ r₂ : List ℕ} {w₁ k₁ w₂ k₂ : ℕ}
+    → Tested o l q n r k b₁ m₁ q₁ w₁ r₁ k₁ → Tested o l q n r k b₂ m₂ q₂ w₂ r₂ k₂
+    → (b₁ ≡ b₂) × (m₁ ≡ m₂) × (take w₁ q₁ ≡ take w₂ q₂) × (w₁ ≡ w₂) × (r₁ ≡ r₂) × (k₁ ≡ k₂)
+outcome-is-one x y =
+    (ap (λ (a : Accounts). a .balances) (x .books ∙ sym (y .books)), x .memory ∙ sym (y .memory), x .queue ∙ sym (y .queue), x .kept ∙ sym (y .kept), x .row ∙ sym (y .row), x .tries ∙ sym (y .tries))
 
 -- ---- the quick test tries no more than the plain one
 

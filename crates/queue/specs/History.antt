@@ -2,7 +2,7 @@
 use Prim.Native.Nat.{ℕ, zero, suc}
 use mathlib.Core.Path.{_≡_}
 use mathlib.Core.Logic.{_↔_}
-use mathlib.Core.Bool.{Bool, false, cond}
+use mathlib.Core.Bool.{Bool, true, false, cond}
 use mathlib.Core.List.{List, [], _∷_, _++_, map}
 use lib.Dec.{eqb}
 use lib.ListN.{set}
@@ -79,9 +79,9 @@ module _ (quick : Bool) (batch : ℕ → List Payment) where
   WalkByRule a m es (p ∷ q) =
       OmittedByRule (turn quick batch a m p .step) p es × WalkByRule (turn quick batch a m p .books) (turn quick batch a m p .memory) (turnEvents a m p ++ es) q
 
-  -- and of each walk of a test
+  -- and of each walk of a test: another follows one that settled something
   unfoldable pub TestByRule : ℕ → Accounts → List ℕ → List Event → List ℕ → Type 0
   TestByRule zero a m es q = Unit {0}
   TestByRule (suc f) a m es q =
       WalkByRule a m es q
-      × TestByRule f (walk quick batch a m q .books) (walk quick batch a m q .memory) (walkEvents a m q ++ es) (walk quick batch a m q .queue)
+      × (some (walk quick batch a m q .done) ≡ true → TestByRule f (walk quick batch a m q .books) (walk quick batch a m q .memory) (walkEvents a m q ++ es) (walk quick batch a m q .queue))

@@ -1,6 +1,7 @@
 -- The words of the promises: a true memory, settled batches in turn, what a bank is brought and costs, and the calls of a day.
 use Prim.Native.Nat.{ℕ, zero, suc, _+_}
 use mathlib.Core.Path.{_≡_}
+use mathlib.Core.Logic.{_⊎_}
 use mathlib.Core.Bool.{true, false, cond}
 use mathlib.Core.List.{List, [], _∷_}
 use lib.Dec.{eqb}
@@ -23,6 +24,18 @@ Held a ps (suc k) = Uncovered a (needsOf ps) k
 
 abbrev pub True : (ℕ → List Payment) → Accounts → List ℕ → Type 0
 True batch a m = (p : ℕ) → Held a (batch p) (getD m p 0)
+
+-- a bank has a debit among the needs; each batch is held at a bank with a debit in it, or at none
+unfoldable pub Payer : ℕ → List Need → Type 0
+Payer k [] = ⊥
+Payer k (n ∷ ns) = (n .bank ≡ k) ⊎ Payer k ns
+
+abbrev pub Names : List Payment → ℕ → Type 0
+Names ps zero = Unit {0}
+Names ps (suc k) = Payer k (needsOf ps)
+
+abbrev pub Named : (ℕ → List Payment) → List ℕ → Type 0
+Named batch m = (p : ℕ) → Names (batch p) (getD m p 0)
 
 -- a sub-limit change
 unfoldable pub limited : Accounts → ℕ → ℕ → Accounts

@@ -41,6 +41,7 @@ seen o = record { books = o .books; queue = o .queue; done = o .done }
 abbrev pub untouched : Accounts → List ℕ → List ℕ → Outcome
 untouched a m q = record { books = a; memory = m; queue = q; done = []; tries = [] }
 
+-- a batch that passes leaves the queue, any other stays in it
 abbrev pub stays : Step → ℕ → List ℕ
 stays Omitted p = p ∷ []
 stays Failed p = p ∷ []
@@ -72,6 +73,7 @@ abbrev pub joined : Outcome → Outcome → Outcome
 joined r s =
     record { books = s .books; memory = s .memory; queue = s .queue; done = r .done ++ s .done; tries = r .tries ++ s .tries }
 
+-- whether a walk settled anything, and what follows if it did
 unfoldable pub some : List ℕ → Bool
 some [] = false
 some (x ∷ xs) = true
@@ -85,7 +87,7 @@ abbrev pub settle : Accounts → List Payment → Accounts
 settle a ps = accounts (settled (a .balances) ps) (a .limits)
 
 module _ (quick : Bool) where
-  -- "A later try is omitted exactly if .."
+  -- "A later try is omitted": the quick test omits a batch that it remembers (History says when that is)
   unfoldable pub omits : List ℕ → ℕ → Bool
   omits m p = quick && ltb 0 (getD m p 0)
 
@@ -95,10 +97,12 @@ module _ (quick : Bool) where
 
   -- `batch` has the payments of each place
   module _ (batch : ℕ → List Payment) where
+    -- a try, by its verdict: a batch that passes settles, and its credits wake the batches held at their banks
     unfoldable pub tried : Accounts → List ℕ → ℕ → Verdict → Turn
     tried a m p Passes = turned Passed (settle a (batch p)) (map (wake (credited (batch p))) m)
     tried a m p (Stops k) = turned Failed a (remember m p k)
 
+    -- the turn of a batch
     unfoldable pub turn : Accounts → List ℕ → ℕ → Turn
     turn a m p = cond (omits m p) (turned Omitted a m) (tried a m p (verdict a (batch p)))
 
@@ -120,8 +124,10 @@ module _ (quick : Bool) where
 abbrev pub fuel : List ℕ → ℕ
 fuel q = suc (length q)
 
+-- "Plain: from the head, try each; after a pass with a settlement, start again; stop after a pass without."
 abbrev pub plainTest : (ℕ → List Payment) → Accounts → List ℕ → List ℕ → Outcome
 plainTest batch a m q = test false batch (fuel q) a m q
 
+-- "Quick: a failed try remembers the bank of the first uncovered debit." A later try of the batch may then be omitted.
 abbrev pub quickTest : (ℕ → List Payment) → Accounts → List ℕ → List ℕ → Outcome
 quickTest batch a m q = test true batch (fuel q) a m q

@@ -75,7 +75,7 @@ pub enum Step {
 }
 
 // Whether the quick test omits the batch at a place.
-pub fn omits(quick: bool, memory: &[u64], place: usize) -> bool
+fn omits(quick: bool, memory: &[u64], place: usize) -> bool
     requires { ⌜ place < length (now memory) ⌝ }
     ensures { λ r. ⌜ r ≡ omits quick (now (memory .entry)) place ⌝ }
 {
@@ -83,7 +83,7 @@ pub fn omits(quick: bool, memory: &[u64], place: usize) -> bool
 }
 
 // The turn of one batch: it is omitted, or tried and, where it passes, settled. A failed try of the quick test is remembered.
-pub fn attempt(
+fn attempt(
     quick: bool,
     balances: &mut [u64],
     limits: &[u64],
@@ -124,7 +124,7 @@ pub struct Reached {
 }
 
 // Notes a turn: a batch that stays is moved up in the queue, and a try is written, twice the place, plus 1 for a pass.
-pub fn note(
+fn note(
     step: Step,
     place: u64,
     queue: &mut [u64],
@@ -162,7 +162,7 @@ pub fn note(
 }
 
 // One walk over the queue, from its head.
-pub fn walk(
+fn walk(
     quick: bool,
     balances: &mut [u64],
     limits: &[u64],

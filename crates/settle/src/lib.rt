@@ -128,7 +128,7 @@ fn index(x: u64) -> usize
 }
 
 // Whether the payment at a word of the table is a debit that its own bank does not cover.
-pub fn uncovered_at(balances: &[u64], limits: &[u64], batches: &[u64], at: usize) -> bool
+fn uncovered_at(balances: &[u64], limits: &[u64], batches: &[u64], at: usize) -> bool
     requires { ⌜ at + 3 ≤ length (now batches) ⌝ }
     requires { ⌜ getD (now batches) at 0 < length (now balances) ⌝ }
     requires { ⌜ getD (now batches) at 0 < length (now limits) ⌝ }
@@ -163,7 +163,7 @@ pub fn first_uncovered(balances: &[u64], limits: &[u64], batches: &[u64], place:
 }
 
 // One payment goes to its account.
-pub fn pay_at(balances: &mut [u64], batches: &[u64], at: usize)
+fn pay_at(balances: &mut [u64], batches: &[u64], at: usize)
     requires { ⌜ at + 3 ≤ length (now batches) ⌝ }
     requires { ⌜ Payable (now balances) (paymentAt (now batches) at) ⌝ }
     ensures { λ _. ⌜ now (balances .exit) ≡ paid (now (balances .entry)) (paymentAt (now (batches .entry)) at) ⌝ }

@@ -1,0 +1,73 @@
+use Rattle.reply.proofs.Laws.{answer-1, answer-2, answer-3, answer-4, answer-5}
+use borrow.Author.Needs.{needs}
+use Rattle.reply.proofs.read_answer.Statement.{statement}
+use Rattle.reply.proofs.read_answer.Tie as tie
+
+slice-aggregate-read-field : tie.Need-slice-aggregate-read-field
+slice-aggregate-read-field c = search needs
+
+read-field-requires : tie.Need-read-field-requires
+read-field-requires c κs = search needs
+
+enum-known-f : tie.Need-enum-known-f
+enum-known-f c = search needs
+
+enum-told : tie.Need-enum-told
+enum-told c = search needs
+
+why-requires : tie.Need-why-requires
+why-requires c κs = search needs
+
+returns : tie.Need-returns
+returns c = search answer-1
+
+slice-aggregate-read-field-2 : tie.Need-slice-aggregate-read-field-2
+slice-aggregate-read-field-2 c = search needs
+
+read-field-requires-2 : tie.Need-read-field-requires-2
+read-field-requires-2 c κs = search needs
+
+enum-known-g : tie.Need-enum-known-g
+enum-known-g c = search needs
+
+enum-told-2 : tie.Need-enum-told-2
+enum-told-2 c = search needs
+
+why-requires-2 : tie.Need-why-requires-2
+why-requires-2 c κs = search needs
+
+returns-2 : tie.Need-returns-2
+returns-2 c = search answer-3
+
+wrong-requires : tie.Need-wrong-requires
+wrong-requires c κs = search needs
+
+returns-3 : tie.Need-returns-3
+returns-3 c = search answer-2
+
+returns-4 : tie.Need-returns-4
+returns-4 c = search answer-4
+
+returns-5 : tie.Need-returns-5
+returns-5 c = search answer-5
+
+pub read-answer-spec : {M : Type 1} → statement M
+read-answer-spec =
+    tie.close
+    (tie.spec
+    slice-aggregate-read-field
+    read-field-requires
+    enum-known-f
+    enum-told
+    why-requires
+    returns
+    slice-aggregate-read-field-2
+    read-field-requires-2
+    enum-known-g
+    enum-told-2
+    why-requires-2
+    returns-2
+    wrong-requires
+    returns-3
+    returns-4
+    returns-5)

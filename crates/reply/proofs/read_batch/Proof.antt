@@ -1,0 +1,61 @@
+use Rattle.reply.proofs.Laws.{batch-1, batch-2, batch-3}
+use borrow.Author.Needs.{needs}
+use Rattle.reply.proofs.read_batch.Statement.{statement}
+use Rattle.reply.proofs.read_batch.Tie as tie
+
+slice-aggregate-read-field : tie.Need-slice-aggregate-read-field
+slice-aggregate-read-field c = search needs
+
+read-field-requires : tie.Need-read-field-requires
+read-field-requires c κs = search needs
+
+enum-known-f : tie.Need-enum-known-f
+enum-known-f c = search needs
+
+enum-told : tie.Need-enum-told
+enum-told c = search needs
+
+why-requires : tie.Need-why-requires
+why-requires c κs = search needs
+
+returns : tie.Need-returns
+returns c = search batch-1
+
+slice-aggregate-read-field-2 : tie.Need-slice-aggregate-read-field-2
+slice-aggregate-read-field-2 c = search needs
+
+read-field-requires-2 : tie.Need-read-field-requires-2
+read-field-requires-2 c κs = search needs
+
+enum-known-g : tie.Need-enum-known-g
+enum-known-g c = search needs
+
+enum-told-2 : tie.Need-enum-told-2
+enum-told-2 c = search needs
+
+why-requires-2 : tie.Need-why-requires-2
+why-requires-2 c κs = search needs
+
+returns-2 : tie.Need-returns-2
+returns-2 c = search batch-2
+
+returns-3 : tie.Need-returns-3
+returns-3 c = search batch-3
+
+pub read-batch-spec : {M : Type 1} → statement M
+read-batch-spec =
+    tie.close
+    (tie.spec
+    slice-aggregate-read-field
+    read-field-requires
+    enum-known-f
+    enum-told
+    why-requires
+    returns
+    slice-aggregate-read-field-2
+    read-field-requires-2
+    enum-known-g
+    enum-told-2
+    why-requires-2
+    returns-2
+    returns-3)

@@ -1,0 +1,37 @@
+use Rattle.reply.proofs.Laws.{rejected-1, rejected-2}
+use borrow.Author.Needs.{needs}
+use Rattle.reply.proofs.read_rejected.Statement.{statement}
+use Rattle.reply.proofs.read_rejected.Tie as tie
+
+slice-aggregate-read-field : tie.Need-slice-aggregate-read-field
+slice-aggregate-read-field c = search needs
+
+read-field-requires : tie.Need-read-field-requires
+read-field-requires c κs = search needs
+
+enum-known-f : tie.Need-enum-known-f
+enum-known-f c = search needs
+
+enum-told : tie.Need-enum-told
+enum-told c = search needs
+
+why-requires : tie.Need-why-requires
+why-requires c κs = search needs
+
+returns : tie.Need-returns
+returns c = search rejected-1
+
+returns-2 : tie.Need-returns-2
+returns-2 c = search rejected-2
+
+pub read-rejected-spec : {M : Type 1} → statement M
+read-rejected-spec =
+    tie.close
+    (tie.spec
+    slice-aggregate-read-field
+    read-field-requires
+    enum-known-f
+    enum-told
+    why-requires
+    returns
+    returns-2)

@@ -1,0 +1,14 @@
+use Rattle.reply.specs.Reply.{recallOf}
+use borrow.Author.Needs.{needs}
+use Rattle.reply.proofs.recall_of.Statement.{statement}
+use Rattle.reply.proofs.recall_of.Tie as tie
+
+code-of-requires : tie.Need-code-of-requires
+code-of-requires c κs = search needs
+
+returns : tie.Need-returns
+unfolding recallOf
+returns c = simp (c .code-of .ensures)
+
+pub recall-of-spec : {M : Type 1} → statement M
+recall-of-spec = tie.close (tie.spec code-of-requires returns)
