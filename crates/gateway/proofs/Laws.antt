@@ -24,9 +24,13 @@ use Rattle.book.specs.declared.Answer.{Answer}
 use Rattle.book.specs.declared.Answer.the-variants.{Sound, Fault}
 use Rattle.chars.specs.declared.Refusal.{Refusal}
 use Rattle.chars.specs.declared.Refusal.the-variants.{ShortBuffer}
-use Rattle.request.specs.Request.{requestAt}
-use Rattle.gateway.specs.Rows.{fieldWords, itemWords, codeWords, breakWords}
-use Rattle.gateway.specs.Requests.{namedWords, addressWords, headWords, activationMinute, activationGiven, termsWords, paymentWords, paymentsWords, acceptedWords, reachedNumber, refusedWords, readingNumber, readingWords, requestNumber, requestRow}
+use Rattle.gateway.specs.Rows.{fieldWords, itemWords, codeWords, breakWords, numberIn, rowAfter}
+use Rattle.gateway.specs.Requests.{namedWords, addressWords, headWords, activationMinute, activationGiven, termsWords, paymentWords, paymentsWords, acceptedWords, reachedNumber, refusedWords, readingNumber, readingWords}
+use Rattle.codes.specs.declared.Code.{Code}
+use Rattle.response.specs.declared.Settlement.{Settlement as Response132}
+use Rattle.response.specs.declared.Recall.{Recall as Response134}
+use Rattle.reply.specs.declared.Parts.{Parts}
+use Rattle.gateway.specs.Responses.{numberWords, batchWords, statusWords, outcomeStatus, outcomeFirst, outcomeSecond, answerStatus, answerNumber, settlementWords, recallWords}
 use Rattle.gateway.specs.Books.{bookNumber}
 
 -- ---- four words
@@ -122,11 +126,38 @@ module _ (row : List ℕ) (r : Reading) {n : ℕ} {o : List ℕ} where
   pub refused-reading : {b : Break} → r .outcome ≡ Refused b → (n ≡ numberOf (b .refusal)) × (o ≡ sets row 0 (refusedWords b (r .head))) → (n ≡ readingNumber r) × (o ≡ sets row 0 (readingWords r))
   refused-reading e p = rw e p
 
-pub short-row : (text row : List ℕ) {n : ℕ} → length row < 192 → n ≡ numberOf ShortBuffer → (n ≡ requestNumber text row) × (row ≡ requestRow text row)
-unfolding requestNumber requestRow
-short-row text row h e = rw (lt-ltb (length row) 192 h) (e, refl)
+-- ---- rows of too few words
 
-pub long-row : (text row : List ℕ) {r : Reading} {n : ℕ} {o : List ℕ} → 192 ≤ length row → r ≡ requestAt text
-    → (n ≡ readingNumber r) × (o ≡ sets row 0 (readingWords r)) → (n ≡ requestNumber text row) × (o ≡ requestRow text row)
-unfolding requestNumber requestRow
-long-row text row h e p = rw (le-ltb (length row) 192 h, ← e) p
+pub short-row : (words m : ℕ) (row answer : List ℕ) {n : ℕ} → length row < words → n ≡ numberOf ShortBuffer → (n ≡ numberIn words row m) × (row ≡ rowAfter words row answer)
+unfolding numberIn rowAfter
+short-row words m row answer h e = rw (lt-ltb (length row) words h) (e, refl)
+
+module _ {X : Type 0} (number : X → ℕ) (answer : X → List ℕ) where
+  pub long-row : (words : ℕ) (row : List ℕ) {x y : X} {n : ℕ} {o : List ℕ} → words ≤ length row → x ≡ y
+      → (n ≡ number x) × (o ≡ sets row 0 (answer x)) → (n ≡ numberIn words row (number y)) × (o ≡ rowAfter words row (answer y))
+  unfolding numberIn rowAfter
+  long-row words row h e p = rw (le-ltb (length row) words h, ← e) p
+
+-- ---- responses
+
+pub number-row : (row : List ℕ) (p : Parts) (number kind : ℕ) (reference : Code) {o₁ o₂ o₃ : List ℕ} → o₁ ≡ sets row 0 (fieldWords (p .number) number 0) → o₂ ≡ sets o₁ 4 (fieldWords (p .subtype) kind 0)
+    → o₃ ≡ sets o₂ 8 (codeWords (p .reference) reference) → o₃ ≡ sets row 0 (numberWords p number kind reference)
+number-row row p number kind reference e f g = three row (fieldWords (p .number) number 0) (fieldWords (p .subtype) kind 0) (codeWords (p .reference) reference) 0 e f g refl refl
+
+pub batch-row : (row : List ℕ) (p : Parts) (stream : ℕ) (bin : Code) {o₁ o₂ : List ℕ} → o₁ ≡ sets row 12 (fieldWords (p .stream) stream 0) → o₂ ≡ sets o₁ 16 (codeWords (p .bin) bin) → o₂ ≡ sets row 12 (batchWords p stream bin)
+batch-row row p stream bin e f = then row (fieldWords (p .stream) stream 0) (codeWords (p .bin) bin) 12 e f refl
+
+pub status-row : (row : List ℕ) (p : Parts) (status first second : ℕ) {o₁ o₂ : List ℕ} → o₁ ≡ sets row 20 (fieldWords (p .status) status 0) → o₂ ≡ sets o₁ 24 (fieldWords (p .detail) first second) → o₂ ≡ sets row 20 (statusWords p status first second)
+status-row row p status first second e f = then row (fieldWords (p .status) status 0) (fieldWords (p .detail) first second) 20 e f refl
+
+pub settlement-row : (row : List ℕ) (p : Parts) (s : Response132) {o₁ o₂ o₃ : List ℕ} → o₁ ≡ sets row 0 (numberWords p (s .number) 132 (s .reference)) → o₂ ≡ sets o₁ 12 (batchWords p (s .stream) (s .bin))
+    → o₃ ≡ sets o₂ 20 (statusWords p (outcomeStatus (s .outcome)) (outcomeFirst (s .outcome)) (outcomeSecond (s .outcome))) → o₃ ≡ sets row 0 (settlementWords p s)
+unfolding settlementWords
+settlement-row row p s e f g =
+    three row (numberWords p (s .number) 132 (s .reference)) (batchWords p (s .stream) (s .bin)) (statusWords p (outcomeStatus (s .outcome)) (outcomeFirst (s .outcome)) (outcomeSecond (s .outcome))) 0 e f g refl refl
+
+pub recall-row : (row : List ℕ) (p : Parts) (r : Response134) {o₁ o₂ o₃ : List ℕ} → o₁ ≡ sets row 0 (numberWords p (r .number) 134 (r .reference)) → o₂ ≡ sets o₁ 12 (batchWords p 0 (record { high = 0; low = 0 }))
+    → o₃ ≡ sets o₂ 20 (statusWords p (answerStatus (r .answer)) (answerNumber (r .answer)) 0) → o₃ ≡ sets row 0 (recallWords p r)
+unfolding recallWords
+recall-row row p r e f g =
+    three row (numberWords p (r .number) 134 (r .reference)) (batchWords p 0 (record { high = 0; low = 0 })) (statusWords p (answerStatus (r .answer)) (answerNumber (r .answer)) 0) 0 e f g refl refl

@@ -1,12 +1,7 @@
 -- What the entry point of the request reader answers, and what it leaves in the row.
 use Prim.Native.Nat.{ℕ}
-use mathlib.Core.Bool.{cond}
 use mathlib.Core.List.{List, [], _∷_, _++_}
-use lib.Dec.{ltb}
-use lib.ListN.{length}
-use lib.Seq.{sets}
 use Rattle.chars.specs.Refusals.{numberOf}
-use Rattle.chars.specs.declared.Refusal.the-variants.{ShortBuffer}
 use Rattle.fields.specs.declared.Break.{Break}
 use Rattle.terms.specs.declared.Activation.{Activation}
 use Rattle.terms.specs.declared.Activation.the-variants.{AtOnce, Minute}
@@ -21,7 +16,7 @@ use Rattle.request.specs.declared.Head.{Head}
 use Rattle.request.specs.declared.Outcome.{Outcome}
 use Rattle.request.specs.declared.Outcome.the-variants.{Settlement, Recall, Refused}
 use Rattle.request.specs.declared.Reading.{Reading}
-use Rattle.gateway.specs.Rows.{fieldWords, itemWords, codeWords, breakWords}
+use Rattle.gateway.specs.Rows.{fieldWords, itemWords, codeWords, breakWords, numberIn, rowAfter}
 
 abbrev pub namedWords : Named → List ℕ
 namedWords n = codeWords (n .part) (n .code)
@@ -82,10 +77,9 @@ readingNumber r = byOutcome (r .outcome) 0 (λ b. numberOf (b .refusal))
 abbrev pub readingWords : Reading → List ℕ
 readingWords r = byOutcome (r .outcome) (acceptedWords r) (λ b. refusedWords b (r .head))
 
--- 0, or the number of the text's first break; 07 before all else for a row of under 192 words
+-- 0, or the number of the text's first break
 unfoldable pub requestNumber : List ℕ → List ℕ → ℕ
-requestNumber text row = cond (ltb (length row) 192) (numberOf ShortBuffer) (readingNumber (requestAt text))
+requestNumber text row = numberIn 192 row (readingNumber (requestAt text))
 
--- a row that is too short is not touched, and what is past the words of an answer neither
 unfoldable pub requestRow : List ℕ → List ℕ → List ℕ
-requestRow text row = cond (ltb (length row) 192) row (sets row 0 (readingWords (requestAt text)))
+requestRow text row = rowAfter 192 row (readingWords (requestAt text))

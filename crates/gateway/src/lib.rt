@@ -7,12 +7,17 @@ use codes::Code;
 use fields::Break;
 use fields::Item;
 use payments::Payment;
+use reply::Parts;
+use reply::ReadResponse;
+use reply::Reply;
 use request::Address;
 use request::Head;
 use request::Named;
 use request::Outcome;
 use request::Reached;
 use request::Reading;
+use response::Recall;
+use response::Settlement;
 use terms::Activation;
 use terms::Terms;
 use values::Part;
@@ -24,6 +29,7 @@ ghost use lib.ListN.{length};
 ghost use lib.Seq.{sets};
 ghost use Rattle.gateway.specs.Rows.{fieldWords, itemWords, codeWords, breakWords};
 ghost use Rattle.gateway.specs.Requests.{namedWords, addressWords, headWords, activationMinute, activationGiven, termsWords, paymentWords, paymentsWords, acceptedWords, reachedNumber, refusedWords, readingNumber, readingWords, requestNumber, requestRow};
+ghost use Rattle.gateway.specs.Responses.{numberWords, batchWords, statusWords, outcomeStatus, outcomeFirst, outcomeSecond, answerStatus, answerNumber, settlementWords, recallWords, replyNumber, replyWords, responseNumber, responseRow};
 ghost use Rattle.gateway.specs.Books.{bookNumber};
 ghost use Rattle.chars.specs.Refusals.{numberOf};
 
@@ -71,6 +77,23 @@ pub const PAYMENT_AMOUNT: usize = 4;
 pub const PAYMENT_LETTERS: usize = 8;
 
 pub const PAYMENT_BANK: usize = 12;
+
+// Words of the row of a response, and where in it each field begins. The detail is 13E or 432.
+pub const RESPONSE_WORDS: usize = 28;
+
+pub const RESPONSE_NUMBER: usize = 0;
+
+pub const RESPONSE_SUB_TYPE: usize = 4;
+
+pub const RESPONSE_REFERENCE: usize = 8;
+
+pub const RESPONSE_STREAM: usize = 12;
+
+pub const RESPONSE_BIN: usize = 16;
+
+pub const RESPONSE_STATUS: usize = 20;
+
+pub const RESPONSE_DETAIL: usize = 24;
 
 // The first words of a row after a refusal, and how far the address of a request was read.
 pub const BREAK_AT: usize = 0;
@@ -280,6 +303,124 @@ pub extern "C" fn purmagheli_read_request(text: &[u8], row: &mut [u64]) -> u64
         return Refusal::ShortBuffer.number();
     }
     put_reading(row, request::read_request(text))
+}
+
+// 20, 12 and 21.
+fn put_number(row: &mut [u64], p: Parts, number: u64, kind: u64, reference: Code)
+    requires { ⌜ 28 ≤ length (now row) ⌝ }
+    ensures { λ _. ⌜ now (row .exit) ≡ sets (now (row .entry)) 0 (numberWords p number kind reference) ⌝ }
+{
+    let number_part = p.number;
+    let subtype_part = p.subtype;
+    let reference_part = p.reference;
+    put_field(row, RESPONSE_NUMBER, number_part, number, 0);
+    put_field(row, RESPONSE_SUB_TYPE, subtype_part, kind, 0);
+    put_code(row, RESPONSE_REFERENCE, reference_part, reference);
+}
+
+// 22A and 119.
+fn put_batch(row: &mut [u64], p: Parts, stream: u64, bin: Code)
+    requires { ⌜ 28 ≤ length (now row) ⌝ }
+    ensures { λ _. ⌜ now (row .exit) ≡ sets (now (row .entry)) 12 (batchWords p stream bin) ⌝ }
+{
+    let stream_part = p.stream;
+    let bin_part = p.bin;
+    put_field(row, RESPONSE_STREAM, stream_part, stream, 0);
+    put_code(row, RESPONSE_BIN, bin_part, bin);
+}
+
+// 451, and 13E or 432.
+fn put_status(row: &mut [u64], p: Parts, status: u64, first: u64, second: u64)
+    requires { ⌜ 28 ≤ length (now row) ⌝ }
+    ensures { λ _. ⌜ now (row .exit) ≡ sets (now (row .entry)) 20 (statusWords p status first second) ⌝ }
+{
+    let status_part = p.status;
+    let detail_part = p.detail;
+    put_field(row, RESPONSE_STATUS, status_part, status, 0);
+    put_field(row, RESPONSE_DETAIL, detail_part, first, second);
+}
+
+// How a batch ended: settled on a day at a second, or rejected with a number.
+fn put_outcome(row: &mut [u64], p: Parts, o: response::Outcome)
+    requires { ⌜ 28 ≤ length (now row) ⌝ }
+    ensures { λ _. ⌜ now (row .exit) ≡ sets (now (row .entry)) 20 (statusWords p (outcomeStatus o) (outcomeFirst o) (outcomeSecond o)) ⌝ }
+{
+    match o {
+        response::Outcome::Settled(day, second) => put_status(row, p, 0, day, second),
+        response::Outcome::Rejected(number) => put_status(row, p, 1, number, 0),
+    }
+}
+
+// How a recall ended.
+fn put_answer(row: &mut [u64], p: Parts, a: response::Answer)
+    requires { ⌜ 28 ≤ length (now row) ⌝ }
+    ensures { λ _. ⌜ now (row .exit) ≡ sets (now (row .entry)) 20 (statusWords p (answerStatus a) (answerNumber a) 0) ⌝ }
+{
+    match a {
+        response::Answer::Recalled => put_status(row, p, 0, 0, 0),
+        response::Answer::Kept(number) => put_status(row, p, 1, number, 0),
+    }
+}
+
+fn put_settlement(row: &mut [u64], p: Parts, s: Settlement) -> u64
+    requires { ⌜ 28 ≤ length (now row) ⌝ }
+    ensures { λ n. ⌜ (n ≡ 0) × (now (row .exit) ≡ sets (now (row .entry)) 0 (settlementWords p s)) ⌝ }
+{
+    let reference = s.reference;
+    let bin = s.bin;
+    let outcome = s.outcome;
+    put_number(row, p, s.number, 132, reference);
+    put_batch(row, p, s.stream, bin);
+    put_outcome(row, p, outcome);
+    0
+}
+
+// A 134 has no 22A and no 119: their words are zero.
+fn put_recall(row: &mut [u64], p: Parts, r: Recall) -> u64
+    requires { ⌜ 28 ≤ length (now row) ⌝ }
+    ensures { λ n. ⌜ (n ≡ 0) × (now (row .exit) ≡ sets (now (row .entry)) 0 (recallWords p r)) ⌝ }
+{
+    let reference = r.reference;
+    let answer = r.answer;
+    put_number(row, p, r.number, 134, reference);
+    put_batch(row, p, 0, Code { high: 0, low: 0 });
+    put_answer(row, p, answer);
+    0
+}
+
+// The break alone.
+fn put_unread(row: &mut [u64], b: Break) -> u64
+    requires { ⌜ 28 ≤ length (now row) ⌝ }
+    ensures { λ n. ⌜ (n ≡ numberOf (b .refusal)) × (now (row .exit) ≡ sets (now (row .entry)) 0 (breakWords b 0)) ⌝ }
+{
+    let refusal = b.refusal;
+    put_break(row, b, REACHED_NOTHING);
+    refusal.number()
+}
+
+fn put_reply(row: &mut [u64], r: ReadResponse) -> u64
+    requires { ⌜ 28 ≤ length (now row) ⌝ }
+    ensures { λ n. ⌜ (n ≡ replyNumber r) × (now (row .exit) ≡ sets (now (row .entry)) 0 (replyWords r)) ⌝ }
+{
+    let reply = r.reply;
+    let parts = r.parts;
+    match reply {
+        Reply::Settlement(s) => put_settlement(row, parts, s),
+        Reply::Recall(s) => put_recall(row, parts, s),
+        Reply::Refused(b) => put_unread(row, b),
+    }
+}
+
+// Reads a response: 0 and its fields in the row, or why it is refused, and where. A row that is too
+// short is not touched, whatever the text.
+#[no_mangle]
+pub extern "C" fn purmagheli_read_response(text: &[u8], row: &mut [u64]) -> u64
+    ensures { λ r. ⌜ (r ≡ responseNumber (now (text .entry)) (now (row .entry))) × (now (row .exit) ≡ responseRow (now (text .entry)) (now (row .entry))) ⌝ }
+{
+    if row.len() < RESPONSE_WORDS {
+        return Refusal::ShortBuffer.number();
+    }
+    put_reply(row, reply::read_response(text))
 }
 
 // Checks a book: 0, or the number of the first rule that it breaks.

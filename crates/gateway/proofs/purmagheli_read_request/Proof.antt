@@ -1,3 +1,4 @@
+use Rattle.gateway.specs.Requests.{readingNumber, readingWords, requestNumber, requestRow}
 use Rattle.gateway.proofs.Laws.{short-row, long-row}
 use borrow.Author.Needs.{needs}
 use Rattle.gateway.proofs.purmagheli_read_request.Statement.{statement}
@@ -7,7 +8,8 @@ number-requires : tie.Need-number-requires
 number-requires c κs = search needs
 
 returns : tie.Need-returns
-returns c = short-row (c .before .before .before .before .args .text .now) (c .before .before .before .before .args .row .now) (c .before .if1 .taken) (c .number .ensures)
+unfolding requestNumber requestRow
+returns c = short-row 192 _ (c .before .before .before .before .args .row .now) _ (c .before .if1 .taken) (c .number .ensures)
 
 read-request-requires : tie.Need-read-request-requires
 read-request-requires c κs = search needs
@@ -19,7 +21,8 @@ same-length : tie.Need-same-length
 same-length c = search needs
 
 returns-2 : tie.Need-returns-2
-returns-2 c = long-row (c .before .before .before .before .before .before .before .before .args .text .now) (c .before .before .before .before .before .before .before .before .args .row .now) (c .before .before .before .before .before .if1 .left) (c .before .before .before .read-request .ensures) (c .before .before .put-reading .ensures)
+unfolding requestNumber requestRow
+returns-2 c = long-row readingNumber readingWords 192 (c .before .before .before .before .before .before .before .before .args .row .now) (c .before .before .before .before .before .if1 .left) (c .before .before .before .read-request .ensures) (c .before .before .put-reading .ensures)
 
 pub purmagheli-read-request-spec : {M : Type 1} → statement M
 purmagheli-read-request-spec =
