@@ -1,0 +1,4 @@
+pub mod Rows
+pub mod Requests
+pub mod Responses
+pub mod Books

@@ -1,0 +1,128 @@
+// The account of a book.
+use crate::words;
+use book::Book;
+use book::Reading;
+
+// The number at a place of a row; 0 past its end.
+fn at(row: &[u64], i: usize) -> u64 {
+    if i < row.len() { row[i] } else { 0 }
+}
+
+fn show_stream(code: u64, administrator: u64) {
+    words::text(b"stream ");
+    words::code(code);
+    words::space();
+    words::number(administrator);
+    words::end();
+}
+
+fn show_streams(streams: &[u64], n: usize) {
+    let mut i = 0;
+    while i < Book::STREAMS {
+        if i < n {
+            show_stream(at(streams, 2 * i), at(streams, 2 * i + 1));
+        }
+        i += 1;
+    }
+}
+
+// The streams of a bank's bits, in their order.
+fn show_bits(streams: &[u64], bits: u64) {
+    let mut rest = bits;
+    let mut i = 0;
+    while i < Book::STREAMS {
+        if rest % 2 == 1 {
+            words::space();
+            words::code(at(streams, 2 * i));
+        }
+        rest = rest / 2;
+        i += 1;
+    }
+}
+
+fn show_bank(streams: &[u64], code: u64, flags: u64, balance: u64, limit: u64) {
+    words::text(b"bank ");
+    words::code(code);
+    if flags % 2 == 1 {
+        words::text(b" suspended ");
+    } else {
+        words::text(b" active ");
+    }
+    words::number(balance);
+    words::space();
+    words::number(limit);
+    show_bits(streams, flags / 2);
+    words::end();
+}
+
+fn show_banks(
+    streams: &[u64],
+    codes: &[u64],
+    flags: &[u64],
+    balances: &[u64],
+    limits: &[u64],
+    n: usize,
+) {
+    let mut i = 0;
+    while i < Book::BANKS {
+        if i < n {
+            show_bank(
+                streams,
+                at(codes, i),
+                at(flags, i),
+                at(balances, i),
+                at(limits, i),
+            );
+        }
+        i += 1;
+    }
+}
+
+// The sum of the first n balances, which a sound book keeps far below 2^64.
+fn total(balances: &[u64], n: usize) -> u64 {
+    let mut sum: u64 = 0;
+    let mut i = 0;
+    while i < Book::BANKS {
+        if i < n {
+            sum = std::num::wrapping_add_u64(sum, at(balances, i));
+        }
+        i += 1;
+    }
+    sum
+}
+
+fn show_head(book: Book) {
+    words::text(b"accepted book\ndate ");
+    words::six_digits(dates::date_of(book.day));
+    words::end();
+}
+
+fn show_total(sum: u64) {
+    words::text(b"total ");
+    words::number(sum);
+    words::end();
+}
+
+pub fn show(s: &[u8]) {
+    let mut streams = [0u64; 16];
+    let mut codes = [0u64; 64];
+    let mut flags = [0u64; 64];
+    let mut balances = [0u64; 64];
+    let mut limits = [0u64; 64];
+    match book::read(
+        s,
+        &mut streams,
+        &mut codes,
+        &mut flags,
+        &mut balances,
+        &mut limits,
+    ) {
+        Reading::Unread(why) => words::refused(why),
+        Reading::Held(book) => {
+            show_head(book);
+            show_streams(&streams, book.streams);
+            show_banks(&streams, &codes, &flags, &balances, &limits, book.banks);
+            show_total(total(&balances, book.banks));
+        }
+    }
+}

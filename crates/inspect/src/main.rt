@@ -1,0 +1,139 @@
+// ./purmagheli inspect request|response|book FILE..: what each file says, or the number by which it is
+// refused.
+mod books;
+mod requests;
+mod responses;
+mod words;
+
+use libc::STDERR_FILENO;
+use scan::At;
+
+// What the files are said to be.
+enum Subject {
+    Request,
+    Response,
+    Book,
+    Unknown,
+}
+
+// Whether a word is just this one.
+fn is_word(word: &[u8], name: &[u8]) -> bool {
+    if let At::Next(e) = scan::lit(word, 0, name) {
+        e == word.len()
+    } else {
+        false
+    }
+}
+
+fn subject_of(word: &[u8]) -> Subject {
+    if is_word(word, b"request") {
+        return Subject::Request;
+    }
+    if is_word(word, b"response") {
+        return Subject::Response;
+    }
+    if is_word(word, b"book") {
+        return Subject::Book;
+    }
+    Subject::Unknown
+}
+
+fn usage() {
+    io::write_all(
+        STDERR_FILENO,
+        b"usage: inspect request|response|book FILE..\n",
+    );
+}
+
+fn unreadable(path: &[u8]) {
+    io::write_all(STDERR_FILENO, b"cannot read ");
+    os::fail(path);
+}
+
+fn show(subject: Subject, s: &[u8]) {
+    match subject {
+        Subject::Request => requests::show(s),
+        Subject::Response => responses::show(s),
+        Subject::Book => books::show(s),
+        Subject::Unknown => usage(),
+    }
+}
+
+// What stands in the first n bytes.
+fn show_first(subject: Subject, path: &[u8], buf: &[u8], n: usize) {
+    words::line(b"file", path);
+    if n <= buf.len() {
+        show(subject, &buf[..n]);
+    }
+}
+
+// Reads on after the first n bytes, and answers how many there are then.
+fn read_on(fd: i32, buf: &mut [u8], n: usize) -> usize {
+    if n < buf.len() {
+        return n + io::read_full(fd, &mut buf[n..]);
+    }
+    n
+}
+
+// A file past the buffer's 65,536 bytes has the answer that these have: a text is read to its 4,096th
+// byte at the most, and a book of more than 2,560 bytes is refused for its length.
+fn show_open(subject: Subject, path: &[u8], fd: i32) {
+    let mut buf = io::large_buffer();
+    let got = libc::read(fd, &mut buf);
+    if got < 0 {
+        unreadable(path);
+        return;
+    }
+    let first = io::count(got, &buf);
+    let n = read_on(fd, &mut buf, first);
+    show_first(subject, path, &buf, n);
+}
+
+fn show_file(subject: Subject, path: &[u8]) {
+    let fd = os::open_read(path);
+    if fd < 0 {
+        unreadable(path);
+        return;
+    }
+    show_open(subject, path, fd);
+    libc::close(fd);
+}
+
+fn show_argument(subject: Subject, i: usize) {
+    let mut path = io::buffer();
+    let n = os::arg(i, &mut path);
+    if os::errno() != 0 {
+        unreadable(b"argument");
+        return;
+    }
+    show_file(subject, &path[..n]);
+}
+
+fn show_arguments(subject: Subject, count: usize) {
+    let mut i = 2;
+    while i < count {
+        show_argument(subject, i);
+        i += 1;
+    }
+}
+
+fn asked() -> Subject {
+    let mut word = [0u8; 16];
+    let n = os::arg(1, &mut word);
+    subject_of(&word[..n])
+}
+
+fn main() {
+    let count = os::arg_count();
+    let subject = asked();
+    if count < 3 {
+        usage();
+        return;
+    }
+    match subject {
+        Subject::Unknown => usage(),
+        Subject::Request => show_arguments(subject, count),
+        Subject::Response => show_arguments(subject, count),
+        Subject::Book => show_arguments(subject, count),
+    }
+}

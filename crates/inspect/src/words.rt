@@ -1,0 +1,74 @@
+// The words of an account, on standard output.
+use chars::Refusal;
+use libc::STDOUT_FILENO;
+
+pub fn text(b: &[u8]) {
+    io::write_all(STDOUT_FILENO, b);
+}
+
+pub fn space() {
+    text(b" ");
+}
+
+pub fn end() {
+    text(b"\n");
+}
+
+pub fn number(v: u64) {
+    io::print_decimal(STDOUT_FILENO, v);
+}
+
+// A name and its value, on a line.
+pub fn line(name: &[u8], value: &[u8]) {
+    text(name);
+    space();
+    text(value);
+    end();
+}
+
+pub fn two_digits(v: u64) {
+    let mut b = [0u8; 2];
+    put::digits(&mut b, 0, v, 2);
+    text(&b);
+}
+
+pub fn six_digits(v: u64) {
+    let mut b = [0u8; 6];
+    put::digits(&mut b, 0, v, 6);
+    text(&b);
+}
+
+pub fn seven_digits(v: u64) {
+    let mut b = [0u8; 7];
+    put::digits(&mut b, 0, v, 7);
+    text(&b);
+}
+
+// The four characters of a bank or a stream.
+pub fn code(v: u64) {
+    let mut b = [0u8; 4];
+    put::short_code(&mut b, 0, v);
+    text(&b);
+}
+
+fn shown(b: u8) -> u8 {
+    if b == b' ' { b'-' } else { b }
+}
+
+// The four letters of a debit, a space as a dash.
+pub fn letters(v: u64) {
+    text(
+        &[
+            shown(codes::short_byte(v, 0)),
+            shown(codes::short_byte(v, 1)),
+            shown(codes::short_byte(v, 2)),
+            shown(codes::short_byte(v, 3)),
+        ],
+    );
+}
+
+pub fn refused(why: Refusal) {
+    text(b"refused ");
+    two_digits(why.number());
+    end();
+}
