@@ -7,17 +7,21 @@ use native.Mathlib.Nat.{add-assoc}
 use native.Mathlib.Omega.{arith}
 use borrow.Author.Tests.{lt-ltb, ltb-true, eq-eqb, ne-eqb}
 use lib.Dec.{ltb}
-use lib.ListN.{length, drop}
+use lib.ListN.{length, take, drop}
+use lib.Seq.{take-at}
 use Rattle.chars.specs.Words.{bytes}
 use Rattle.chars.specs.Chars.{isDigit, digitValue}
 use Rattle.chars.proofs.Laws.{in-range, digit-yes}
-use Rattle.scan.specs.Scan.{litAt, digitsAt, ten}
-use Rattle.scan.proofs.Standing.{All, valueOf, past, lit-reads, digits-reads}
+use Rattle.scan.specs.Scan.{litAt, digitsAt, numberAt, ten}
+use Rattle.scan.proofs.Standing.{All, valueOf, past, lit-reads, digits-reads, number-reads}
 use Rattle.values.specs.Values.{amountAt, hundredths}
 use Rattle.values.specs.declared.Value.the-variants.{Read}
+use Rattle.scan.specs.declared.Fixed.the-variants.{Value}
+use Rattle.codes.specs.Codes.{packed, shortAt, unpacked, shortText}
+use Rattle.codes.proofs.Laws.{pack-take, pack-unpack, unpack-length}
 use Rattle.put.specs.Digits.{digitsOf}
 use Rattle.put.proofs.Laws.{digits-length}
-use Rattle.administrator.specs.Orders.{widthOn, widthOf, amountText}
+use Rattle.administrator.specs.Orders.{fixed, widthOn, widthOf, fourText, amountText}
 
 -- ---- digits
 
@@ -91,3 +95,18 @@ amount-back s at c r h b =
     let d₂ = simp (digits-length, digits-value 2 (c % 100) (omega arith)) at (digits-reads s (at + 3 + w + 1) (digitsOf 2 (c % 100)) 13 r 2 p₃ (rw digits-length (omega arith)) (digits-all 2 (c % 100)) cr-stops) in
     simp (l₁, d₁, ne-eqb (at + 3 + w) (at + 3) (omega arith), l₂, d₂, ne-eqb (at + 3 + w + 1 + 2) (at + 3 + w + 1 + 1) (omega arith))
     (ap (λ (z : ℕ). Read z (at + 3 + w + 1 + 2)) (omega arith))
+
+-- a number of just k digits is read as itself
+pub number-back : (s : List ℕ) (at k v : ℕ) (r : List ℕ) → drop at s ≡ fixed k v ++ r → v < ten k → k ≤ 18 → numberAt s at k ≡ Value v (at + k)
+unfolding fixed
+number-back s at k v r h b m =
+    let h₀ : drop at s ≡ digitsOf k v ++ r = h ∙ simp (lt-ltb v (ten k) b) in
+    simp (digits-length, digits-value k v b) at (number-reads s at (digitsOf k v) r h₀ (digits-all k v) (rw digits-length m))
+
+-- a stream, a bank or four letters, a space among them, are read as themselves
+pub four-back : (s : List ℕ) (at v : ℕ) (r : List ℕ) → drop at s ≡ fourText v ++ r → v < 4294967296 → shortAt s at ≡ v
+unfolding fourText shortText shortAt
+four-back s at v r h b =
+    let h₀ : drop at s ≡ unpacked 4 v ++ r = h ∙ simp (lt-ltb v 4294967296 b) in
+    let t : take 4 (drop at s) ≡ unpacked 4 v = ap (take 4) h₀ ∙ take-at (unpacked 4 v) r 4 (unpack-length 4 v) in
+    sym (pack-take 4 0 (drop at s)) ∙ ap (packed 4) t ∙ pack-unpack 4 v b
