@@ -1,4 +1,5 @@
 pub mod Trial
+pub mod Stories
 pub mod Moved
 pub mod Agreement
 pub mod Refusals
