@@ -1,0 +1,18 @@
+use Rattle.composing.proofs.Laws.{byte-past}
+use borrow.Author.Needs.{needs}
+use Rattle.composing.proofs.byte.Statement.{statement}
+use Rattle.composing.proofs.byte.Tie as tie
+use Rattle.composing.proofs.byte.Reads as reads
+use Rattle.composing.proofs.byte.Lts as lts
+
+shared-slice-read-result : tie.Need-shared-slice-read-result
+shared-slice-read-result c = search needs
+
+returns : tie.Need-returns
+returns c = search needs
+
+returns-2 : tie.Need-returns-2
+returns-2 c = search byte-past
+
+pub byte-spec : {M : Type 1} → statement M
+byte-spec = tie.close (tie.spec shared-slice-read-result returns returns-2)

@@ -1,0 +1,15 @@
+use native.Mathlib.Omega.{arith}
+use Rattle.composing.proofs.Laws.{feed-1, feed-2}
+use Rattle.composing.proofs.feeds.Statement.{statement}
+use Rattle.composing.proofs.feeds.Tie as tie
+use Rattle.composing.proofs.feeds.Reads as reads
+use Rattle.composing.proofs.feeds.Lts as lts
+
+returns : tie.Need-returns
+returns c = (search feed-1, omega arith)
+
+returns-2 : tie.Need-returns-2
+returns-2 c = (search feed-2, omega arith)
+
+pub feeds-spec : {M : Type 1} → statement M
+feeds-spec = tie.close (tie.spec returns returns-2)

@@ -1,0 +1,16 @@
+use Rattle.composing.proofs.Laws.{headed-is}
+use borrow.Author.Needs.{needs}
+use Rattle.composing.proofs.headed.Statement.{statement}
+use Rattle.composing.proofs.headed.Tie as tie
+use Rattle.composing.proofs.headed.Reads as reads
+use Rattle.composing.proofs.headed.Lts as lts
+use Rattle.composing.proofs.asked.Reads as asked-reads
+
+asked-requires : tie.Need-asked-requires
+asked-requires c κs = search needs
+
+returns : tie.Need-returns
+returns c = search headed-is
+
+pub headed-spec : {M : Type 1} → statement M
+headed-spec = tie.close (tie.spec asked-requires returns)

@@ -1,0 +1,24 @@
+use Rattle.composing.proofs.Laws.{over-1, over-2, over-3}
+use borrow.Author.Needs.{needs}
+use Rattle.composing.proofs.line_over.Statement.{statement}
+use Rattle.composing.proofs.line_over.Tie as tie
+use Rattle.composing.proofs.line_over.Reads as reads
+use Rattle.composing.proofs.line_over.Lts as lts
+
+returns : tie.Need-returns
+returns c = search over-1
+
+shared-slice-read-if2 : tie.Need-shared-slice-read-if2
+shared-slice-read-if2 c = search needs
+
+add-t7 : tie.Need-add-t7
+add-t7 c = search needs
+
+returns-2 : tie.Need-returns-2
+returns-2 c = search over-2
+
+returns-3 : tie.Need-returns-3
+returns-3 c = search over-3
+
+pub line-over-spec : {M : Type 1} → statement M
+line-over-spec = tie.close (tie.spec returns shared-slice-read-if2 add-t7 returns-2 returns-3)

@@ -1,0 +1,93 @@
+use borrow.Author.Needs.{needs}
+use native.Mathlib.Omega.{arith}
+use Prim.Native.Nat.{_-_}
+use mathlib.Core.Path.{refl}
+use Rattle.composing.specs.Account.{paymentsAt}
+use Rattle.composing.proofs.Laws.{Going, going-end, going-cut, going-on, full-end, full-cut, full-more}
+use Rattle.composing.proofs.read_payments.Statement.{statement}
+use Rattle.composing.proofs.read_payments.Tie as tie
+use Rattle.composing.proofs.read_payments.Reads as reads
+use Rattle.composing.proofs.read_payments.Lts as lts
+use Rattle.composing.proofs.read_payment.Reads as read-payment-reads
+
+abbrev Inv-loop : tie.InvT-loop
+Inv-loop s at lines₀ n₀ here₀ lines n here = Going s at lines n here
+
+abbrev μ-loop : tie.MeasureT-loop
+μ-loop s at lines₀ n₀ here₀ lines n here = 10 - n
+
+loop-holds : tie.Need-loop-holds Inv-loop μ-loop
+unfolding paymentsAt
+loop-holds c = record { room = omega arith; size = refl; same = refl }
+
+returns : tie.Need-returns Inv-loop μ-loop
+returns c = search going-end
+
+read-payment-requires : tie.Need-read-payment-requires Inv-loop μ-loop
+read-payment-requires c κs = search needs
+
+enum-told : tie.Need-enum-told Inv-loop μ-loop
+enum-told c = search needs
+
+returns-2 : tie.Need-returns-2 Inv-loop μ-loop
+returns-2 c = search going-cut
+
+enum-known-p : tie.Need-enum-known-p Inv-loop μ-loop
+enum-known-p c = search needs
+
+mul-lines : tie.Need-mul-lines Inv-loop μ-loop
+mul-lines c = omega arith
+
+array-set-from-lines : tie.Need-array-set-from-lines Inv-loop μ-loop
+array-set-from-lines c = omega arith
+
+add-n : tie.Need-add-n Inv-loop μ-loop
+add-n c = omega arith
+
+loop-less : tie.Need-loop-less Inv-loop μ-loop
+loop-less c = omega arith
+
+loop-again : tie.Need-loop-again Inv-loop μ-loop
+loop-again c = search going-on
+
+returns-3 : tie.Need-returns-3 Inv-loop μ-loop
+returns-3 c = search full-end
+
+read-payment-requires-2 : tie.Need-read-payment-requires-2 Inv-loop μ-loop
+read-payment-requires-2 c κs = search needs
+
+enum-told-2 : tie.Need-enum-told-2 Inv-loop μ-loop
+enum-told-2 c = search needs
+
+enum-told-3 : tie.Need-enum-told-3 Inv-loop μ-loop
+enum-told-3 c = search needs
+
+returns-4 : tie.Need-returns-4 Inv-loop μ-loop
+returns-4 c = search full-cut
+
+returns-5 : tie.Need-returns-5 Inv-loop μ-loop
+returns-5 c = search full-more
+
+pub read-payments-spec : {M : Type 1} → statement M
+read-payments-spec =
+    tie.close
+    (tie.spec
+    Inv-loop
+    μ-loop
+    loop-holds
+    returns
+    read-payment-requires
+    enum-told
+    returns-2
+    enum-known-p
+    mul-lines
+    array-set-from-lines
+    add-n
+    loop-less
+    loop-again
+    returns-3
+    read-payment-requires-2
+    enum-told-2
+    enum-told-3
+    returns-4
+    returns-5)

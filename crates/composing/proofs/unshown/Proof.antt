@@ -1,0 +1,14 @@
+use Rattle.composing.proofs.Laws.{unshown-1, unshown-2}
+use Rattle.composing.proofs.unshown.Statement.{statement}
+use Rattle.composing.proofs.unshown.Tie as tie
+use Rattle.composing.proofs.unshown.Reads as reads
+use Rattle.composing.proofs.unshown.Lts as lts
+
+returns : tie.Need-returns
+returns c = search unshown-1
+
+returns-2 : tie.Need-returns-2
+returns-2 c = search unshown-2
+
+pub unshown-spec : {M : Type 1} → statement M
+unshown-spec = tie.close (tie.spec returns returns-2)
