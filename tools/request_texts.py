@@ -230,4 +230,5 @@ def main():
         file.write("".join(wanted))
 
 
-main()
+if __name__ == "__main__":
+    main()

@@ -5,6 +5,7 @@ mod requests;
 mod responses;
 mod words;
 
+use files::Got;
 use libc::STDERR_FILENO;
 use scan::At;
 
@@ -45,11 +46,6 @@ fn usage() {
     );
 }
 
-fn unreadable(path: &[u8]) {
-    io::write_all(STDERR_FILENO, b"cannot read ");
-    os::fail(path);
-}
-
 fn show(subject: Subject, s: &[u8]) {
     match subject {
         Subject::Request => requests::show(s),
@@ -67,43 +63,21 @@ fn show_first(subject: Subject, path: &[u8], buf: &[u8], n: usize) {
     }
 }
 
-// Reads on after the first n bytes, and answers how many there are then.
-fn read_on(fd: i32, buf: &mut [u8], n: usize) -> usize {
-    if n < buf.len() {
-        return n + io::read_full(fd, &mut buf[n..]);
-    }
-    n
-}
-
 // A file past the buffer's 65,536 bytes has the answer that these have: a text is read to its 4,096th
 // byte at the most, and a book of more than 2,560 bytes is refused for its length.
-fn show_open(subject: Subject, path: &[u8], fd: i32) {
-    let mut buf = io::large_buffer();
-    let got = libc::read(fd, &mut buf);
-    if got < 0 {
-        unreadable(path);
-        return;
-    }
-    let first = io::count(got, &buf);
-    let n = read_on(fd, &mut buf, first);
-    show_first(subject, path, &buf, n);
-}
-
 fn show_file(subject: Subject, path: &[u8]) {
-    let fd = os::open_read(path);
-    if fd < 0 {
-        unreadable(path);
-        return;
+    let mut buf = io::large_buffer();
+    match files::read(path, &mut buf) {
+        Got::Unread => (),
+        Got::Bytes(n) => show_first(subject, path, &buf, n),
     }
-    show_open(subject, path, fd);
-    libc::close(fd);
 }
 
 fn show_argument(subject: Subject, i: usize) {
     let mut path = io::buffer();
     let n = os::arg(i, &mut path);
     if os::errno() != 0 {
-        unreadable(b"argument");
+        files::unreadable(b"argument");
         return;
     }
     show_file(subject, &path[..n]);
