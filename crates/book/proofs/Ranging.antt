@@ -33,8 +33,7 @@ use Rattle.book.specs.Range.{Each, allAre, isShort, Rising, streamCodes,
 use Rattle.book.proofs.Leaves.{before-next}
 use Rattle.book.proofs.Rules.{byHolds}
 use Rattle.book.proofs.Accepted.{both, Accepted, accepted, dated, stream-entries, streams-few, streams-most, bank-entries, count-full, last-some, last-few, banks-most}
-use Rattle.book.proofs.Filling.{map-each}
-use Rattle.book.proofs.Sealing.{each-length}
+use Rattle.book.proofs.Filling.{map-each, each-length}
 
 -- ---- entries: each is right, and their codes rise
 

@@ -15,9 +15,9 @@ use Rattle.scan.proofs.Laws.{lit-yes}
 use Rattle.scan.proofs.Standing.{past, lit-reads}
 use Rattle.book.specs.Block.{little, head, entriesAt, headRight, zerosAt, unusedRight, headerRight, checkRight, entriesRight}
 use Rattle.book.specs.Book.{each}
-use Rattle.book.specs.Closing.{littleOf, joined, padded, sealed}
+use Rattle.closing.specs.Closing.{littleOf, joined, padded, sealed}
 use Rattle.book.specs.Range.{Each, Rising}
-use Rattle.book.proofs.Sealing.{sum-there, sum-self, padded-length, sealed-length}
+use Rattle.closing.proofs.Sealing.{sum-there, sum-self, padded-length, sealed-length}
 
 -- a number that fits is read from its own bytes
 pub little-of : (w v : ℕ) (r : List ℕ) → v < 256 ^ w → little w (littleOf w v ++ r) ≡ v

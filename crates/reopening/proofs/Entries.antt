@@ -16,10 +16,10 @@ use Rattle.scan.proofs.Standing.{All, code-reads}
 use Rattle.book.specs.Block.{little, zerosAt}
 use Rattle.book.specs.Book.{mostMoney, codeRight, streamRight, bitsPast, bankRight}
 use Rattle.book.specs.Accounts.{Stream, Bank, streamAt, bankAt}
-use Rattle.book.specs.Closing.{littleOf, streamBytes, bankBytes}
+use Rattle.closing.specs.Closing.{littleOf, streamBytes, bankBytes}
 use Rattle.book.specs.Range.{allAre, isShort}
 use Rattle.book.proofs.Accepted.{both}
-use Rattle.book.proofs.Storing.{short-length, little-length}
+use Rattle.closing.proofs.Storing.{short-length, little-length}
 use Rattle.book.proofs.Ranging.{RightStream, RightBank}
 use Rattle.reopening.proofs.Blocks.{little-of, begins-at, after, Entry}
 

@@ -22,12 +22,12 @@ use Rattle.book.specs.declared.Field.the-variants.{Code, Flags, Balance, Limit}
 use Rattle.book.specs.Block.{head, entriesAt, zerosAt}
 use Rattle.book.specs.Book.{mostMoney, dateIn, streamRight, bankRight, streamsCounted, streamRules, banksCounted, codeBefore, bankRules, bankBlocks, each, bankPlace}
 use Rattle.book.specs.Accounts.{Stream, Bank, streamAt, bankAt, dayIn, streamsIn, fieldOf, column}
-use Rattle.book.specs.Closing.{streamBytes, bankBytes, joined, streamBlock, bankBlock, bankBlocksOf}
+use Rattle.closing.specs.Closing.{streamBytes, bankBytes, joined, streamBlock, bankBlock, bankBlocksOf}
 use Rattle.book.specs.Range.{Each, isShort, Rising, streamCodes}
 use Rattle.book.proofs.Leaves.{before-next}
 use Rattle.book.proofs.Accepted.{AllHold, hold-join}
-use Rattle.book.proofs.Storing.{stream-length, bank-length}
-use Rattle.book.proofs.Sealing.{joined-length, sealed-length}
+use Rattle.closing.proofs.Storing.{stream-length, bank-length}
+use Rattle.closing.proofs.Sealing.{joined-length, sealed-length}
 use Rattle.book.proofs.Ranging.{RightStream, RightBank}
 use Rattle.reopening.proofs.Blocks.{begins-at, after, Stands, stands, entries-stand, header-stands, Along, along, Entry, lastOf, rising-split, entries-right, last-short, each-reads}
 use Rattle.reopening.proofs.Entries.{stream-stands, bank-stands}
