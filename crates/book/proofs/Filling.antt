@@ -146,6 +146,10 @@ pub map-each : {A : Type 0} (g : A → ℕ) (f : ℕ → A) (i n : ℕ) → map 
 map-each g f i zero = refl
 map-each g f i (suc n) = ap (λ (l : List ℕ). g (f i) ∷ l) (map-each g f (i + 1) n)
 
+pub each-length : {A : Type 0} (f : ℕ → A) (i n : ℕ) → length (each f i n) ≡ n
+each-length f i zero = refl
+each-length f i (suc n) = ap suc (each-length f (i + 1) n)
+
 -- the rows of a book that is read
 pub fill-is : (s r₁ r₂ r₃ r₄ r₅ : List ℕ) {a b c d e : List ℕ} {n m k : ℕ} → n ≡ entriesAt s 0 → m ≡ bankCount s (blocksIn s)
     → a ≡ sets r₁ 0 (streamRow (each (λ (i : ℕ). streamAt s (8 * i + 16)) 0 n))

@@ -2,9 +2,5 @@ pub mod Leaves
 pub mod Rules
 pub mod Accepted
 pub mod Filling
-pub mod Storing
-pub mod Sealing
-pub mod Writes
-pub mod Again
-pub mod Kept
+pub mod Ranging
 pub mod Theorems

@@ -1,9 +1,7 @@
 -- What the answers of the book's check mean.
-use Prim.Native.Nat.{ℕ, _≤_}
-use lib.ListN.{length}
-use lib.Seq.{sets}
+use Prim.Native.Nat.{ℕ}
 use mathlib.Core.Path.{_≡_, refl, _∙_, ap}
-use mathlib.Core.Bool.{true, false}
+use mathlib.Core.Bool.{false}
 use mathlib.Core.List.{List, [], _∷_, _++_}
 use mathlib.Core.Logic.{_↔_}
 use native.Mathlib.Omega.{arith}
@@ -11,14 +9,8 @@ use Rattle.chars.specs.declared.Refusal.{Refusal}
 use Rattle.book.specs.declared.Answer.the-variants.{Sound, Fault}
 use Rattle.book.specs.Block.{Rule, firstBroken}
 use Rattle.book.specs.Book.{bookRules, bookCheck}
-use Rattle.codes.proofs.Laws.{Bytes}
-use Rattle.book.specs.Accounts.{dayIn, streamsIn, banksIn, Rows, roomy, filled, bookIn}
-use Rattle.book.specs.Closing.{bookBytes, writeBook}
-use Rattle.book.specs.declared.Writing.the-variants.{Written}
-use Rattle.book.proofs.Kept.{kept}
-use Rattle.book.proofs.Again.{written-again}
 use Rattle.book.proofs.Rules.{byHolds, after-sound, breaks}
-use Rattle.book.proofs.Accepted.{accepted, AllHold, all-hold, none-broken}
+use Rattle.book.proofs.Accepted.{AllHold, all-hold, none-broken}
 
 -- a rule of the list is broken, those before it all hold, and its number is f
 pub record First (rs : List Rule) (f : Refusal) : Type 0 where
@@ -65,12 +57,3 @@ refused-first s f = (first-of (bookRules s) f, of-first (bookRules s) f)
 pub accepted-all : (s : List ℕ) → (bookCheck s ≡ Sound) ↔ AllHold (bookRules s)
 unfolding bookCheck
 accepted-all s = (all-hold (bookRules s), none-broken (bookRules s))
-
--- an accepted book, read and written again, is the same bytes: one book of accounts has one file
-pub same-again : (s : List ℕ) → Bytes s → bookCheck s ≡ Sound → bookBytes (dayIn s) (streamsIn s) (banksIn s) ≡ s
-same-again s b h = written-again s b (accepted s h)
-
--- so too by way of the rows: what `read` leaves in them, given to `write`, is the book itself, and nothing past it
-pub read-then-write : (s : List ℕ) → Bytes s → bookCheck s ≡ Sound → (t : Rows) → roomy t ≡ true → (out : List ℕ) → length s ≤ length out
-    → writeBook out (bookIn s) (filled s t) ≡ record { out = sets out 0 s; answer = Written (length s) }
-read-then-write s b h t r out l = kept s b (accepted s h) t r out l

@@ -2,7 +2,7 @@
 // day number, and whether it is the same after it was read and written again.
 use book::Answer;
 use book::Reading;
-use book::Writing;
+use closing::Writing;
 use libc::STDIN_FILENO;
 use libc::STDOUT_FILENO;
 ghost use Prim.Native.Nat.{_<_};
@@ -46,8 +46,15 @@ fn tell_sound(line: &mut [u8], text: &[u8]) {
     put::digits(line, 6, b.streams as u64, 2);
     put::digits(line, 9, b.day, 5);
     let mut out = [0u8; 2560];
-    let Writing::Written(n) = book::write(&mut out, b, &streams, &codes, &flags, &balances, &limits)
-    else {
+    let Writing::Written(n) = closing::write(
+        &mut out,
+        b,
+        &streams,
+        &codes,
+        &flags,
+        &balances,
+        &limits,
+    ) else {
         return;
     };
     if same(&out, n, text) {

@@ -11,7 +11,7 @@ use Rattle.dates.specs.Dates.{dayOf}
 use Rattle.dates.specs.declared.Day.{Day as Date}
 use Rattle.dates.specs.declared.Day.the-variants.{Number, Untrue}
 use Rattle.book.specs.Book.{each, bookCheck}
-use Rattle.book.specs.Closing.{bankOf, bookBytes}
+use Rattle.closing.specs.Closing.{bankOf, bookBytes}
 use Rattle.book.specs.Accounts.{Bank, dayIn, streamsIn, banksIn, column}
 use Rattle.book.specs.declared.Answer.{Answer as Check}
 use Rattle.book.specs.declared.Answer.the-variants.{Sound, Fault}

@@ -1,0 +1,118 @@
+-- Books that are written and read again, books that are read and written again.
+use Prim.Native.Nat.{ℕ, _+_, _*_, _≤_}
+use mathlib.Core.Path.{_≡_, sym, _∙_, ap}
+use mathlib.Core.Bool.{true}
+use mathlib.Core.List.{List}
+use native.Mathlib.Omega.{arith}
+use lib.ListN.{length, take, drop}
+use lib.Seq.{sets, sets-eq, take-at}
+use borrow.Author.Tests.{le-leb}
+use Rattle.codes.proofs.Laws.{Bytes}
+use Rattle.book.specs.declared.Answer.the-variants.{Sound}
+use Rattle.book.specs.declared.Book.{Book}
+use Rattle.book.specs.declared.Reading.{Reading}
+use Rattle.book.specs.declared.Reading.the-variants.{Held}
+use Rattle.book.specs.Book.{blocksIn, bankCount, bookRules, bookCheck}
+use Rattle.book.specs.Block.{entriesAt}
+use Rattle.book.specs.Accounts.{Stream, Bank, Rows, With, dayIn, streamsIn, banksIn, roomy, filled, bookIn, readBook}
+use Rattle.book.specs.Range.{InRange}
+use Rattle.book.proofs.Accepted.{accepted, none-broken}
+use Rattle.book.proofs.Filling.{each-length}
+use Rattle.closing.specs.declared.Writing.the-variants.{Written}
+use Rattle.closing.specs.Closing.{blocksFor, bookBytes, streamOf, bankOf, streamsOf, banksOf, holds, writeBook}
+use Rattle.reopening.proofs.Again.{written-again}
+use Rattle.reopening.proofs.Kept.{kept, streams-kept, banks-kept}
+use Rattle.reopening.proofs.Whole.{all-hold, book-long, blocks-in, count, banks-counted, day-back, streams-back, banks-back}
+
+-- every book that is written from accounts in range is accepted
+pub written-accepted : (day : ℕ) (streams : List Stream) (banks : List Bank) → InRange day streams banks → bookCheck (bookBytes day streams banks) ≡ Sound
+unfolding bookCheck
+written-accepted day streams banks g = none-broken (bookRules (bookBytes day streams banks)) (all-hold day streams banks g)
+
+-- and reads back as the same accounts
+pub written-reads-back : (day : ℕ) (streams : List Stream) (banks : List Bank) → InRange day streams banks
+    → (dayIn (bookBytes day streams banks) ≡ day) × (streamsIn (bookBytes day streams banks) ≡ streams) × (banksIn (bookBytes day streams banks) ≡ banks)
+written-reads-back day streams banks g = (day-back day streams banks g, streams-back day streams banks g, banks-back day streams banks g)
+
+-- so too by way of the functions: rows `t` with the day and the counts of `b` that `write` put into a buffer, read into other rows
+module _ (out : List ℕ) (b : Book) (t into : Rows) where
+  abbrev xs : List Stream
+  xs = streamsOf t (b .streams)
+
+  abbrev bs : List Bank
+  bs = banksOf t (b .banks)
+
+  abbrev s : List ℕ
+  s = bookBytes (b .day) xs bs
+
+  abbrev size : ℕ
+  size = 512 * blocksFor (b .banks)
+
+  abbrev again : With Reading
+  again = readBook (take size (writeBook out b t .out)) into
+
+  pub record Reopened : Type 0 where
+    pub written : writeBook out b t .answer ≡ Written size
+    pub book : again .answer ≡ Held b
+    pub streams : streamsOf (again .rows) (b .streams) ≡ xs
+    pub banks : banksOf (again .rows) (b .banks) ≡ bs
+
+  module _ (h : holds b t ≡ true) (g : InRange (b .day) xs bs) (room : size ≤ length out) (wide : roomy into ≡ true) where
+    streams-many : length xs ≡ b .streams
+    unfolding streamsOf
+    streams-many = each-length (streamOf (t .streams)) 0 (b .streams)
+
+    banks-many : length bs ≡ b .banks
+    unfolding banksOf
+    banks-many = each-length (bankOf (t .codes) (t .flags) (t .balances) (t .limits)) 0 (b .banks)
+
+    long : length s ≡ size
+    long = book-long (b .day) xs bs g ∙ ap (λ (n : ℕ). 512 * blocksFor n) banks-many
+
+    made : writeBook out b t ≡ record { out = sets out 0 s; answer = Written size }
+    unfolding writeBook
+    made = rw (h, le-leb size (length out) room)
+
+    put-there : take size (writeBook out b t .out) ≡ s
+    put-there =
+        ap (λ w. take size (w .out)) made
+        ∙ ap (take size) (sets-eq s out 0 (omega (arith, long)))
+        ∙ take-at s (drop (0 + length s) out) size long
+
+    counts : (entriesAt s 0 ≡ b .streams) × (bankCount s (blocksIn s) ≡ b .banks)
+    counts = (
+      count (b .day) xs bs g ∙ streams-many,
+      ap (bankCount s) (blocks-in (b .day) xs bs g) ∙ banks-counted (b .day) xs bs g ∙ banks-many,
+    )
+
+    sound : bookCheck s ≡ Sound
+    sound = written-accepted (b .day) xs bs g
+
+    book-same : bookIn s ≡ b
+    unfolding bookIn
+    book-same = rw (day-back (b .day) xs bs g, counts .0, counts .1)
+
+    read-so : again ≡ record { rows = filled s into; answer = Held b }
+    unfolding readBook
+    read-so = ap (λ (l : List ℕ). readBook l into) put-there ∙ rw (wide, sound, book-same)
+
+    pub write-then-read : Reopened
+    write-then-read = record {
+      written = ap (λ w. w .answer) made;
+      book = ap (λ w. w .answer) read-so;
+      streams =
+          ap (λ w. streamsOf (w .rows) (b .streams)) read-so ∙ ap (streamsOf (filled s into)) (sym (counts .0))
+          ∙ streams-kept s (accepted s sound) into wide ∙ streams-back (b .day) xs bs g;
+      banks =
+          ap (λ w. banksOf (w .rows) (b .banks)) read-so ∙ ap (banksOf (filled s into)) (sym (counts .1))
+          ∙ banks-kept s (accepted s sound) into wide ∙ banks-back (b .day) xs bs g;
+    }
+
+-- an accepted book, read and written again, is the same bytes: one book of accounts has one file
+pub same-again : (s : List ℕ) → Bytes s → bookCheck s ≡ Sound → bookBytes (dayIn s) (streamsIn s) (banksIn s) ≡ s
+same-again s b h = written-again s b (accepted s h)
+
+-- so too by way of the rows: what `read` leaves in them, given to `write`, is the book itself, and nothing past it
+pub read-then-write : (s : List ℕ) → Bytes s → bookCheck s ≡ Sound → (t : Rows) → roomy t ≡ true → (out : List ℕ) → length s ≤ length out
+    → writeBook out (bookIn s) (filled s t) ≡ record { out = sets out 0 s; answer = Written (length s) }
+read-then-write s b h t r out l = kept s (accepted s h) t r b out l
