@@ -160,7 +160,7 @@ unfolding begins
 not-timed (credit g₁ g₂ g₃) = rw (g₁ .text)
 not-timed (debit g₁ g₂ g₃ g₄) = rw (g₁ .text)
 
-not-timed-many : {k : ℕ} {l r : List ℕ} → 1 ≤ k → PaymentsText k l r → begins (bytes ":175:") l ≡ false
+pub not-timed-many : {k : ℕ} {l r : List ℕ} → 1 ≤ k → PaymentsText k l r → begins (bytes ":175:") l ≡ false
 not-timed-many h none-left = absurd (omega arith)
 not-timed-many h (one-more p q) = not-timed p
 
@@ -186,7 +186,7 @@ activation-complete s at {r = r} h (inr g) n =
 ended-here : (s : List ℕ) (at : ℕ) → drop at s ≡ [] → ltb at (length s) ≡ false
 ended-here s at h = le-ltb at (length s) (omega (arith, sym (length-drop at s) ∙ ap length h))
 
-not-more : {n : ℕ} {l r : List ℕ} → Line (bytes ":203:") (IsCount n) l r → begins (bytes ":127:") l ≡ false
+pub not-more : {n : ℕ} {l r : List ℕ} → Line (bytes ":203:") (IsCount n) l r → begins (bytes ":127:") l ≡ false
 unfolding begins
 not-more g = rw (g .text)
 

@@ -103,7 +103,7 @@ pub record GivesRecall (r : Reading) : Type 0 where
 
 -- ---- characters and their codes
 
-pack-below : (w i v : ℕ) (l : List ℕ) → Bytes l → v < 256 ^ i → packOn w v l < 256 ^ (i + w)
+pub pack-below : (w i v : ℕ) (l : List ℕ) → Bytes l → v < 256 ^ i → packOn w v l < 256 ^ (i + w)
 unfolding packOn
 pack-below zero i v l b h = rw add-zero h
 pack-below (suc w) i v [] b h = rw (add-suc, ← suc-add) (pack-below w (suc i) (v * 256) [] tt (rw add-zero at (pow-up i v 0 h (omega arith))))

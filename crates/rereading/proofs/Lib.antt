@@ -1,0 +1,4 @@
+pub mod Lines
+pub mod Written
+pub mod Back
+pub mod ReadsBack
