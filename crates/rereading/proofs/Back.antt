@@ -100,7 +100,7 @@ module _ (tag : List ℕ) {P : List ℕ → Type 0} {l r : List ℕ} (g : Line t
 
 -- ---- the head
 
-head-opens : (o : Order) (q : List ℕ) → headText o ++ q ≡ lineText (bytes ":20:") (Name (o .reference)) ++ (lineText (bytes ":12:") (SubType (o .subtype)) ++ (lineText (bytes ":77E:") Nothing ++ (lineText (bytes ":22A:") (Four (o .stream)) ++ (lineText (bytes ":119:") (Name (o .bin)) ++ q))))
+pub head-opens : (o : Order) (q : List ℕ) → headText o ++ q ≡ lineText (bytes ":20:") (Name (o .reference)) ++ (lineText (bytes ":12:") (SubType (o .subtype)) ++ (lineText (bytes ":77E:") Nothing ++ (lineText (bytes ":22A:") (Four (o .stream)) ++ (lineText (bytes ":119:") (Name (o .bin)) ++ q))))
 unfolding headText
 head-opens o q = simp append-assoc
 

@@ -2,3 +2,5 @@ pub mod Lines
 pub mod Written
 pub mod Back
 pub mod ReadsBack
+pub mod Texts
+pub mod Again

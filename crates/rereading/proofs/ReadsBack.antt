@@ -124,10 +124,10 @@ activation-back (Minute k) (inr g) m q h u v says =
 -- ---- what follows 119
 
 -- the order has ten places
-abbrev places : ℕ → ℕ
+abbrev pub places : ℕ → ℕ
 places n = cond (ltb n 10) n 10
 
-message-opens : (o : Order) → messageText o ≡ lineText (bytes ":16A:") (Numbers (o .number) (o .count)) ++ (lineText (bytes ":171:") (Date (o .date)) ++ (activationText (o .activation) ++ (onward (places (o .n)) 0 (o .lines) ++ (lineText (bytes ":203:") (Count (o .n)) ++ []))))
+pub message-opens : (o : Order) → messageText o ≡ lineText (bytes ":16A:") (Numbers (o .number) (o .count)) ++ (lineText (bytes ":171:") (Date (o .date)) ++ (activationText (o .activation) ++ (onward (places (o .n)) 0 (o .lines) ++ (lineText (bytes ":203:") (Count (o .n)) ++ []))))
 unfolding messageText termsText paymentsText
 message-opens o =
     let f = lineText (bytes ":203:") (Count (o .n)) in

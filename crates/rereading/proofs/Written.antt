@@ -66,7 +66,7 @@ blank-filled (x ∷ l) h = go (eqb x 0) refl h (blank-filled l)
     go true e h f = ap₂ _∷_ (eqb-true x 0 e) (f h)
     go false e h f = absurd (false≢true h)
 
-zero-no-code : isCode 0 ≡ false
+pub zero-no-code : isCode 0 ≡ false
 unfolding isCode isLetter isDigit
 zero-no-code = refl
 
@@ -114,7 +114,7 @@ spelled-low c h = ap (packed 8) (drop-at (unpacked 8 (c .high)) (unpacked 8 (c .
 code-same : (c d : Code) → c .high ≡ d .high → c .low ≡ d .low → c ≡ d
 code-same c d p q = ap₂ (λ (h l : ℕ). record { high = h; low = l }) p q
 
-long-halves : (v : List ℕ) → Bytes v → Halves (longOf v)
+pub long-halves : (v : List ℕ) → Bytes v → Halves (longOf v)
 unfolding longOf
 long-halves v b = (pack-below 8 0 0 v b (omega arith), pack-below 8 0 0 (drop 8 v) (bytes-drop 8 v b) (omega arith))
 

@@ -77,3 +77,25 @@ orderOf r = record {
   lines = map lineOf (r .payments);
   n = r .n;
 }
+
+-- two readings of the same request: all but the places where the fields stand
+pub record SamePaid (p t : Payment) : Type 0 where
+  pub side : p .side .number ≡ t .side .number
+  pub cents : p .amount .number ≡ t .amount .number
+  pub letters : p .letters .number ≡ t .letters .number
+  pub bank : p .bank .number ≡ t .bank .number
+
+pub record SameNames (h k : Head) : Type 0 where
+  pub reference : h .reference .code ≡ k .reference .code
+  pub subtype : h .subtype .number ≡ k .subtype .number
+  pub stream : h .address .stream .number ≡ k .address .stream .number
+  pub bin : h .address .bin .code ≡ k .address .bin .code
+
+pub record SameRequest (r t : Reading) : Type 0 where
+  pub head : SameNames (r .head) (t .head)
+  pub number : r .terms .number ≡ t .terms .number
+  pub count : r .terms .count ≡ t .terms .count
+  pub date : r .terms .date .number ≡ t .terms .date .number
+  pub activation : r .terms .activation ≡ t .terms .activation
+  pub n : r .n ≡ t .n
+  pub payments : (i : ℕ) → i < r .n → SamePaid (getD (r .payments) i noPayment) (getD (t .payments) i noPayment)
