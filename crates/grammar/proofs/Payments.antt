@@ -19,7 +19,7 @@ use Rattle.scan.proofs.Standing.{past, lit-reads, lit-next}
 use Rattle.values.specs.Values.{sideAt}
 use Rattle.values.specs.declared.Value.{Value}
 use Rattle.values.specs.declared.Value.the-variants.{Read, Unread}
-use Rattle.values.proofs.Grammar.{IsSide, IsAmount, IsWord, IsLetters}
+use Rattle.values.proofs.Grammar.{IsSide, IsAmount, IsWord, IsLetters, centsIn}
 use Rattle.fields.specs.Fields.{absent, broken, wrong, item, place, onRead, onGood, valueAt, fieldAt}
 use Rattle.fields.specs.declared.Break.{Break}
 use Rattle.fields.specs.declared.Item.{Item}
@@ -34,7 +34,7 @@ use Rattle.payments.specs.declared.Paid.{Paid}
 use Rattle.payments.specs.declared.Paid.the-variants.{One, Unpaid}
 use Rattle.payments.specs.declared.Ending.the-variants.{Done, Cut}
 use Rattle.payments.specs.declared.Payments.{Payments}
-use Rattle.grammar.proofs.Meanings.{number-is, centsIn, LineRead, line-read}
+use Rattle.grammar.proofs.Meanings.{number-is, LineRead, line-read}
 
 -- "127, 32B, 113, 102: one payment .. 113 stands after DR and never after CR": l is a payment, and then r
 pub data PaymentText : List ℕ → List ℕ → Type 0 where

@@ -18,7 +18,7 @@ use Rattle.scan.specs.declared.Cursor.{Cursor}
 use Rattle.scan.proofs.Standing.{valueOf, lit-reads}
 use Rattle.values.specs.Values.{textOf}
 use Rattle.values.specs.declared.Part.{Part}
-use Rattle.values.proofs.Grammar.{IsReference, IsNumeral, IsWord, IsBin, IsNumbers, IsDate, IsTime, IsCount}
+use Rattle.values.proofs.Grammar.{IsReference, IsNumeral, IsWord, IsBin, IsNumbers, IsDate, IsTime, IsCount, numeral-reads}
 use Rattle.fields.specs.Fields.{absent, broken, item, place, onGood, fieldAt}
 use Rattle.fields.specs.declared.Break.{Break}
 use Rattle.fields.specs.declared.Item.{Item}
@@ -47,7 +47,7 @@ use Rattle.request.specs.declared.Head.{Head}
 use Rattle.request.specs.declared.Outcome.{Outcome}
 use Rattle.request.specs.declared.Outcome.the-variants.{Settlement, Recall, Refused}
 use Rattle.request.specs.declared.Reading.{Reading}
-use Rattle.grammar.proofs.Meanings.{number-is, part-is, numeral-reads, numbered-range, line-read}
+use Rattle.grammar.proofs.Meanings.{number-is, part-is, numbered-range, line-read}
 use Rattle.grammar.proofs.Payments.{PaymentText, credit, debit, PaymentsText, none-left, one-more, PaymentsSay, payments-complete, payments-sound}
 
 -- the lines 20 to 119 of a sub type, and then r
@@ -145,7 +145,7 @@ head-complete kind s m g =
     let p = 0 + 4 + length (g .reference .value) + 2 in
     let d : Line (bytes ":12:") (IsNumeral 3) (g .r₁) (g .r₂) = record { value = g .three-digits .value; text = g .three-digits .text; is = g .three-digits .is .0 } in
     let b = line-complete s p (bytes ":12:") (Numeral 3) 0 (omega arith) (a .rest) d in
-    let z : b .number ≡ kind = number-is (b .value) (numeral-reads s (p + 4) (d .value) (crlf ++ g .r₂) (b .part) 3 (omega arith) (d .is)) ∙ g .three-digits .is .1 in
+    let z : b .number ≡ kind = number-is (b .value) (numeral-reads s (p + 4) (d .value) (g .r₂) (b .part) 3 (omega arith) (d .is)) ∙ g .three-digits .is .1 in
     let c = address-complete s (p + 4 + length (d .value) + 2) (b .rest) (g .empty) (g .stream) (g .bin) in
     record {
       of = head (namedAt s (record { start = 4; end = 4 + length (g .reference .value) })) (item (p + 4) (p + 4 + length (d .value)) (b .number)) (c .0);

@@ -22,7 +22,7 @@ use Rattle.scan.specs.Scan.{ten}
 use Rattle.scan.proofs.Laws.{ten-mono}
 use Rattle.scan.proofs.Standing.{All, valueOf}
 use Rattle.values.specs.Letters.{isStatus, isFourth}
-use Rattle.values.proofs.Grammar.{IsReference, IsWord, IsBin, IsTime, IsAmount, IsLetters}
+use Rattle.values.proofs.Grammar.{IsReference, IsWord, IsBin, IsTime, IsAmount, IsLetters, hundredthsIn, centsIn}
 use Rattle.fields.proofs.Grammar.{Line}
 use Rattle.terms.specs.declared.Activation.{Activation}
 use Rattle.terms.specs.declared.Activation.the-variants.{AtOnce, Minute}
@@ -31,7 +31,7 @@ use Rattle.request.specs.Request.{requestAt}
 use Rattle.request.specs.declared.Head.{Head}
 use Rattle.request.specs.declared.Outcome.the-variants.{Settlement, Recall}
 use Rattle.request.specs.declared.Reading.{Reading}
-use Rattle.grammar.proofs.Meanings.{numbered-range, hundredthsIn, centsIn}
+use Rattle.grammar.proofs.Meanings.{numbered-range}
 use Rattle.grammar.proofs.Payments.{PaymentText, credit, debit, PaymentsText, none-left, one-more, noPayment, PaymentSays, PaymentsSay}
 use Rattle.grammar.proofs.Request.{ActivationSays, HeadSays, SettlementSays, settlement-says, recall-says}
 

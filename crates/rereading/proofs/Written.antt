@@ -21,8 +21,7 @@ use Rattle.put.proofs.Laws.{digits-length}
 use Rattle.reply.proofs.Digits.{code-bytes}
 use Rattle.scan.specs.Scan.{ten}
 use Rattle.scan.proofs.Standing.{All, valueOf}
-use Rattle.values.proofs.Grammar.{IsNumbers, IsTime, IsAmount}
-use Rattle.grammar.proofs.Meanings.{hundredthsIn, centsIn}
+use Rattle.values.proofs.Grammar.{IsNumbers, IsTime, IsAmount, hundredthsIn, centsIn}
 use Rattle.grammar.proofs.Values.{pack-below}
 use Rattle.administrator.specs.Orders.{held, fixed, widthOf, blank, proper, nameText, fourText, numbersText, timeText, amountText, countText}
 use Rattle.administrator.proofs.ReadBack.{digits-all, digits-value, width-fits}
