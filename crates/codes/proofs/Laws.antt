@@ -271,7 +271,7 @@ pack-split zero w u l = simp zero-add
 pack-split (suc v) w u [] = rw suc-add (pack-split v w (u * 256) [] ∙ ap (packOn w (packOn v (u * 256) [])) (drop-of-length-le [] {i = v} (omega arith)))
 pack-split (suc v) w u (x ∷ l) = rw suc-add (pack-split v w (u * 256 + x) l)
 
-bytes-drop : (n : ℕ) (l : List ℕ) → Bytes l → Bytes (drop n l)
+pub bytes-drop : (n : ℕ) (l : List ℕ) → Bytes l → Bytes (drop n l)
 bytes-drop zero l b = b
 bytes-drop (suc n) [] b = tt
 bytes-drop (suc n) (x ∷ l) b = bytes-drop n l (b .1)
@@ -305,7 +305,7 @@ named-filled zero (x ∷ l) h n = absurd (omega arith)
 named-filled (suc w) [] h n = refl
 named-filled (suc w) (x ∷ l) h n = simp (ne-eqb x 0 (omega (arith, n .0)), named-filled w l (omega arith) (n .1))
 
-filled-split : (v w : ℕ) (l : List ℕ) → filled v l ++ filled w (drop v l) ≡ filled (v + w) l
+pub filled-split : (v w : ℕ) (l : List ℕ) → filled v l ++ filled w (drop v l) ≡ filled (v + w) l
 filled-split zero w l = simp zero-add
 filled-split (suc v) w [] = rw suc-add (ap (λ (r : List ℕ). 0 ∷ r) (ap (λ (r : List ℕ). filled v [] ++ filled w r) (sym (drop-of-length-le [] {i = v} (omega arith))) ∙ filled-split v w []))
 filled-split (suc v) w (x ∷ l) = rw suc-add (ap (λ (r : List ℕ). x ∷ r) (filled-split v w l))

@@ -87,7 +87,7 @@ module _ (s : List ℕ) (at : ℕ) (v r : List ℕ) (h : drop at s ≡ v ++ r) w
       simp (h, le-leb (length v) 18 m, k, eq-eqb (at + length v) (at + length v) refl)
 
 -- what is read stands there
-and-true : (a b : Bool) → (a && b) ≡ true → (a ≡ true) × (b ≡ true)
+pub and-true : (a b : Bool) → (a && b) ≡ true → (a ≡ true) × (b ≡ true)
 and-true true b h = (refl, h)
 and-true false b h = let z : _≡_ {A = ℕ} 0 1 = cc in absurd (omega arith)
 

@@ -169,7 +169,22 @@ fourth-no-cr x h = go (eqb x 13) refl
     go true e = absurd (false≢true (ap isFourth (sym (eqb-true x 13 e)) ∙ h))
     go false e = refl
 
--- complete: a value that stands before CR LF is read
+-- "`12,5` is 1,250": what the digits after the comma are in hundredths
+abbrev pub hundredthsIn : List ℕ → ℕ
+hundredthsIn part = cond (eqb (length part) 1) (valueOf 0 part * 10) (valueOf 0 part)
+
+abbrev pub centsIn : {v : List ℕ} → IsAmount v → ℕ
+centsIn g = valueOf 0 (g .whole) * 100 + hundredthsIn (g .part)
+
+hundredths-are : (b : ℕ) (part : List ℕ) → hundredths b (record { end = b + length part; value = valueOf 0 part }) ≡ hundredthsIn part
+unfolding hundredths
+hundredths-are b part = go (eqb (length part) 1) refl
+  where
+    go : (t : Bool) → eqb (length part) 1 ≡ t → cond (eqb (b + length part) (b + 1)) (valueOf 0 part * 10) (valueOf 0 part) ≡ cond t (valueOf 0 part * 10) (valueOf 0 part)
+    go true e = rw (eq-eqb (b + length part) (b + 1) (omega (arith, eqb-true (length part) 1 e)))
+    go false e = rw (ne-eqb (b + length part) (b + 1) (omega (arith, eqb-false (length part) 1 e)))
+
+-- complete: a value that stands before CR LF is read, and as its number
 module _ (s : List ℕ) (at : ℕ) (v r : List ℕ) (h : drop at s ≡ v ++ (crlf ++ r)) where
   cut-here : (p : List ℕ) → All (λ (x : ℕ). not (eqb 13 x)) p → begins p (drop at s) ≡ begins p v
   cut-here p a = ap (begins p) h ∙ begins-cut p v (10 ∷ r) a
@@ -181,11 +196,15 @@ module _ (s : List ℕ) (at : ℕ) (v r : List ℕ) (h : drop at s ≡ v ++ (crl
       let z : (at + length v ≡ at → ⊥) = λ e. omega (arith, e, g .some) in
       record { number = 0; is = simp (k, ne-eqb (at + length v) at z, stands-begins, cut-here (bytes "RITS") (refl, (refl, (refl, (refl, tt)))), cut-here (bytes "ACLR") (refl, (refl, (refl, (refl, tt)))), cut-here (bytes "ASXC") (refl, (refl, (refl, (refl, tt)))), g .free) }
 
-  pub numeral-complete : (n : ℕ) → n ≤ 18 → IsNumeral n v → ReadsAs (numeralAt s at n) (at + length v)
+  digits-are : (n : ℕ) → n ≤ 18 → IsNumeral n v → numberAt s at n ≡ Digits (valueOf 0 v) (at + length v)
+  digits-are n m g = ap (numberAt s at) (sym (g .size)) ∙ number-reads s at v (crlf ++ r) h (g .all) (omega (arith, g .size))
+
+  pub numeral-reads : (n : ℕ) → n ≤ 18 → IsNumeral n v → numeralAt s at n ≡ Read (valueOf 0 v) (at + length v)
   unfolding numeralAt
-  numeral-complete n m g =
-      let k = number-reads s at v (crlf ++ r) h (g .all) (omega (arith, g .size)) in
-      record { number = valueOf 0 v; is = rw (← g .size) (simp k) }
+  numeral-reads n m g = simp (digits-are n m g)
+
+  pub numeral-complete : (n : ℕ) → n ≤ 18 → IsNumeral n v → ReadsAs (numeralAt s at n) (at + length v)
+  numeral-complete n m g = record { number = valueOf 0 v; is = numeral-reads n m g }
 
   pub word-complete : (n : ℕ) → IsWord n v → ReadsAs (wordAt s at n) (at + length v)
   unfolding wordAt
@@ -193,19 +212,19 @@ module _ (s : List ℕ) (at : ℕ) (v r : List ℕ) (h : drop at s ≡ v ++ (crl
       let k = code-reads s at v (crlf ++ r) h (g .all) in
       record { number = shortAt s at; is = rw (← g .size) (simp k) }
 
-  pub date-complete : IsDate v → ReadsAs (dateAt s at) (at + length v)
+  pub date-reads : (g : IsDate v) → dateAt s at ≡ Read (g .day) (at + length v)
   unfolding dateAt
-  date-complete g =
-      let k = number-reads s at v (crlf ++ r) h (g .six .all) (omega (arith, g .six .size)) in
-      let k′ : numberAt s at 6 ≡ Digits (valueOf 0 v) (at + length v) = ap (numberAt s at) (sym (g .six .size)) ∙ k in
-      record { number = g .day; is = simp (k′, g .true-date) }
+  date-reads g = simp (digits-are 6 (omega arith) (g .six), g .true-date)
+
+  pub date-complete : IsDate v → ReadsAs (dateAt s at) (at + length v)
+  date-complete g = record { number = g .day; is = date-reads g }
+
+  pub time-reads : (g : IsTime v) → timeAt s at ≡ Read (g .minute) (at + length v)
+  unfolding timeAt
+  time-reads g = simp (digits-are 4 (omega arith) (g .four), g .true-time)
 
   pub time-complete : IsTime v → ReadsAs (timeAt s at) (at + length v)
-  unfolding timeAt
-  time-complete g =
-      let k = number-reads s at v (crlf ++ r) h (g .four .all) (omega (arith, g .four .size)) in
-      let k′ : numberAt s at 4 ≡ Digits (valueOf 0 v) (at + length v) = ap (numberAt s at) (sym (g .four .size)) ∙ k in
-      record { number = g .minute; is = simp (k′, g .true-time) }
+  time-complete g = record { number = g .minute; is = time-reads g }
 
   pub count-complete : (n : ℕ) → IsCount n v → ReadsAs (countAt s at n) (at + length v)
   unfolding countAt
@@ -225,9 +244,9 @@ module _ (s : List ℕ) (at : ℕ) (v r : List ℕ) (h : drop at s ≡ v ++ (crl
       let k : numberAt s (at + length w) 4 ≡ Digits (valueOf 0 d) (at + length w + length d) = ap (numberAt s (at + length w)) (sym (g .four .size)) ∙ number-reads s (at + length w) d (crlf ++ r) h₂ (g .four .all) (omega (arith, g .four .size)) in
       record { number = 0; is = simp (e, l, k) (ap (Read 0) (omega (arith, simp length-append at (ap length (g .is))))) }
 
-  pub numbers-complete : IsNumbers v → ReadsAs (numbersAt s at) (at + length v)
+  pub numbers-read : (g : IsNumbers v) → numbersAt s at ≡ Read (valueOf 0 (g .number) * 100 + valueOf 0 (g .count)) (at + length v)
   unfolding numbersAt
-  numbers-complete g =
+  numbers-read g =
       let a = g .number in
       let b = g .count in
       let h₁ : drop at s ≡ a ++ (bytes "/" ++ (b ++ (crlf ++ r))) = h ∙ ap (λ (l : List ℕ). l ++ (crlf ++ r)) (g .is) ∙ append-assoc a (bytes "/" ++ b) (crlf ++ r) in
@@ -236,7 +255,10 @@ module _ (s : List ℕ) (at : ℕ) (v r : List ℕ) (h : drop at s ≡ v ++ (crl
       let k₁ : numberAt s at 2 ≡ Digits (valueOf 0 a) (at + length a) = ap (numberAt s at) (sym (g .two .size)) ∙ number-reads s at a (bytes "/" ++ (b ++ (crlf ++ r))) h₁ (g .two .all) (omega (arith, g .two .size)) in
       let l = lit-reads s (at + length a) (bytes "/") (b ++ (crlf ++ r)) h₂ in
       let k₂ : numberAt s (at + length a + 1) 2 ≡ Digits (valueOf 0 b) (at + length a + 1 + length b) = ap (numberAt s (at + length a + 1)) (sym (g .too .size)) ∙ number-reads s (at + length a + 1) b (crlf ++ r) h₃ (g .too .all) (omega (arith, g .too .size)) in
-      record { number = valueOf 0 a * 100 + valueOf 0 b; is = simp (k₁, l, k₂, g .range) (ap (Read (valueOf 0 a * 100 + valueOf 0 b)) (omega (arith, simp length-append at (ap length (g .is))))) }
+      simp (k₁, l, k₂, g .range) (ap (Read (valueOf 0 a * 100 + valueOf 0 b)) (omega (arith, simp length-append at (ap length (g .is)))))
+
+  pub numbers-complete : IsNumbers v → ReadsAs (numbersAt s at) (at + length v)
+  numbers-complete g = record { number = valueOf 0 (g .number) * 100 + valueOf 0 (g .count); is = numbers-read g }
 
   pub side-complete : IsSide v → ReadsAs (sideAt s at) (at + length v)
   unfolding sideAt
@@ -248,9 +270,9 @@ module _ (s : List ℕ) (at : ℕ) (v r : List ℕ) (h : drop at s ≡ v ++ (crl
       let l = lit-reads s at (bytes "DR") (crlf ++ r) (h ∙ ap (λ (l : List ℕ). l ++ (crlf ++ r)) e) in
       record { number = 1; is = simp (n, l, e) }
 
-  pub amount-complete : IsAmount v → ReadsAs (amountAt s at) (at + length v)
+  pub amount-reads : (g : IsAmount v) → amountAt s at ≡ Read (centsIn g) (at + length v)
   unfolding amountAt
-  amount-complete g =
+  amount-reads g =
       let a = g .whole in
       let b = g .part in
       let h₁ : drop at s ≡ bytes "AUD" ++ (a ++ (bytes "," ++ (b ++ (crlf ++ r)))) = h ∙ ap (λ (l : List ℕ). l ++ (crlf ++ r)) (g .is) ∙ ap (λ (l : List ℕ). bytes "AUD" ++ l) (append-assoc a (bytes "," ++ b) (crlf ++ r)) in
@@ -262,9 +284,11 @@ module _ (s : List ℕ) (at : ℕ) (v r : List ℕ) (h : drop at s ≡ v ++ (crl
       let z : (at + 3 + length a ≡ at + 3 → ⊥) = λ e. omega (arith, e, g .some) in
       let l₂ = lit-reads s (at + 3 + length a) (bytes ",") (b ++ (crlf ++ r)) h₃ in
       let k₂ = digits-reads s (at + 3 + length a + 1) b 13 (10 ∷ r) 2 h₄ (g .short) (g .too) cr-ends-digit in
-      let m : ℕ = valueOf 0 a * 100 + hundredths (at + 3 + length a + 1) (record { end = at + 3 + length a + 1 + length b; value = valueOf 0 b }) in
       let e : at + 3 + length a + 1 + length b ≡ at + length v = omega (arith, simp length-append at (ap length (g .is))) in
-      record { number = m; is = simp (l₁, k₁, ne-eqb (at + 3 + length a) (at + 3) z, l₂, k₂) (ap (Read m) e) }
+      simp (l₁, k₁, ne-eqb (at + 3 + length a) (at + 3) z, l₂, k₂, hundredths-are (at + 3 + length a + 1) b) (ap (Read (centsIn g)) e)
+
+  pub amount-complete : IsAmount v → ReadsAs (amountAt s at) (at + length v)
+  amount-complete g = record { number = centsIn g; is = amount-reads g }
 
   pub letters-complete : IsLetters v → ReadsAs (lettersAt s at) (at + length v)
   unfolding lettersAt judgedAt
@@ -282,7 +306,7 @@ pub record SpeltAs (P : List ℕ → Type 0) (s : List ℕ) (at e : ℕ) : Type 
   pub ends : e ≡ at + length value
   pub is : P value
 
-unread : {A : Type 0} {x : Refusal} {v e : ℕ} → Unread x ≡ Read v e → A
+pub unread : {A : Type 0} {x : Refusal} {v e : ℕ} → Unread x ≡ Read v e → A
 unread h = let z : _≡_ {A = ℕ} 0 1 = cc in absurd (omega arith)
 
 or-false : (a b : Bool) → (a || b) ≡ false → (a ≡ false) × (b ≡ false)
