@@ -26,7 +26,8 @@ use Rattle.engine.specs.State.{Place, State, placePayments, paymentsAt}
 use Rattle.engine.specs.Messages.{Acted}
 use Rattle.engine.specs.Ending.{afterTest}
 use Rattle.engine.specs.Days.{opened, openingAnswer}
-use Rattle.engine.specs.Calls.{Call, Engine, isOpen, rightDay, judge, begun, act, tested, isClose, left, goesOn, closes, stepped, openedBy, performed, judged, call, cleared}
+use Rattle.engine.specs.Calls.{Call, Engine, isOpen, rightDay, judge, begun, tested, isClose, left, goesOn, closes, stepped, openedBy, performed, judged, call, cleared}
+use Rattle.engine.specs.Answered.{acted, outcome}
 use Rattle.engine.proofs.Agreement.{Faithful, true-acted, right-day, call-faithful, cleared-faithful}
 use Rattle.engine.proofs.Counting.{times-once, off-none}
 use Rattle.engine.proofs.Standing.{at-most-once, emptied-off}
@@ -35,13 +36,6 @@ use Rattle.engine.proofs.Doing.{Did, idle, limits, letters, alone, repe
 use Rattle.engine.proofs.Keeping.{Readers, Kept, acted-stood, acted-house, fresh-kept, call-kept}
 
 -- ---- the words
-
--- a call's action, and its test
-abbrev pub acted : Engine → Call → Acted
-acted e c = act (begun (e .state) (c .clock)) (c .action) (c .input)
-
-abbrev pub outcome : Engine → Call → Outcome
-outcome e c = tested (c .quick) (acted e c) (e .memory)
 
 -- the batches that a call settles, in their order: only a call with a test settles any
 abbrev pub settledBy : Answer → Action → Engine → Call → List (List Payment)

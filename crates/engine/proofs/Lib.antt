@@ -26,3 +26,6 @@ pub mod Output
 pub mod Holding
 pub mod OnlyNoted
 pub mod Replying
+pub mod Awaiting
+pub mod Ending
+pub mod Once

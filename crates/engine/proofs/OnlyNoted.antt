@@ -13,21 +13,17 @@ use Rattle.response.specs.declared.Outcome.{Outcome}
 use Rattle.response.specs.declared.Outcome.the-variants.{Settled, Rejected}
 use Rattle.queue.proofs.MemoryLaws.{byBool}
 use Rattle.engine.specs.State.{Day, Message, Batch, Place, free, live, Batches, Known, Entry, State, placeAt, placeMessages, placeBin, batchOf}
-use Rattle.engine.specs.Replies.{Reply, settlement, recall, repliesTo}
+use Rattle.engine.specs.Replies.{Reply, repliesTo}
 use Rattle.engine.specs.Messages.{Acted, today, reference, bin, arrived, firstBatch, noted, ended, withMessage}
 use Rattle.engine.specs.Changes.{relettered, withLetter}
 use Rattle.engine.specs.Ending.{emptied, settledReplies, closeReplies}
 use Rattle.engine.specs.Rules.{Each, remembered, has}
+use Rattle.engine.specs.Answered.{replyTo}
 use Rattle.engine.proofs.Seeking.{byFound}
 use Rattle.engine.proofs.Settling.{each-append}
 use Rattle.engine.proofs.Admitting.{Gives, each-last}
 use Rattle.engine.proofs.Remembering.{reference-noted}
 use Rattle.engine.proofs.Doing.{New, Alone, refuses, answers, Start, going, begun, Did, idle, limits, letters, alone, repeats, recalls, completes, grows, rejects}
-
--- the reference that a reply is to
-abbrev pub replyTo : Reply → Code
-replyTo (settlement r b o) = r
-replyTo (recall r a) = r
 
 -- replies, and the messages of a place, whose references are remembered
 abbrev pub AllNoted : List Code → List Reply → Type 0
