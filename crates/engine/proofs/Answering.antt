@@ -113,10 +113,10 @@ module _ (s : State) (r : Reading) (g : Gives r) where
     answered = omega (arith, live-freed (s .batches .places) p, replies-length (placeMessages (placeAt (s .batches) p)) c (Rejected (numberOf f)));
     noted-today = omega arith;
   }
-  counted (recalls p y o n w) = record {
+  counted (recalls p f n w) = record {
     new = 1;
     few = omega arith;
-    answered = omega (arith, live-freed (s .batches .places) p, replies-length (placeMessages (placeAt (s .batches) p)) (bin s r) o);
+    answered = omega (arith, live-freed (s .batches .places) p, replies-length (placeMessages (placeAt (s .batches) p)) (bin s r) (Rejected (numberOf f)));
     noted-today = one-more n;
   }
   counted (completes stream b k p x j d e f) =

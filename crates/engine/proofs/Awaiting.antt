@@ -140,8 +140,8 @@ module _ (s : State) (r : Reading) (g : Gives r) (x : Code) where
 
   alone-told : {y : Reply} → Alone s r y → told x (y ∷ []) ≡ timesIn x (reference s r ∷ [])
   unfolding repliedTo
-  alone-told (refuses o i) = refl
-  alone-told (answers a) = refl
+  alone-told (refuses f i) = refl
+  alone-told (answers f) = refl
 
   pub balanced : {a : Acted} → Did s r a → Balanced a
   unfolding ended repliedTo timesIn
@@ -152,8 +152,8 @@ module _ (s : State) (r : Reading) (g : Gives r) (x : Code) where
   balanced (alone n y q w) = omega (arith, this-more w, alone-told q)
   balanced (repeats p c f i) =
       omega (arith, waits-freed x (s .batches .places) p, told-batch x (placeMessages (placeAt (s .batches) p)) c (Rejected (numberOf f)))
-  balanced (recalls p y o n w) =
-      omega (arith, this-more n, waits-freed x (s .batches .places) p, told-batch x (placeMessages (placeAt (s .batches) p)) (bin s r) o)
+  balanced (recalls p f n w) =
+      omega (arith, this-more n, waits-freed x (s .batches .places) p, told-batch x (placeMessages (placeAt (s .batches) p)) (bin s r) (Rejected (numberOf f)))
   balanced (completes stream b k p y j d e f) = let i = begins (j .new) (j .start) in omega (arith, lives i, i .one)
   balanced (grows stream b k p y j d e) = let i = begins (j .new) (j .start) in omega (arith, lives i, i .one)
   balanced (rejects f b k p y j) =

@@ -29,3 +29,4 @@ pub mod Replying
 pub mod Awaiting
 pub mod Ending
 pub mod Once
+pub mod ReadBack

@@ -156,7 +156,7 @@ module _ (readers : Readers) (e : Engine) (c : Call) (v : Valid (e .state)) wher
     left-answered =
         omega (arith, length-append (a .replies) (settledReplies (s .day) (a .batches) (o .done)), settled-live (s .day) (a .batches) (o .done) (a .batches .places) done-once (λ p l. refl), acted-counted .answered)
 
-    room-today : e .state .day .texts + liveMessages (s .batches .places) + acted-counted .new ≤ notedToday (today s) (a .known .references)
+    pub room-today : e .state .day .texts + liveMessages (s .batches .places) + acted-counted .new ≤ notedToday (today s) (a .known .references)
     unfolding begun join
     room-today = omega (arith, h .answered, acted-counted .noted-today)
 
