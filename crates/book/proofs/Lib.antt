@@ -4,6 +4,7 @@ pub mod Accepted
 pub mod Filling
 pub mod Storing
 pub mod Sealing
+pub mod Ranging
 pub mod Writes
 pub mod Again
 pub mod Kept

@@ -2,3 +2,4 @@ pub mod Block
 pub mod Book
 pub mod Accounts
 pub mod Closing
+pub mod Range
