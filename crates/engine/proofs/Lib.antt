@@ -30,3 +30,4 @@ pub mod Awaiting
 pub mod Ending
 pub mod Once
 pub mod ReadBack
+pub mod Reading

@@ -27,7 +27,7 @@ use Rattle.engine.specs.Messages.{Acted, today}
 use Rattle.engine.specs.Ending.{afterTest, settledReplies}
 use Rattle.engine.specs.Days.{isFresh, opened, openingAnswer}
 use Rattle.engine.specs.Calls.{Call, Engine, isOpen, rightDay, judge, begun, isClose, replies, left, lastReplies, goesOn, closes, stepped, openedBy, performed, judged, call, cleared}
-use Rattle.engine.specs.Rules.{Each, RightEntry, isReference, remembered, Unlike, AllUnlike, has, Opened, ValidIn, Valid}
+use Rattle.engine.specs.Rules.{Each, RightEntry, isReference, remembered, Unlike, AllUnlike, Opened, ValidIn, Valid}
 use Rattle.engine.specs.Answered.{acted, outcome, steppedReplies, repliedTo, timesIn, notedOn, referencesOf, awaitingAt, todays, awaiting, Accounted, startsAnew, answersBy, answers, after, answeredAfter}
 use Rattle.engine.proofs.Noting.{same-sym, today-remembered}
 use Rattle.engine.proofs.Remembering.{same-code}
