@@ -241,6 +241,9 @@ calls-told readers (c ∷ cs) e l k f h =
 abbrev pub noLedger : Ledger
 noLedger = record { opening = replicate 64 0; gone = [] }
 
-pub demand-three : Readers → (cs : List Call) → Told cleared noLedger cs
+pub fresh-stands : Stands cleared noLedger
 unfolding broughtBy takenBy
-demand-three readers cs = calls-told readers cs cleared noLedger fresh-kept cleared-faithful (record { stuck = tt; money = λ k b. refl; total = refl })
+fresh-stands = record { stuck = tt; money = λ k b. refl; total = refl }
+
+pub demand-three : Readers → (cs : List Call) → Told cleared noLedger cs
+demand-three readers cs = calls-told readers cs cleared noLedger fresh-kept cleared-faithful fresh-stands

@@ -31,3 +31,4 @@ pub mod Ending
 pub mod Once
 pub mod ReadBack
 pub mod Reading
+pub mod Promises

@@ -182,12 +182,12 @@ module _ (readers : Readers) (e : Engine) (c : Call) (v : Valid (e .state)) (x :
 
 -- ---- any calls
 
-pub after-valid : (readers : Readers) (cs : List Call) (e : Engine) → Valid (e .state) → Valid (after e cs .state)
+pub after-valid : (readers : Readers) (cs : List Call) (e : Engine) → Valid (e .state) → Valid (after call e cs .state)
 unfolding after
 after-valid readers [] e v = v
 after-valid readers (c ∷ cs) e v = after-valid readers cs (call e c .engine) (call-valid readers e c v)
 
-after-owed : (readers : Readers) (cs : List Call) (e : Engine) → Valid (e .state) → (x : Code) (l : List Code) → Owed x (e .state) l → Owed x (after e cs .state) (answeredAfter e l cs)
+after-owed : (readers : Readers) (cs : List Call) (e : Engine) → Valid (e .state) → (x : Code) (l : List Code) → Owed x (e .state) l → Owed x (after call e cs .state) (answeredAfter e l cs)
 unfolding after answeredAfter
 after-owed readers [] e v x l h = h
 after-owed readers (c ∷ cs) e v x l h =
@@ -199,7 +199,7 @@ fresh-owed x = omega (arith, none-fresh x 0 2048, none-wait x)
 
 -- the engine after some calls from a fresh start, and what was answered on its last opened day
 abbrev pub then : List Call → State
-then cs = after cleared cs .state
+then cs = after call cleared cs .state
 
 abbrev pub answered : List Call → List Code
 answered cs = answeredAfter cleared [] cs

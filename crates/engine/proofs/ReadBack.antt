@@ -185,7 +185,7 @@ module _ (readers : Readers) (e : Engine) (c : Call) (v : Valid (e .state)) wher
   judged-read Done i = performed-read (c .action) (right-clock (e .state) c i) (right-day (e .state) c i)
   judged-read (Refused r) i = tt
 
-  call-read : ReadBack (e .state .day .texts) (repliesOf e c)
+  pub call-read : ReadBack (e .state .day .texts) (repliesOf e c)
   unfolding repliesOf
   call-read = judged-read (judge (e .state) c) refl
 

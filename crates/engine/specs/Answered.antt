@@ -15,7 +15,7 @@ use Rattle.engine.specs.State.{Message as Text}
 use Rattle.engine.specs.Replies.{Reply, settlement, recall}
 use Rattle.engine.specs.Messages.{Acted}
 use Rattle.engine.specs.Days.{openingAnswer}
-use Rattle.engine.specs.Calls.{Call, Engine, judge, begun, act, tested, isClose, replies, lastReplies, call}
+use Rattle.engine.specs.Calls.{Call, Engine, Result, judge, begun, act, tested, isClose, replies, lastReplies, call}
 
 -- ---- a call's replies
 
@@ -109,11 +109,12 @@ answersBy Done (ClosingBook d) e c l = l
 unfoldable pub answers : Engine → Call → List Code → List Code
 answers e c l = answersBy (judge (e .state) c) (c .action) e c l
 
--- the engine after some calls, and what was answered on its last opened day
-unfoldable pub after : Engine → List Call → Engine
-after e [] = e
-after e (c ∷ cs) = after (call e c .engine) cs
+-- an engine after some calls, f being what a call leaves
+unfoldable pub after : (Engine → Call → Result) → Engine → List Call → Engine
+after f e [] = e
+after f e (c ∷ cs) = after f (f e c .engine) cs
 
+-- what was answered on the last opened day
 unfoldable pub answeredAfter : Engine → List Code → List Call → List Code
 answeredAfter e l [] = l
 answeredAfter e l (c ∷ cs) = answeredAfter (call e c .engine) (answers e c l) cs
