@@ -32,3 +32,4 @@ pub mod Once
 pub mod ReadBack
 pub mod Reading
 pub mod Promises
+pub mod ShutOut

@@ -39,9 +39,9 @@ use Rattle.engine.proofs.Reading.{readers}
 
 -- ---- the words
 
--- of each call after any calls from a fresh start: the engine before it, the call, and what it leaves
+-- of each call after any calls from a fresh start: the engine that the rules leave before it, the call, and what f leaves after the same calls
 abbrev pub Always : (Engine → Call → Result) → (Engine → Call → Result → Type 0) → Type 0
-Always f P = (cs : List Call) (c : Call) → P (after f cleared cs) c (f (after f cleared cs) c)
+Always f P = (cs : List Call) (c : Call) → P (after call cleared cs) c (f (after f cleared cs) c)
 
 -- "nothing changed": 05 and 07, and an opening that is refused
 pub record Unchanged (e : Engine) (c : Call) (r : Result) : Type 0 where
