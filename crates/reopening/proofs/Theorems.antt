@@ -1,0 +1,133 @@
+-- Every book that is written from accounts in range is accepted, and reads back as the same accounts.
+use Prim.Native.Nat.{ℕ, zero, suc, _+_, _*_, _-_, _%_, _≤_, _<_}
+use mathlib.Core.Path.{_≡_, refl, sym, _∙_, ap}
+use mathlib.Core.Bool.{true}
+use mathlib.Core.List.{List, [], _∷_, _++_, append-nil}
+use native.Mathlib.Omega.{arith}
+use lib.ListN.{length, take, drop, length-append}
+use borrow.Author.Tests.{le-leb}
+use Rattle.put.proofs.Laws.{digits-length}
+use Rattle.put.specs.Digits.{digitsOf}
+use Rattle.dates.specs.Dates.{dateOf, sum}
+use Rattle.book.specs.declared.Answer.the-variants.{Sound}
+use Rattle.book.specs.declared.Field.the-variants.{Code, Balance}
+use Rattle.book.specs.Block.{head, entriesAt}
+use Rattle.book.specs.Book.{mostMoney, blocksIn, lengthRight, each, bankPlace, bankCount, balanceOf, totalRight, bookRules, bookCheck, streamRules, bankBlocks}
+use Rattle.book.specs.Accounts.{Stream, Bank, bankAt, dayIn, streamsIn, banksIn, fieldOf, column}
+use Rattle.book.specs.Closing.{streamBytes, bankBytes, joined, streamBlock, bankBlock, bankBlocksOf, blocksFor, bookBytes}
+use Rattle.book.specs.Range.{InRange}
+use Rattle.book.proofs.Accepted.{AllHold, hold-join, none-broken}
+use Rattle.book.proofs.Filling.{map-each}
+use Rattle.book.proofs.Leaves.{before-first}
+use Rattle.book.proofs.Storing.{stream-length, bank-length}
+use Rattle.book.proofs.Sealing.{joined-length, sealed-length}
+use Rattle.reopening.proofs.Blocks.{after}
+use Rattle.reopening.proofs.Written.{right-streams, right-banks, rising-first, streams-count, day-read, streams-read, streams-hold, Banked, banked, take-most}
+
+-- the length of a book
+stream-long : (day : ℕ) (xs : List Stream) (blocks : ℕ) → length xs ≤ 8 → length (streamBlock day xs blocks) ≡ 512
+unfolding streamBlock
+stream-long day xs blocks few =
+    sealed-length (((head 83 0 (length xs) blocks ++ digitsOf 6 (dateOf day)) ++ (0 ∷ 0 ∷ [])) ++ joined streamBytes xs)
+    (simp (length-append, digits-length, joined-length streamBytes 8 stream-length xs) (omega arith))
+
+banks-long : (blocks n k : ℕ) (bs : List Bank) → length (bankBlocksOf blocks k n bs) ≡ 512 * n
+unfolding bankBlocksOf bankBlock
+banks-long blocks zero k bs = refl
+banks-long blocks (suc n) k bs =
+    let b = take 20 bs in
+    let few = take-most 20 bs in
+    rw (
+      length-append,
+      sealed-length (head 66 k (length b) blocks ++ joined bankBytes b) (simp (joined-length bankBytes 24 bank-length b) (omega arith)),
+      banks-long blocks n (k + 1) (drop 20 bs),
+    )
+    (omega arith)
+
+module _ (day : ℕ) (xs : List Stream) (bs : List Bank) (g : InRange day xs bs) where
+  abbrev s : List ℕ
+  s = bookBytes day xs bs
+
+  abbrev blocks : ℕ
+  blocks = blocksFor (length bs)
+
+  abbrev tail : List ℕ
+  tail = bankBlocksOf blocks 1 (blocks - 1) bs
+
+  -- 2 to 5 blocks, all but the last full
+  blocks-fit : (2 ≤ blocks) × (blocks ≤ 5) × (length bs ≤ 20 * (blocks - 1)) × (20 * (blocks - 1) < length bs + 20)
+  unfolding blocksFor
+  blocks-fit = (omega (arith, g .some-banks), omega (arith, g .few-banks), omega arith, omega arith)
+
+  pub book-long : length s ≡ 512 * blocks
+  unfolding bookBytes
+  book-long = length-append (streamBlock day xs blocks) tail ∙ rw (stream-long day xs blocks (g .few-streams), banks-long blocks (blocks - 1) 1 bs) (omega (arith, blocks-fit .0))
+
+  blocks-in : blocksIn s ≡ blocks
+  blocks-in = rw book-long (omega arith)
+
+  length-holds : lengthRight s ≡ true
+  unfolding lengthRight
+  length-holds =
+      let z : length s % 512 ≡ 0 = rw book-long (omega arith) in
+      rw (z, blocks-in, le-leb 2 blocks (blocks-fit .0), le-leb blocks 5 (blocks-fit .1))
+
+  in-streams : drop 0 s ≡ streamBlock day xs blocks ++ tail
+  unfolding bookBytes
+  in-streams = refl
+
+  in-banks : drop 512 s ≡ tail ++ []
+  in-banks = after s 0 512 (streamBlock day xs blocks) tail in-streams (stream-long day xs blocks (g .few-streams)) ∙ sym (append-nil tail)
+
+  count : entriesAt s 0 ≡ length xs
+  count = streams-count s day xs blocks tail in-streams (g .few-streams)
+
+  the-banks : Banked s blocks 1 (blocks - 1) bs
+  the-banks =
+      let e : 1 + (blocks - 1) ≡ blocks = omega (arith, blocks-fit .0) in
+      banked s blocks (length xs) (g .few-streams) count (blocks - 1) 1 0 bs [] (omega arith) e in-banks
+      (g .some-banks) (blocks-fit .2) (blocks-fit .3) (omega (arith, g .few-banks))
+      (right-banks (length xs) bs (g .bank-codes) (g .flags-right) (g .balances-right) (g .limits-right))
+      (rising-first (column Code bs) (g .bank-codes) (g .banks-rise))
+      (sym (before-first s 1 (omega arith)))
+
+  banks-counted : bankCount s blocks ≡ length bs
+  unfolding bankCount
+  banks-counted =
+      let z : 1 + (blocks - 1) - 1 ≡ blocks - 1 = omega arith in
+      let l : entriesAt s (512 * (blocks - 1)) ≡ length bs - 20 * (blocks - 1 - 1) = rw z at (the-banks .last) in
+      rw l (omega (arith, blocks-fit .0, blocks-fit .3))
+
+  pub banks-back : banksIn s ≡ bs
+  unfolding banksIn
+  banks-back = rw (blocks-in, banks-counted) (the-banks .read)
+
+  pub streams-back : streamsIn s ≡ xs
+  streams-back = streams-read s day xs blocks tail in-streams (g .few-streams) (g .date) (g .some-streams) (right-streams xs (g .stream-codes) (g .administrators))
+
+  pub day-back : dayIn s ≡ day
+  day-back = day-read s day xs blocks tail in-streams (g .few-streams) (g .date)
+
+  total-holds : totalRight s (bankCount s (blocksIn s)) ≡ true
+  unfolding totalRight banksIn
+  total-holds =
+      let n = bankCount s (blocksIn s) in
+      let same : each (balanceOf s) 0 n ≡ column Balance bs = sym (map-each (fieldOf Balance) (λ (i : ℕ). bankAt s (bankPlace i)) 0 n) ∙ ap (column Balance) banks-back in
+      rw same (le-leb (sum (column Balance bs)) mostMoney (g .total))
+
+  all-hold : AllHold (bookRules s)
+  unfolding bookRules
+  all-hold =
+      let streams : AllHold (streamRules s (blocksIn s)) =
+      rw blocks-in (streams-hold s day xs blocks tail in-streams (g .few-streams) (g .date) (g .some-streams) (right-streams xs (g .stream-codes) (g .administrators)) (g .streams-rise)) in
+      let banks : AllHold (bankBlocks s (blocksIn s) 1 (blocksIn s - 1)) = rw blocks-in (the-banks .rules) in
+      (length-holds, hold-join (streamRules s (blocksIn s)) _ streams (hold-join (bankBlocks s (blocksIn s) 1 (blocksIn s - 1)) _ banks (total-holds, tt)))
+
+  -- every book that is written from accounts in range is accepted
+  pub written-accepted : bookCheck s ≡ Sound
+  unfolding bookCheck
+  written-accepted = none-broken (bookRules s) all-hold
+
+  -- and reads back as the same accounts
+  pub written-reads-back : (dayIn s ≡ day) × (streamsIn s ≡ xs) × (banksIn s ≡ bs)
+  written-reads-back = (day-back, streams-back, banks-back)

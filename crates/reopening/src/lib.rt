@@ -1,0 +1,1 @@
+// Every book that is written is accepted and reads back: proofs alone.
