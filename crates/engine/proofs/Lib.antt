@@ -33,3 +33,4 @@ pub mod ReadBack
 pub mod Reading
 pub mod Promises
 pub mod ShutOut
+pub mod ClosingBook

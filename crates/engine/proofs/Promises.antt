@@ -33,6 +33,7 @@ use Rattle.engine.proofs.Output.{call-out}
 use Rattle.engine.proofs.Tries.{call-tries}
 use Rattle.engine.proofs.Replying.{outOf, out-is}
 use Rattle.engine.proofs.ReadBack.{ReadBack, call-read}
+use Rattle.engine.proofs.ClosingBook.{Closes, call-closes}
 use Rattle.engine.proofs.Once.{then, answered, after-valid}
 use Rattle.engine.proofs.Once as once
 use Rattle.engine.proofs.Reading.{readers}
@@ -383,3 +384,8 @@ strangers-leave-all cs c sender h = a-stranger-is-a-tick (at cs) c sender h
 
 pub total-stays : (cs : List Call) → sum (at cs .state .books .balances) ≡ sum (ledgerAfter call cleared noLedger cs .opening)
 total-stays cs = stands cs .total
+
+-- ---- the closing book is accepted, carries the date given, and is the day's accounts again
+
+pub closing-book-reads-back : Always call Closes
+closing-book-reads-back cs c = call-closes (at cs) c (valid cs)

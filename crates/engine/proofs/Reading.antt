@@ -109,7 +109,7 @@ each-of : {A : Type 0} (P Q : A → Type 0) → ((x : A) → P x → Q x) → (l
 each-of P Q f [] h = tt
 each-of P Q f (x ∷ l) h = (f x (h .0), each-of P Q f l (h .1))
 
-all-same : (is : ℕ → Bool) (l : List ℕ) → allAre is l ≡ allOf is l
+pub all-same : (is : ℕ → Bool) (l : List ℕ) → allAre is l ≡ allOf is l
 all-same is [] = refl
 all-same is (x ∷ l) = rw (all-same is l)
 
@@ -121,21 +121,21 @@ rising-same [] h = tt
 rising-same (x ∷ []) h = tt
 rising-same (x ∷ y ∷ l) h = (h .0, rising-same (y ∷ l) (h .1))
 
-codes-same : (l : List Stream) → codesOf l ≡ streamCodes l
+pub codes-same : (l : List Stream) → codesOf l ≡ streamCodes l
 codes-same [] = refl
 codes-same (x ∷ l) = ap (λ (c : List ℕ). x .code ∷ c) (codes-same l)
 
-sum-same : (l : List ℕ) → sum l ≡ total l
+pub sum-same : (l : List ℕ) → sum l ≡ total l
 sum-same [] = refl
 sum-same (x ∷ l) = ap (λ (n : ℕ). x + n) (sum-same l)
 
 -- ---- a column of 64: the banks' values, and zeros past them
 
-column-long : (f : Field) (bs : List Bank) → length (column f bs) ≡ length bs
+pub column-long : (f : Field) (bs : List Bank) → length (column f bs) ≡ length bs
 column-long f [] = refl
 column-long f (b ∷ bs) = ap suc (column-long f bs)
 
-drop-zeros : (n k : ℕ) → Each {A = ℕ} (λ x. x ≡ 0) (drop k (replicate n 0))
+pub drop-zeros : (n k : ℕ) → Each {A = ℕ} (λ x. x ≡ 0) (drop k (replicate n 0))
 drop-zeros zero zero = tt
 drop-zeros zero (suc k) = tt
 drop-zeros (suc n) zero = (refl, drop-zeros n zero)
@@ -149,7 +149,7 @@ sum-zeros : (l : List ℕ) → Each (λ x. x ≡ 0) l → sum l ≡ 0
 sum-zeros [] h = refl
 sum-zeros (x ∷ l) h = omega (arith, h .0, sum-zeros l (h .1))
 
-sum-append : (a b : List ℕ) → sum (a ++ b) ≡ sum a + sum b
+pub sum-append : (a b : List ℕ) → sum (a ++ b) ≡ sum a + sum b
 sum-append [] b = omega arith
 sum-append (x ∷ a) b = omega (arith, sum-append a b)
 
@@ -164,7 +164,7 @@ module _ (f : Field) (bs : List Bank) (few : length bs ≤ 64) where
   abbrev zeros : List ℕ
   zeros = drop (0 + length col) (replicate 64 0)
 
-  column-is : columnOf f bs ≡ col ++ zeros
+  pub column-is : columnOf f bs ≡ col ++ zeros
   column-is = sets-eq col (replicate 64 0) 0 (omega (arith, column-long f bs))
 
   column-first : take (length bs) (columnOf f bs) ≡ col

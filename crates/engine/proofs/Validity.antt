@@ -72,7 +72,7 @@ open-in s Fresh v h = absurd (false≢true h)
 open-in s Open v h = v
 open-in s Closed v h = absurd (false≢true h)
 
-closed-in : (s : State) (p : Phase) → ValidIn p s → isClosed p ≡ true → Opened s × Idle s
+pub closed-in : (s : State) (p : Phase) → ValidIn p s → isClosed p ≡ true → Opened s × Idle s
 closed-in s Fresh v h = absurd (false≢true h)
 closed-in s Open v h = absurd (false≢true h)
 closed-in s Closed v h = v
