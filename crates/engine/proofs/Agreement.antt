@@ -1,48 +1,33 @@
 -- "Two queue tests, plain and quick. From a fresh start, over any sequence of calls, both give the same answers, response bytes, balances and
 -- waiting batches in the same order; only their lists of tries may differ."
-use Prim.Native.Nat.{ℕ, suc, _+_}
+use Prim.Native.Nat.{ℕ, suc}
 use mathlib.Core.Path.{_≡_, refl, sym, ap, _∙_}
 use mathlib.Core.Bool.{Bool, true, false, _&&_, cond, not}
-use mathlib.Core.List.{List, [], _∷_, _++_}
+use mathlib.Core.List.{List, [], _∷_}
 use native.Mathlib.Omega.{arith}
-use lib.ListN.{length, getD, set}
-use lib.Dec.{leb, eqb}
+use lib.ListN.{getD, set}
+use lib.Dec.{leb}
 use Rattle.chars.specs.declared.Refusal.{Refusal}
 use Rattle.settle.specs.Settlement.{Accounts}
 use Rattle.queue.specs.Promise.{True}
-use Rattle.queue.specs.Tests.{Outcome, Seen, seen, test, fuel}
+use Rattle.queue.specs.Tests.{Outcome, Seen, seen, fuel}
 use Rattle.queue.specs.Day.{forgotten}
-use Rattle.queue.proofs.MemoryLaws.{byBool}
 use Rattle.queue.proofs.Agree.{tests-agree, true-test}
 use Rattle.queue.proofs.Promises.{fresh-none}
 use Rattle.settle.specs.Payments.{Payment}
 use Rattle.chars.specs.declared.Refusal.the-variants.{WrongMoment, ShortBuffer}
-use Rattle.engine.specs.declared.Phase.{Phase}
-use Rattle.engine.specs.declared.Phase.the-variants.{Fresh, Open, Closed}
 use Rattle.engine.specs.declared.Action.{Action}
 use Rattle.engine.specs.declared.Action.the-variants.{Opening, Message, SubLimit, Status, Tick, Close, ClosingBook}
 use Rattle.engine.specs.declared.Answer.{Answer}
 use Rattle.engine.specs.declared.Answer.the-variants.{Done, Refused}
-use Rattle.engine.specs.State.{Place, free, Batches, State, fresh, noMemory, placeAt, paymentsAt, withPlace}
+use Rattle.engine.specs.State.{free, Batches, State, noMemory, paymentsAt, withPlace}
 use Rattle.engine.specs.Messages.{Acted}
 use Rattle.engine.specs.Ending.{emptied, afterTest}
 use Rattle.engine.specs.Joining.{join}
 use Rattle.engine.specs.Days.{openingAnswer, opened}
-use Rattle.engine.specs.Calls.{Call, Engine, Result, isOpen, rightClock, rightDay, roomNeeded, rowsNeeded, judge, begun, act, woken, tested, isClose, replies, left, lastReplies, goesOn, closes, refused, stepped, openedBy, bookGiven, performed, judged, call, cleared, run}
-use Rattle.engine.proofs.Moved.{Beside, set-beside, moved, true-beside, true-moved}
-
--- what a caller sees of a call but for its tries
-pub record View : Type 0 where
-  pub answer : Answer
-  pub out : List ℕ
-  pub state : State
-
-abbrev pub view : Result → View
-view r = record { answer = r .answer; out = r .out; state = r .engine .state }
-
--- the same call with a test of one's choice
-abbrev pub by : Bool → Call → Call
-by q c = record { quick = q; clock = c .clock; action = c .action; input = c .input; room = c .room; rows = c .rows }
+use Rattle.engine.specs.Calls.{Call, Engine, isOpen, rightClock, rightDay, roomNeeded, rowsNeeded, judge, begun, act, woken, tested, isClose, replies, left, lastReplies, goesOn, closes, stepped, openedBy, performed, judged, call, cleared, run}
+use Rattle.engine.specs.Promises.{View, by, chosen, view, views}
+use Rattle.engine.proofs.Moved.{set-beside, moved, true-beside, true-moved}
 
 -- a memory that is true of the batches, and empty outside an open day
 pub record Faithful (e : Engine) : Type 0 where
@@ -215,15 +200,6 @@ pub cleared-faithful : Faithful cleared
 cleared-faithful = record { true = zeros-true _ _ noMemory fresh-none; idle = λ g. fresh-none }
 
 -- ---- over any sequence of calls
-
-unfoldable pub views : List Result → List View
-views [] = []
-views (r ∷ rs) = view r ∷ views rs
-
--- the calls, each with the test that `quick` chooses for it
-unfoldable pub chosen : (ℕ → Bool) → List Call → List Call
-chosen quick [] = []
-chosen quick (c ∷ cs) = by (quick 0) c ∷ chosen (λ i. quick (suc i)) cs
 
 runs-alike : (cs : List Call) (x y : ℕ → Bool) (e f : Engine) → e .state ≡ f .state → Faithful e → Faithful f
     → views (run e (chosen x cs)) ≡ views (run f (chosen y cs))

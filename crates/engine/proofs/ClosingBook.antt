@@ -19,7 +19,6 @@ use Rattle.closing.specs.Closing.{bankOf, bookBytes}
 use Rattle.book.specs.Accounts.{Stream, Bank, fieldOf, column, dayIn, streamsIn, banksIn}
 use Rattle.book.specs.Range.{InRange}
 use Rattle.book.specs.Range.{Each as EachOf, isShort as isFour, Rising as RisingOf}
-use Rattle.book.specs.declared.Answer.the-variants.{Sound}
 use Rattle.book.specs.declared.Field.{Field}
 use Rattle.book.specs.declared.Field.the-variants.{Code, Flags, Balance, Limit}
 use Rattle.book.proofs.Filling.{map-each}
@@ -33,8 +32,9 @@ use Rattle.engine.specs.declared.Answer.{Answer}
 use Rattle.engine.specs.declared.Answer.the-variants.{Done, Refused}
 use Rattle.engine.specs.State.{Day, House, State}
 use Rattle.engine.specs.Days.{columnOf, opened, onDate, rightDate, banksOf, closingText}
-use Rattle.engine.specs.Calls.{Call, Engine, Result, isClosed, rightDay, judge, performed, judged, call}
+use Rattle.engine.specs.Calls.{Call, Engine, isClosed, rightDay, judge, performed, judged, call}
 use Rattle.engine.specs.Rules.{Each, isShort, Rising, streamCodes, RightHouse, Opened, Valid}
+use Rattle.engine.specs.Promises.{Closes, Tells}
 use Rattle.engine.proofs.Truth.{and-true}
 use Rattle.engine.proofs.Agreement.{right-day}
 use Rattle.engine.proofs.Refusals.{not-done}
@@ -167,17 +167,6 @@ module _ (h : House) (a : Accounts) (g : RightHouse h (a .balances) (a .limits))
 
 -- ---- the closing book
 
--- what a book tells of the engine's tables
-pub record Tells (s : State) (date : ℕ) (out : List ℕ) : Type 0 where
-  pub accepted : bookCheck out ≡ Sound
-  -- "A closing book carries the date given"
-  pub dated : dayOf date ≡ Number (dayIn out)
-  pub streams : streamsIn out ≡ s .house .streams
-  pub banks : banksIn out ≡ banksOf (s .house) (s .books)
-  -- a day that is opened with it begins with the same house and accounts
-  pub house : (t : State) (clock : ℕ) → opened t clock out .house ≡ s .house
-  pub books : (t : State) (clock : ℕ) → opened t clock out .books ≡ s .books
-
 module _ (s : State) (v : Opened s) (date k : ℕ) (is : dayOf date ≡ Number k) where
   abbrev out : List ℕ
   out = closingText s date
@@ -221,10 +210,6 @@ record True (d : Date) : Type 0 where
 true-date : (x : Day) (d : Date) → rightDate x d ≡ true → True d
 true-date x (Number k) h = record { day = k; is = refl }
 true-date x Untrue h = absurd (false≢true h)
-
--- of a call that gives one
-abbrev pub Closes : Engine → Call → Result → Type 0
-Closes e c r = (date : ℕ) → c .action ≡ ClosingBook date → r .answer ≡ Done → Tells (e .state) date (r .out)
 
 module _ (e : Engine) (c : Call) (v : Valid (e .state)) where
   judged-closes : (j : Answer) → judge (e .state) c ≡ j → Closes e c (judged j e c)

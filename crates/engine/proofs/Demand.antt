@@ -6,7 +6,7 @@ use mathlib.Core.Path.{_≡_, refl, sym, ap, _∙_}
 use mathlib.Core.Bool.{Bool, true, false, cond}
 use mathlib.Core.List.{List, [], _∷_, _++_, map}
 use native.Mathlib.Omega.{arith}
-use lib.ListN.{getD, replicate}
+use lib.ListN.{getD}
 use borrow.Author.Tests.{not-true}
 use Rattle.request.specs.declared.Reading.{Reading}
 use Rattle.request.specs.Request.{requestAt}
@@ -28,6 +28,7 @@ use Rattle.engine.specs.Ending.{afterTest}
 use Rattle.engine.specs.Days.{opened, openingAnswer}
 use Rattle.engine.specs.Calls.{Call, Engine, isOpen, rightDay, judge, begun, tested, isClose, left, goesOn, closes, stepped, openedBy, performed, judged, call, cleared}
 use Rattle.engine.specs.Answered.{acted, outcome}
+use Rattle.engine.specs.Promises.{Ledger, noLedger}
 use Rattle.engine.proofs.Agreement.{Faithful, true-acted, right-day, call-faithful, cleared-faithful}
 use Rattle.engine.proofs.Counting.{times-once, off-none}
 use Rattle.engine.proofs.Standing.{at-most-once, emptied-off}
@@ -47,11 +48,6 @@ settledBy Done (Status k b l) e c = map (paymentsAt (acted e c .batches)) (outco
 settledBy Done Tick e c = map (paymentsAt (acted e c .batches)) (outcome e c .done)
 settledBy Done Close e c = map (paymentsAt (acted e c .batches)) (outcome e c .done)
 settledBy Done (ClosingBook d) e c = []
-
--- the day's opening balances, and the batches settled since: an opening begins both anew
-pub record Ledger : Type 0 where
-  pub opening : List ℕ
-  pub gone : List (List Payment)
 
 abbrev pub anew : Answer → Engine → Call → Ledger → Ledger
 anew Done e c l = record { opening = opened (e .state) (c .clock) (c .input) .books .balances; gone = [] }
@@ -236,10 +232,6 @@ calls-told readers [] e l k f h = tt
 calls-told readers (c ∷ cs) e l k f h =
     let i = call-stands readers e c k f l h in
     (i .0, i .1, calls-told readers cs (call e c .engine) (ledger e c l) (call-kept readers e c k) (call-faithful e c f) (i .1))
-
--- the ledger of a fresh start
-abbrev pub noLedger : Ledger
-noLedger = record { opening = replicate 64 0; gone = [] }
 
 pub fresh-stands : Stands cleared noLedger
 unfolding broughtBy takenBy

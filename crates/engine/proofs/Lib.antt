@@ -1,4 +1,3 @@
-pub mod Trial
 pub mod Stories
 pub mod Moved
 pub mod Agreement
@@ -34,3 +33,4 @@ pub mod Reading
 pub mod Promises
 pub mod ShutOut
 pub mod ClosingBook
+pub mod Omitting

@@ -1,8 +1,8 @@
 -- What an action may move: nothing, one batch place, or one sub-limit; and what it moves, it wakes.
 use Prim.Native.Nat.{ℕ}
-use mathlib.Core.Path.{_≡_, refl, sym, ap, _∙_}
+use mathlib.Core.Path.{_≡_, refl, _∙_}
 use mathlib.Core.Bool.{Bool, true, false, _&&_, cond}
-use mathlib.Core.List.{List, [], _∷_, map}
+use mathlib.Core.List.{List, [], _∷_}
 use lib.Dec.{eqb, leb}
 use lib.ListN.{getD, set}
 use lib.Seq.{getD-set-other}
@@ -17,16 +17,15 @@ use Rattle.request.specs.declared.Outcome.the-variants.{Settlement, Recall, Ref
 use Rattle.request.specs.declared.Reading.{Reading}
 use Rattle.settle.specs.Settlement.{Accounts}
 use Rattle.queue.specs.Promise.{True, limited}
-use Rattle.queue.specs.Memory.{wake}
 use Rattle.queue.proofs.MemoryLaws.{byBool}
 use Rattle.queue.proofs.Agree.{forgets, true-limit}
 use Rattle.engine.specs.declared.Action.{Action}
 use Rattle.engine.specs.declared.Action.the-variants.{Opening, Message, SubLimit, Status, Tick, Close, ClosingBook}
 use Rattle.engine.specs.declared.Answer.{Answer}
 use Rattle.engine.specs.declared.Answer.the-variants.{Done, Refused}
-use Rattle.engine.specs.State.{Found, at, nowhere, onFound, seek, isFree, Batch, Place, free, live, onLive, Batches, Known, State, placeAt, paymentsAt, placePayments, withPlace}
+use Rattle.engine.specs.State.{Found, at, nowhere, onFound, seek, isFree, Batch, Place, free, live, onLive, Batches, Known, State, placeAt, paymentsAt, withPlace}
 use Rattle.engine.specs.Memory.{isUsed}
-use Rattle.engine.specs.Messages.{today, reference, bin, streamCode, isKnown, firstBatch, withBin, assembling, waiting, referenceFits, binFits, noted, streamPlace, administrator, bankPlace, Acted, Waking, bank, place, untouched, ended, toTail, mayQueue, isComplete, isEven, completed, firstBroken, messageRules, admitted, admit, withMessage, settling, recalling, housed, repeated, sent, received, message}
+use Rattle.engine.specs.Messages.{today, reference, bin, streamCode, isKnown, firstBatch, withBin, assembling, waiting, referenceFits, binFits, noted, streamPlace, administrator, bankPlace, Acted, bank, place, untouched, ended, isComplete, isEven, completed, firstBroken, messageRules, admitted, admit, withMessage, settling, recalling, housed, repeated, sent, received, message}
 use Rattle.engine.specs.Changes.{subLimit, hasDebit, withLetter, status}
 use Rattle.engine.specs.Calls.{act, woken}
 

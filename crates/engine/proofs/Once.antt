@@ -29,6 +29,7 @@ use Rattle.engine.specs.Days.{isFresh, opened, openingAnswer}
 use Rattle.engine.specs.Calls.{Call, Engine, isOpen, rightDay, judge, begun, isClose, replies, left, lastReplies, goesOn, closes, stepped, openedBy, performed, judged, call, cleared}
 use Rattle.engine.specs.Rules.{Each, RightEntry, isReference, remembered, Unlike, AllUnlike, Opened, ValidIn, Valid}
 use Rattle.engine.specs.Answered.{acted, outcome, steppedReplies, repliedTo, timesIn, notedOn, referencesOf, awaitingAt, todays, awaiting, Accounted, startsAnew, answersBy, answers, after, answeredAfter}
+use Rattle.engine.specs.Promises.{answered, then}
 use Rattle.engine.proofs.Noting.{same-sym, today-remembered}
 use Rattle.engine.proofs.Remembering.{same-code}
 use Rattle.engine.proofs.Doing.{did}
@@ -196,13 +197,6 @@ after-owed readers (c ∷ cs) e v x l h =
 fresh-owed : (x : Code) → Owed x (cleared .state) []
 unfolding timesIn
 fresh-owed x = omega (arith, none-fresh x 0 2048, none-wait x)
-
--- the engine after some calls from a fresh start, and what was answered on its last opened day
-abbrev pub then : List Call → State
-then cs = after call cleared cs .state
-
-abbrev pub answered : List Call → List Code
-answered cs = answeredAfter cleared [] cs
 
 pub accounted : Readers → (cs : List Call) → Accounted (then cs) (answered cs)
 accounted readers cs = record {

@@ -2,16 +2,15 @@
 -- against any engine; `call` keeps them all.
 use Prim.Native.Nat.{ℕ, _+_, _≤_, _<_}
 use mathlib.Core.Path.{_≡_, refl, sym, ap, subst, _∙_}
-use mathlib.Core.Bool.{Bool, true, false, _&&_, cond}
+use mathlib.Core.Bool.{Bool, true, false, cond}
 use mathlib.Core.List.{List, [], _∷_, _++_, map, append-nil}
-use lib.ListN.{length, getD}
 use Rattle.chars.specs.declared.Refusal.{Refusal}
 use Rattle.codes.specs.declared.Code.{Code}
 use Rattle.request.specs.Request.{requestAt}
 use Rattle.settle.specs.Payments.{Payment}
 use Rattle.settle.specs.Rules.{sum}
 use Rattle.queue.specs.Tests.{Outcome, passedOf}
-use Rattle.queue.specs.Promise.{Trail, Stuck, broughtBy, takenBy}
+use Rattle.queue.specs.Promise.{Trail}
 use Rattle.queue.proofs.Promises.{settled-are-passes}
 use Rattle.engine.specs.declared.Phase.the-variants.{Closed}
 use Rattle.engine.specs.declared.Action.{Action}
@@ -21,124 +20,25 @@ use Rattle.engine.specs.declared.Answer.the-variants.{Done, Refused}
 use Rattle.engine.specs.State.{State, paymentsAt}
 use Rattle.engine.specs.Messages.{Acted}
 use Rattle.engine.specs.Days.{openingAnswer}
-use Rattle.engine.specs.Calls.{Call, Engine, Result, isOpening, roomNeeded, rowsNeeded, judge, begun, tested, woken, isClose, goesOn, closes, refused, stepped, openedBy, performed, judged, call, cleared, run}
+use Rattle.engine.specs.Calls.{Call, Engine, Result, judge, begun, tested, woken, isClose, goesOn, closes, refused, stepped, openedBy, performed, judged, call, cleared, run}
 use Rattle.engine.specs.Rules.{Valid}
-use Rattle.engine.specs.Answered.{acted, outcome, repliesOf, timesIn, todays, awaiting, Accounted, after}
-use Rattle.engine.proofs.Agreement.{View, view, views, chosen, Faithful, call-faithful, cleared-faithful, tests-agree-all-days}
+use Rattle.engine.specs.Answered.{acted, outcome, timesIn, todays, awaiting, Accounted, after}
+use Rattle.engine.specs.Promises.{Agree, Alike, Always, BalancesFollow, Closes, Covered, CoveredBy, Enough, Ledger, NonePasses, Numbered, OmittedByRule, Stranger, Tried, Unchanged, View, Written, answered, asking, chosen, history, ledgerAfter, ledgerIn, noLedger, numberedBy, then, triesBy, view, views, viewsBy}
+use Rattle.engine.proofs.Agreement.{Faithful, call-faithful, cleared-faithful, tests-agree-all-days}
 use Rattle.engine.proofs.Refusals.{refusals-change-nothing, refused-openings-change-nothing}
-use Rattle.engine.proofs.Strangers.{Stranger, asking, Alike, a-stranger-is-a-tick}
-use Rattle.engine.proofs.Demand.{Ledger, ledgerBy, ledger, noLedger, anew, Stands, PaidBy, Paid, call-stands, fresh-stands}
+use Rattle.engine.proofs.Strangers.{a-stranger-is-a-tick}
+use Rattle.engine.proofs.Demand.{ledgerBy, ledger, anew, Stands, PaidBy, Paid, call-stands, fresh-stands}
 use Rattle.engine.proofs.Validity.{valid-kept, call-valid}
 use Rattle.engine.proofs.Output.{call-out}
 use Rattle.engine.proofs.Tries.{call-tries}
-use Rattle.engine.proofs.Replying.{outOf, out-is}
-use Rattle.engine.proofs.ReadBack.{ReadBack, call-read}
-use Rattle.engine.proofs.ClosingBook.{Closes, call-closes}
-use Rattle.engine.proofs.Once.{then, answered, after-valid}
+use Rattle.engine.proofs.Replying.{out-is}
+use Rattle.engine.proofs.ReadBack.{call-read}
+use Rattle.engine.proofs.ClosingBook.{call-closes}
+use Rattle.engine.proofs.Once.{after-valid}
 use Rattle.engine.proofs.Once as once
 use Rattle.engine.proofs.Reading.{readers}
-
--- ---- the words
-
--- of each call after any calls from a fresh start: the engine that the rules leave before it, the call, and what f leaves after the same calls
-abbrev pub Always : (Engine → Call → Result) → (Engine → Call → Result → Type 0) → Type 0
-Always f P = (cs : List Call) (c : Call) → P (after call cleared cs) c (f (after f cleared cs) c)
-
--- "nothing changed": 05 and 07, and an opening that is refused
-pub record Unchanged (e : Engine) (c : Call) (r : Result) : Type 0 where
-  pub at-once : (q : Refusal) → judge (e .state) c ≡ Refused q → r ≡ refused e q
-  pub opening : (q : Refusal) → c .action ≡ Opening → r .answer ≡ Refused q → r ≡ refused e q
-
--- "Each engine call returns 0 or its own action's number."
-abbrev pub numberedBy : Answer → Action → Engine → Call → Answer
-numberedBy (Refused r) x e c = Refused r
-numberedBy Done Opening e c = openingAnswer (e .state .day) (c .input)
-numberedBy Done (Message n) e c = acted e c .answer
-numberedBy Done (SubLimit k v) e c = acted e c .answer
-numberedBy Done (Status k b l) e c = acted e c .answer
-numberedBy Done Tick e c = acted e c .answer
-numberedBy Done Close e c = acted e c .answer
-numberedBy Done (ClosingBook d) e c = Done
-
-abbrev pub Numbered : Engine → Call → Result → Type 0
-Numbered e c r = r .answer ≡ numberedBy (judge (e .state) c) (c .action) e c
-
--- the bytes are the texts of the call's replies, or the closing book; and each text reads back as the response meant
-abbrev pub Written : Engine → Call → Result → Type 0
-Written e c r = (r .out ≡ outOf e c) × ReadBack (e .state .day .texts) (repliesOf e c)
-
--- "output buffer .. 33,705 bytes (closing book: .. its own length), try row .. 528 numbers" are enough
-abbrev pub Fits : Engine → Call → Result → Type 0
-Fits e c r = (length (r .out) ≤ roomNeeded (c .action) (e .state)) × (length (r .tries) ≤ rowsNeeded)
-
--- "Both report their tries in order": those of the test that was chosen, on the batches that the action left
-abbrev pub triesBy : Answer → Action → Engine → Call → List ℕ
-triesBy (Refused r) x e c = []
-triesBy Done Opening e c = []
-triesBy Done (Message n) e c = outcome e c .tries
-triesBy Done (SubLimit k v) e c = outcome e c .tries
-triesBy Done (Status k b l) e c = outcome e c .tries
-triesBy Done Tick e c = outcome e c .tries
-triesBy Done Close e c = outcome e c .tries
-triesBy Done (ClosingBook d) e c = []
-
-abbrev pub Tried : Engine → Call → Result → Type 0
-Tried e c r = r .tries ≡ triesBy (judge (e .state) c) (c .action) e c
-
--- "after each call no queued batch would pass"
-abbrev pub NonePasses : Engine → Call → Result → Type 0
-NonePasses e c r = Stuck (paymentsAt (r .engine .state .batches)) (r .engine .state .books) (r .engine .state .batches .queue)
-
--- "every payer of a settled batch covered its own payment on the balances just before that batch": of the batches whose tries passed
-abbrev pub CoveredBy : Answer → Action → Engine → Call → Result → Type 0
-CoveredBy (Refused q) x e c r = r .engine .state .books ≡ e .state .books
-CoveredBy Done Opening e c r = Unit {0}
-CoveredBy Done (Message n) e c r = Trail (paymentsAt (acted e c .batches)) (acted e c .books) (passedOf (r .tries)) (r .engine .state .books)
-CoveredBy Done (SubLimit k v) e c r = Trail (paymentsAt (acted e c .batches)) (acted e c .books) (passedOf (r .tries)) (r .engine .state .books)
-CoveredBy Done (Status k b l) e c r = Trail (paymentsAt (acted e c .batches)) (acted e c .books) (passedOf (r .tries)) (r .engine .state .books)
-CoveredBy Done Tick e c r = Trail (paymentsAt (acted e c .batches)) (acted e c .books) (passedOf (r .tries)) (r .engine .state .books)
-CoveredBy Done Close e c r = Trail (paymentsAt (acted e c .batches)) (acted e c .books) (passedOf (r .tries)) (r .engine .state .books)
-CoveredBy Done (ClosingBook d) e c r = r .engine .state .books ≡ e .state .books
-
-abbrev pub Covered : Engine → Call → Result → Type 0
-Covered e c r = CoveredBy (judge (e .state) c) (c .action) e c r
-
--- the day's opening balances, and the batches settled since: those whose tries passed. An opening that is done begins both anew
-abbrev pub isDone : Answer → Bool
-isDone Done = true
-isDone (Refused r) = false
-
-abbrev pub ledgerIn : Action → Acted → Result → Ledger → Ledger
-ledgerIn x a r l =
-    cond (isOpening x && isDone (r .answer))
-    (record { opening = r .engine .state .books .balances; gone = [] })
-    (record { opening = l .opening; gone = l .gone ++ map (paymentsAt (a .batches)) (passedOf (r .tries)) })
-
-unfoldable pub ledgerAfter : (Engine → Call → Result) → Engine → Ledger → List Call → Ledger
-ledgerAfter f e l [] = l
-ledgerAfter f e l (c ∷ cs) = ledgerAfter f (f e c .engine) (ledgerIn (c .action) (acted e c) (f e c) l) cs
-
--- "each balance is the day's opening balance plus credits less debits of the batches settled since; the total never changes within a day"
-pub record Followed (balances : List ℕ) (l : Ledger) : Type 0 where
-  pub each : (k : ℕ) → k < 64 → getD balances k 0 + takenBy k (l .gone) ≡ getD (l .opening) k 0 + broughtBy k (l .gone)
-  pub total : sum balances ≡ sum (l .opening)
-
-abbrev pub BalancesFollow : (Engine → Call → Result) → Type 0
-BalancesFollow f = (cs : List Call) → Followed (after f cleared cs .state .books .balances) (ledgerAfter f cleared noLedger cs)
-
--- "From a fresh start, over any sequence of calls, both give the same answers, response bytes, balances and waiting batches in the same order"
-unfoldable pub viewsBy : (Engine → Call → Result) → Engine → List Call → List View
-viewsBy f e [] = []
-viewsBy f e (c ∷ cs) = view (f e c) ∷ viewsBy f (f e c .engine) cs
-
-abbrev pub SameSeen : (Engine → Call → Result) → Type 0
-SameSeen f = (cs : List Call) (x y : ℕ → Bool) → viewsBy f cleared (chosen x cs) ≡ viewsBy f cleared (chosen y cs)
-
--- "Agreement is stated over the cover rule": what both leave has settled just what is covered, and nothing that would pass is left
-pub record Agree (f : Engine → Call → Result) : Type 0 where
-  pub alike : SameSeen f
-  pub covered : Always f Covered
-  pub none-passes : Always f NonePasses
+use Rattle.engine.proofs.Keeping.{acted-stood}
+use Rattle.engine.proofs.Omitting.{omitted-by-rule, memory-is-history, queue-below}
 
 -- ---- the engine after some calls
 
@@ -327,7 +227,7 @@ tables-keep-the-rules cs c = call-valid readers (at cs) c (valid cs)
 
 -- ---- 33,705 bytes and 528 tries are enough
 
-pub room-is-enough : Always call Fits
+pub room-is-enough : Always call Enough
 room-is-enough cs c = (call-out readers (at cs) c (valid cs), call-tries readers (at cs) c (valid-kept (at cs .state) (valid cs)))
 
 -- ---- demand 2: numbers, texts, and each noted message answered exactly once
@@ -357,6 +257,12 @@ answered-once cs h r n = once.answered-once readers cs h r n
 
 pub tries-are-right : Always call Tried
 tries-are-right cs c = call-tried (at cs) c
+
+-- "A later try is omitted exactly if ..": at each turn of a quick test, over all that happened since the fresh start
+pub omission-rule : (cs : List Call) (c : Call) → OmittedByRule (at cs) c (history cleared [] cs)
+omission-rule cs c =
+    omitted-by-rule (at cs) c (history cleared [] cs) (memory-is-history cs)
+    (queue-below (begun (at cs .state) (c .clock) .house .banks) (acted (at cs) c .batches) (acted-stood readers (at cs) c (valid-kept (at cs .state) (valid cs))))
 
 pub balances-follow : BalancesFollow call
 balances-follow cs = let h = stands cs in record { each = h .money; total = h .total }

@@ -15,8 +15,6 @@ use Rattle.codes.proofs.Laws.{Bytes}
 use Rattle.scan.specs.Scan.{begins}
 use Rattle.scan.proofs.Standing.{All}
 use Rattle.reply.specs.Reply.{responseAt}
-use Rattle.reply.specs.declared.Reply.{Reply as Response}
-use Rattle.reply.specs.declared.Reply.the-variants.{Settlement, Recall}
 use Rattle.reply.proofs.Sound.{forbidden, Referred, Named}
 use Rattle.reply.proofs.Digits.{all-append, digits-codes, code-bytes}
 use Rattle.reply.proofs.RoundTrip.{settlement-reads, recall-reads}
@@ -32,6 +30,7 @@ use Rattle.engine.specs.Messages.{Acted, today}
 use Rattle.engine.specs.Calls.{Call, Engine, rightDay, judge, begun, isClose, replies, lastReplies, call, cleared}
 use Rattle.engine.specs.Rules.{Each, allAre, isWhole, isReference, isBin, notedToday, Opened, Valid}
 use Rattle.engine.specs.Answered.{acted, outcome, steppedReplies, repliesBy, repliesOf}
+use Rattle.engine.specs.Promises.{ReadBack, outOf, responseOf}
 use Rattle.engine.proofs.Truth.{and-true}
 use Rattle.engine.proofs.Remembering.{same-code}
 use Rattle.engine.proofs.Agreement.{right-day}
@@ -39,7 +38,7 @@ use Rattle.engine.proofs.Keeping.{Readers}
 use Rattle.engine.proofs.Validity.{right-clock, open-in, acted-known, left-answered, room-today, close-answered, call-valid}
 use Rattle.engine.proofs.Fitting.{Fits, long-most}
 use Rattle.engine.proofs.Output.{stepped-right}
-use Rattle.engine.proofs.Replying.{outOf, out-is}
+use Rattle.engine.proofs.Replying.{out-is}
 
 -- ---- references and BINs that a text can hold
 
@@ -103,22 +102,12 @@ named-bin b h =
 
 -- ---- one text
 
--- the response that a reply is, with its number
-abbrev pub responseOf : ℕ → Reply → Response
-responseOf n (settlement r b o) = Settlement (record { number = n; reference = r; stream = streamOf b; bin = b; outcome = o })
-responseOf n (recall r a) = Recall (record { number = n; reference = r; answer = a })
-
 text-reads : (n : ℕ) (y : Reply) → n < 10000000 → Fits y → responseAt (textOf n y) .reply ≡ responseOf n y
 unfolding textOf
 text-reads n (settlement r b o) l h =
     settlement-reads (record { number = n; reference = r; stream = streamOf b; bin = b; outcome = o })
     (record { number = l; reference = referred r (h .0); batch = named-bin b (h .1); outcome = h .2 })
 text-reads n (recall r a) l h = recall-reads (record { number = n; reference = r; answer = a }) (record { number = l; reference = referred r (h .0); answer = h .1 })
-
--- texts numbered on from n, each read back as its reply
-unfoldable pub ReadBack : ℕ → List Reply → Type 0
-ReadBack n [] = Unit {0}
-ReadBack n (y ∷ ys) = (responseAt (textOf (n + 1) y) .reply ≡ responseOf (n + 1) y) × ReadBack (n + 1) ys
 
 texts-read : (n : ℕ) (ys : List Reply) → n + length ys < 10000000 → Each (λ y. Fits y) ys → ReadBack n ys
 unfolding ReadBack

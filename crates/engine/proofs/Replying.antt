@@ -17,10 +17,11 @@ use Rattle.engine.specs.Replies.{Reply, textsFrom}
 use Rattle.engine.specs.Joining.{join}
 use Rattle.engine.specs.Messages.{Acted, today}
 use Rattle.engine.specs.Ending.{afterTest, settledReplies}
-use Rattle.engine.specs.Days.{openingAnswer, opened, closingText}
+use Rattle.engine.specs.Days.{openingAnswer, opened}
 use Rattle.engine.specs.Calls.{Call, Engine, isOpen, rightDay, judge, begun, isClose, replies, left, lastReplies, goesOn, closes, stepped, openedBy, performed, judged, call, cleared}
 use Rattle.engine.specs.Rules.{remembered, has}
 use Rattle.engine.specs.Answered.{acted, outcome, steppedReplies, repliesBy, repliesOf, replyTo}
+use Rattle.engine.specs.Promises.{outBy, outOf}
 use Rattle.engine.proofs.Agreement.{right-day}
 use Rattle.engine.proofs.Settling.{each-append}
 use Rattle.engine.proofs.Doing.{did}
@@ -32,20 +33,6 @@ use Rattle.engine.proofs.Keeping.{Readers, Kept, fresh-kept, call-kept}
 -- the references that are remembered
 abbrev pub noted : State → List Code
 noted s = remembered (s .day .date) (s .known .references)
-
--- the bytes of a call: its replies' texts, numbered on from those written today, or the closing book
-abbrev pub outBy : Answer → Action → Engine → Call → List ℕ
-outBy Done (ClosingBook d) e c = closingText (e .state) d
-outBy Done Opening e c = textsFrom (e .state .day .texts) (repliesBy Done Opening e c)
-outBy Done (Message n) e c = textsFrom (e .state .day .texts) (repliesBy Done (Message n) e c)
-outBy Done (SubLimit k v) e c = textsFrom (e .state .day .texts) (repliesBy Done (SubLimit k v) e c)
-outBy Done (Status k b l) e c = textsFrom (e .state .day .texts) (repliesBy Done (Status k b l) e c)
-outBy Done Tick e c = textsFrom (e .state .day .texts) (repliesBy Done Tick e c)
-outBy Done Close e c = textsFrom (e .state .day .texts) (repliesBy Done Close e c)
-outBy (Refused r) x e c = textsFrom (e .state .day .texts) (repliesBy (Refused r) x e c)
-
-unfoldable pub outOf : Engine → Call → List ℕ
-outOf e c = outBy (judge (e .state) c) (c .action) e c
 
 -- "Only a noted message is answered by a text", after each of some calls
 unfoldable pub OnlyNoted : Engine → List Call → Type 0

@@ -22,10 +22,8 @@ use Rattle.engine.specs.Messages.{Acted}
 use Rattle.engine.specs.Calls.{Call, Engine, Result, isClose, refused, openedBy, bookGiven, performed, judged, cleared}
 use Rattle.engine.specs.Answered.{after}
 use Rattle.engine.proofs.Refusals.{not-done}
-use Rattle.engine.proofs.Agreement.{View, view, by, chosen}
-use Rattle.engine.proofs.Demand.{noLedger}
 use Rattle.engine.proofs.Stories.{asked, bank, book, calls, timed, reply132}
-use Rattle.engine.proofs.Promises.{Always, Numbered, Written, Tried, NonePasses, BalancesFollow, SameSeen, Agree, ledgerAfter, viewsBy, numbers-are-right, texts-read-back, tries-are-right}
+use Rattle.engine.proofs.Promises.{numbers-are-right, texts-read-back, tries-are-right}
 use Rattle.chars.specs.Chars.{isDigit, isLetter, isCode, digitValue}
 use Rattle.codes.specs.Codes.{packOn, shortAt, longOf, longAt, unpacked, named, shortText, spelled, longText, before, codeBefore}
 use Rattle.checksum.specs.Sum.{wordOf, sumWords, blockSum}
@@ -61,6 +59,7 @@ use Rattle.engine.specs.Changes.{subLimit, hasDebit, relettered as engin
 use Rattle.engine.specs.Ending.{emptied, afterTest, settledReplies, closeReplies}
 use Rattle.engine.specs.Days.{opened, openingAnswer, closingText}
 use Rattle.engine.specs.Calls.{judge, begun, act, woken, tested, replies, left, lastReplies, goesOn, closes, stepped, call}
+use Rattle.engine.specs.Promises.{Agree, Always, BalancesFollow, NonePasses, Numbered, SameSeen, Tried, View, Written, by, chosen, ledgerAfter, noLedger, view, viewsBy}
 
 -- ---- the wrong engines
 

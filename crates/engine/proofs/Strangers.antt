@@ -12,17 +12,13 @@ use Rattle.request.specs.Request.{requestAt}
 use Rattle.request.specs.declared.Outcome.{Outcome as Read}
 use Rattle.request.specs.declared.Outcome.the-variants.{Settlement, Recall, Refused as Unread}
 use Rattle.request.specs.declared.Reading.{Reading}
-use Rattle.engine.specs.declared.Action.{Action}
 use Rattle.engine.specs.declared.Action.the-variants.{Message, Tick}
 use Rattle.engine.specs.declared.Answer.{Answer}
 use Rattle.engine.specs.declared.Answer.the-variants.{Done, Refused}
 use Rattle.engine.specs.State.{Found, at, nowhere, onFound, State}
 use Rattle.engine.specs.Messages.{Acted, streamCode, streamPlace, administrator, untouched, leaving, sent, received, message}
 use Rattle.engine.specs.Calls.{Call, Engine, Result, judge, begun, act, tested, replies, left, goesOn, stepped, judged, call}
-
--- "sender not that stream's administrator"
-abbrev pub Stranger : State → (sender : ℕ) → Reading → Type 0
-Stranger s sender r = (i : ℕ) → streamPlace (s .house) (streamCode s r) ≡ at i → sender ≡ administrator (s .house) i → ⊥
+use Rattle.engine.specs.Promises.{Alike, Stranger, asking}
 
 -- an action that touches nothing
 pub record Idle (s : State) (a : Acted) : Type 0 where
@@ -52,16 +48,6 @@ module _ (s : State) (sender : ℕ) (r : Reading) (h : Stranger s sender r) wher
   pub strangers-touch-nothing : Idle s (message s sender r)
   unfolding message
   strangers-touch-nothing = received-idle (r .outcome)
-
--- the same call with another action
-abbrev pub asking : Action → Call → Call
-asking a c = record { quick = c .quick; clock = c .clock; action = a; input = c .input; room = c .room; rows = c .rows }
-
--- results that differ in their answers at most
-pub record Alike (x y : Result) : Type 0 where
-  pub out : x .out ≡ y .out
-  pub tries : x .tries ≡ y .tries
-  pub engine : x .engine ≡ y .engine
 
 module _ (e : Engine) (c : Call) (sender : ℕ) where
   abbrev s : State

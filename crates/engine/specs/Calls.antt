@@ -1,15 +1,13 @@
 -- One call, step by step; and any number of calls from a fresh start.
-use Prim.Native.Nat.{ℕ, _+_, _*_}
+use Prim.Native.Nat.{ℕ, _+_}
 use mathlib.Core.Bool.{Bool, true, false, _&&_, _||_, not, cond}
 use mathlib.Core.List.{List, [], _∷_, _++_, map}
 use lib.Dec.{eqb, leb, ltb}
 use lib.ListN.{length, set}
 use Rattle.chars.specs.declared.Refusal.{Refusal}
 use Rattle.chars.specs.declared.Refusal.the-variants.{WrongMoment, ShortBuffer}
-use Rattle.codes.specs.declared.Code.{Code}
 use Rattle.dates.specs.Dates.{dayOf}
 use Rattle.request.specs.Request.{requestAt}
-use Rattle.settle.specs.Settlement.{Accounts}
 use Rattle.queue.specs.Memory.{wake}
 use Rattle.queue.specs.Tests.{Outcome, test, fuel}
 use Rattle.queue.specs.Day.{forgotten}

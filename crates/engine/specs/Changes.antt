@@ -1,6 +1,6 @@
 -- Sub-limit changes and status changes.
 use Prim.Native.Nat.{ℕ}
-use mathlib.Core.Bool.{Bool, true, false, _||_, cond}
+use mathlib.Core.Bool.{Bool, false, _||_, cond}
 use mathlib.Core.List.{List, [], _∷_}
 use lib.Dec.{eqb, leb}
 use Rattle.chars.specs.Words.{bytes, member}
@@ -10,8 +10,8 @@ use Rattle.settle.specs.Payments.{Payment, credit, debit}
 use Rattle.queue.specs.Promise.{limited}
 use Rattle.queue.specs.Day.{relabel}
 use Rattle.engine.specs.declared.Answer.the-variants.{Done}
-use Rattle.engine.specs.State.{onFound, Message, Batch, Place, free, live, State, placeAt, paymentsAt, withPlace}
-use Rattle.engine.specs.Messages.{Acted, Waking, bank, place, untouched, leaving, bankPlace, waiting}
+use Rattle.engine.specs.State.{onFound, Message, Place, free, live, State, placeAt, paymentsAt, withPlace}
+use Rattle.engine.specs.Messages.{Acted, bank, place, untouched, leaving, bankPlace, waiting}
 
 -- "A sub-limit change for an unknown bank gives 76, then 14."
 unfoldable pub subLimit : State → (code cents : ℕ) → Acted

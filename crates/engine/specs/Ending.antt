@@ -6,9 +6,8 @@ use lib.ListN.{set}
 use Rattle.chars.specs.Refusals.{numberOf}
 use Rattle.chars.specs.declared.Refusal.the-variants.{Unsettled}
 use Rattle.dates.specs.Dates.{isRemembered}
-use Rattle.response.specs.declared.Outcome.{Outcome}
 use Rattle.response.specs.declared.Outcome.the-variants.{Settled, Rejected}
-use Rattle.engine.specs.State.{onFound, Place, free, live, Batches, Entry, Day, placeAt, placeMessages, placeBin, batchOf}
+use Rattle.engine.specs.State.{onFound, Place, free, Batches, Entry, Day, placeAt, placeMessages, placeBin, batchOf}
 use Rattle.engine.specs.Replies.{Reply, repliesTo}
 
 -- the places of settled batches are zeroed

@@ -10,3 +10,4 @@ pub mod Days
 pub mod Calls
 pub mod Rules
 pub mod Answered
+pub mod Promises

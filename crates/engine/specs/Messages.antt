@@ -1,8 +1,8 @@
 -- "A message's action, first failure decides".
-use Prim.Native.Nat.{ℕ, zero, suc, _+_, _*_, _/_, _%_, _^_}
+use Prim.Native.Nat.{ℕ, _+_, _/_, _%_, _^_}
 use mathlib.Core.Bool.{Bool, true, false, _&&_, _||_, not, cond}
 use mathlib.Core.List.{List, [], _∷_, _++_}
-use lib.Dec.{eqb, leb, ltb}
+use lib.Dec.{eqb, leb}
 use lib.ListN.{length, getD, take, set}
 use Rattle.chars.specs.Words.{member}
 use Rattle.chars.specs.Refusals.{numberOf}
@@ -24,7 +24,7 @@ use Rattle.response.specs.declared.Outcome.the-variants.{Rejected}
 use Rattle.response.specs.declared.Answer.the-variants.{Recalled, Kept}
 use Rattle.engine.specs.declared.Answer.{Answer}
 use Rattle.engine.specs.declared.Answer.the-variants.{Done, Refused}
-use Rattle.engine.specs.State.{Found, at, nowhere, onFound, seek, Day, House, Message, Batch, Place, free, live, Batches, Known, State, isFree, onLive, placeAt, placeMessages, placeBin, paymentsAt, paymentsOf, withPlace, batchOf}
+use Rattle.engine.specs.State.{Found, at, nowhere, onFound, seek, House, Message, Batch, free, live, Batches, Known, State, isFree, onLive, placeAt, placeMessages, paymentsOf, withPlace, batchOf}
 use Rattle.engine.specs.Memory.{isUsed, vacant, note}
 use Rattle.engine.specs.Replies.{Reply, settlement, recall, repliesTo}
 use Rattle.engine.specs.Joining.{keep}

@@ -1,6 +1,6 @@
 -- "Only a noted message is answered by a text, once". A reply is a text before it has its number.
 use Prim.Native.Nat.{ℕ, _+_, _/_}
-use mathlib.Core.List.{List, [], _∷_, _++_, map}
+use mathlib.Core.List.{List, [], _∷_, _++_}
 use Rattle.codes.specs.declared.Code.{Code}
 use Rattle.response.specs.Texts.{settlementText, recallText}
 use Rattle.response.specs.declared.Outcome.{Outcome}

@@ -1,10 +1,10 @@
 -- The table rules, each under its words. "A lent table breaks the table rules": 06.
-use Prim.Native.Nat.{ℕ, zero, suc, _+_, _*_, _/_, _%_, _^_, _≤_, _<_}
+use Prim.Native.Nat.{ℕ, suc, _+_, _/_, _^_, _≤_, _<_}
 use mathlib.Core.Path.{_≡_}
 use mathlib.Core.Logic.{_⊎_}
 use mathlib.Core.Bool.{Bool, true, false, _&&_, _||_, not, cond}
 use mathlib.Core.List.{List, [], _∷_, _++_}
-use lib.Dec.{eqb, leb, ltb}
+use lib.Dec.{eqb, ltb}
 use lib.ListN.{length, getD, take, drop}
 use Rattle.chars.specs.Words.{bytes, member}
 use Rattle.chars.specs.Chars.{isCode, isDigit}
@@ -18,10 +18,10 @@ use Rattle.terms.specs.declared.Activation.the-variants.{AtOnce, Minute}
 use Rattle.book.specs.Accounts.{Stream}
 use Rattle.settle.specs.Payments.{Payment, credit, debit, bankOf, centsOf}
 use Rattle.settle.specs.Rules.{sum, credits, debits, Distinct}
-use Rattle.queue.specs.Promise.{All, Once, Off}
+use Rattle.queue.specs.Promise.{All, Once}
 use Rattle.engine.specs.declared.Phase.{Phase}
 use Rattle.engine.specs.declared.Phase.the-variants.{Fresh, Open, Closed}
-use Rattle.engine.specs.State.{Day, House, Message, Batch, Place, free, live, Batches, Entry, Known, State, fresh, sameCode, noCode, noEntry, paymentsOf, placePayments, placeMessages, placeBin, placeAt}
+use Rattle.engine.specs.State.{House, Message, Batch, Place, free, live, Batches, Entry, Known, State, fresh, sameCode, noCode, noEntry, paymentsOf, placePayments, placeMessages, placeAt}
 use Rattle.engine.specs.Changes.{hasDebit}
 
 -- something holds of each of a list

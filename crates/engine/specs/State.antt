@@ -1,16 +1,16 @@
 -- What the engine knows between two calls.
-use Prim.Native.Nat.{ℕ, zero, suc, _+_, _*_, _/_, _%_}
-use mathlib.Core.Bool.{Bool, true, false, _&&_, _||_, not, cond}
+use Prim.Native.Nat.{ℕ, _+_}
+use mathlib.Core.Bool.{Bool, true, false, _&&_, cond}
 use mathlib.Core.List.{List, [], _∷_, _++_}
-use lib.Dec.{eqb, leb, ltb}
-use lib.ListN.{length, getD, set, replicate}
+use lib.Dec.{eqb}
+use lib.ListN.{getD, set, replicate}
 use Rattle.codes.specs.declared.Code.{Code}
 use Rattle.terms.specs.declared.Activation.{Activation}
 use Rattle.book.specs.Accounts.{Stream}
 use Rattle.settle.specs.Payments.{Payment}
 use Rattle.settle.specs.Settlement.{Accounts, accounts}
 use Rattle.engine.specs.declared.Phase.{Phase}
-use Rattle.engine.specs.declared.Phase.the-variants.{Fresh, Open, Closed}
+use Rattle.engine.specs.declared.Phase.the-variants.{Fresh}
 
 -- ---- places
 

@@ -70,7 +70,7 @@ act-replays (enter p ps) m = refl
 act-replays (end p) m = refl
 act-replays tick m = refl
 
-ended-replays : (ps : List ℕ) (m : List ℕ) → forgotten ps m ≡ history.replay (endedEvents ps) m
+pub ended-replays : (ps : List ℕ) (m : List ℕ) → forgotten ps m ≡ history.replay (endedEvents ps) m
 unfolding forgotten endedEvents history.replay history.after
 ended-replays [] m = refl
 ended-replays (p ∷ ps) m = ended-replays ps (set m p 0) ∙ sym (replay-append (endedEvents ps) (history.changed p ∷ []) m)

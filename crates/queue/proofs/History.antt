@@ -23,7 +23,7 @@ use Rattle.queue.proofs.Trail.{walk-each}
 zero≢suc : {X : Type 0} {k : ℕ} → _≡_ {A = ℕ} 0 (suc k) → X
 zero≢suc e = absurd (omega arith)
 
-replay-length : (es : List Event) (m : List ℕ) → length (replay es m) ≡ length m
+pub replay-length : (es : List Event) (m : List ℕ) → length (replay es m) ≡ length m
 unfolding replay after
 replay-length [] m = refl
 replay-length (failed p k ∷ es) m = length-set (replay es m) p (suc k) ∙ replay-length es m
