@@ -18,10 +18,11 @@ use Rattle.settle.specs.Rules.{Apart, Distinct}
 use Rattle.queue.specs.Promise.{Off, Once}
 use Rattle.queue.proofs.MemoryLaws.{byBool}
 use Rattle.queue.proofs.Trail.{All-append}
+use Rattle.book.specs.Range.{Each}
 use Rattle.engine.specs.declared.Answer.the-variants.{Done, Refused}
 use Rattle.engine.specs.State.{at, onFound, Message, Batch, State, paymentsOf}
 use Rattle.engine.specs.Messages.{Rule, firstBroken, bankPlace, lineBank, linePayment, linePayments, lines, arrived, hasNumber, lineRules, banksIn, messageRules, withMessage}
-use Rattle.engine.specs.Rules.{Each, isReference, isBin, areLetters, Priced, Lettered, numbers, RightMinute, RightMessage, RightBatch}
+use Rattle.engine.specs.Rules.{isReference, isBin, areLetters, Priced, Lettered, numbers, RightMinute, RightMessage, RightBatch}
 use Rattle.engine.proofs.Truth.{or-false}
 use Rattle.engine.proofs.Seeking.{byFound, bank-below}
 

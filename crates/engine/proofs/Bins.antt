@@ -8,8 +8,9 @@ use native.Mathlib.Omega.{arith}
 use lib.ListN.{getD, set}
 use Rattle.codes.specs.declared.Code.{Code}
 use Rattle.queue.proofs.MemoryLaws.{byBool}
+use Rattle.book.specs.Range.{Each}
 use Rattle.engine.specs.State.{sameCode, Batch, Place, free, live}
-use Rattle.engine.specs.Rules.{Each, Unlike, AllUnlike, has, liveBins}
+use Rattle.engine.specs.Rules.{Unlike, AllUnlike, has, liveBins}
 use Rattle.engine.proofs.Noting.{same-sym}
 
 -- a live batch with this BIN stands at the place

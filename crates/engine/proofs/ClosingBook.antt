@@ -1,14 +1,12 @@
 -- "A closing book carries the date given": the closing book of a closed day is accepted by the book check, and reads back as the day's streams,
 -- banks, balances and sub-limits. A day that is opened with it begins with the same house and accounts.
-use Prim.Native.Nat.{ℕ, zero, suc, _+_, _/_, _^_, _≤_, _<_}
+use Prim.Native.Nat.{ℕ, zero, suc, _+_, _≤_, _<_}
 use mathlib.Core.Path.{_≡_, refl, sym, ap, subst, _∙_}
 use mathlib.Core.Bool.{true, false≢true}
 use mathlib.Core.List.{List, [], _∷_, _++_}
 use native.Mathlib.Omega.{arith}
 use lib.ListN.{length, getD, take, drop, replicate, length-drop, take-append-drop}
 use lib.Seq.{drop-cons}
-use Rattle.chars.specs.Chars.{isCode}
-use Rattle.codes.specs.Codes.{shortText}
 use Rattle.dates.specs.Dates.{dayOf}
 use Rattle.dates.specs.Dates.{sum as total}
 use Rattle.dates.specs.declared.Day.{Day as Date}
@@ -17,8 +15,7 @@ use Rattle.dates.proofs.Laws.{day-back}
 use Rattle.book.specs.Book.{each, bookCheck}
 use Rattle.closing.specs.Closing.{bankOf, bookBytes}
 use Rattle.book.specs.Accounts.{Stream, Bank, fieldOf, column, dayIn, streamsIn, banksIn}
-use Rattle.book.specs.Range.{InRange}
-use Rattle.book.specs.Range.{Each as EachOf, isShort as isFour, Rising as RisingOf}
+use Rattle.book.specs.Range.{Each, InRange}
 use Rattle.book.specs.declared.Field.{Field}
 use Rattle.book.specs.declared.Field.the-variants.{Code, Flags, Balance, Limit}
 use Rattle.book.proofs.Filling.{map-each}
@@ -33,27 +30,13 @@ use Rattle.engine.specs.declared.Answer.the-variants.{Done, Refused}
 use Rattle.engine.specs.State.{Day, House, State}
 use Rattle.engine.specs.Days.{columnOf, opened, onDate, rightDate, banksOf, closingText}
 use Rattle.engine.specs.Calls.{Call, Engine, isClosed, rightDay, judge, performed, judged, call}
-use Rattle.engine.specs.Rules.{Each, isShort, Rising, streamCodes, RightHouse, Opened, Valid}
+use Rattle.engine.specs.Rules.{RightHouse, Opened, Valid}
 use Rattle.engine.specs.Promises.{Closes, Tells}
 use Rattle.engine.proofs.Truth.{and-true}
 use Rattle.engine.proofs.Agreement.{right-day}
 use Rattle.engine.proofs.Refusals.{not-done}
 use Rattle.engine.proofs.Validity.{closed-in}
-use Rattle.engine.proofs.Reading.{all-same, codes-same, sum-same, column-long, drop-zeros, sum-append, column-is}
-
--- ---- the rules' words, as the book has them
-
-each-to : {A : Type 0} (P Q : A → Type 0) → ((x : A) → P x → Q x) → (l : List A) → Each P l → EachOf Q l
-each-to P Q f [] h = tt
-each-to P Q f (x ∷ l) h = (f x (h .0), each-to P Q f l (h .1))
-
-four-same : (v : ℕ) → isShort v ≡ true → isFour v ≡ true
-four-same v h = rw (sym (all-same isCode (shortText v))) h
-
-rising-to : (l : List ℕ) → Rising l → RisingOf l
-rising-to [] h = tt
-rising-to (x ∷ []) h = tt
-rising-to (x ∷ y ∷ l) h = (h .0, rising-to (y ∷ l) (h .1))
+use Rattle.engine.proofs.Reading.{sum-same, column-long, drop-zeros, sum-append, column-is}
 
 -- ---- a column of 64, and the banks in it
 
@@ -149,19 +132,14 @@ module _ (h : House) (a : Accounts) (g : RightHouse h (a .balances) (a .limits))
     few-streams = g .few-streams;
     some-banks = omega (arith, banks-long);
     few-banks = omega (arith, banks-long, g .few-banks);
-    stream-codes = each-to (λ x. isShort (x .code) ≡ true) (λ x. isFour (x .code) ≡ true) (λ x e. four-same (x .code) e) (h .streams) (g .stream-codes);
-    administrators = each-to (λ x. (1 ≤ x .sender) × (x .sender ≤ 255)) (λ x. (1 ≤ x .sender) × (x .sender ≤ 255)) (λ x e. e) (h .streams) (g .administrators);
-    streams-rise = rw (codes-same (h .streams)) (rising-to (streamCodes (h .streams)) (g .streams-rise));
-    bank-codes = rw (first-of Code) (each-to (λ x. isShort x ≡ true) (λ x. isFour x ≡ true) four-same (take (h .banks) (h .codes)) (g .bank-codes));
-    banks-rise = rw (first-of Code) (rising-to (take (h .banks) (h .codes)) (g .banks-rise));
-    flags-right = rw (first-of Flags)
-        (each-to (λ x. x / 2 < 2 ^ length (h .streams)) (λ x. x / 2 < 2 ^ length (h .streams)) (λ x e. e) (take (h .banks) (h .flags)) (g .flags-right));
-    balances-right = rw (first-of Balance)
-        (each-to (λ x. x ≤ 6400000000000000) (λ x. x ≤ 6400000000000000) (λ x e. e) (take (h .banks) (a .balances))
-        (each-first (λ x. x ≤ 6400000000000000) (h .banks) (a .balances) (each-below 6400000000000000 (a .balances) (g .total))));
-    limits-right = rw (first-of Limit)
-        (each-to (λ x. x ≤ 6400000000000000) (λ x. x ≤ 6400000000000000) (λ x e. e) (take (h .banks) (a .limits))
-        (each-first (λ x. x ≤ 6400000000000000) (h .banks) (a .limits) (g .limits-right)));
+    stream-codes = g .stream-codes;
+    administrators = g .administrators;
+    streams-rise = g .streams-rise;
+    bank-codes = rw (first-of Code) (g .bank-codes);
+    banks-rise = rw (first-of Code) (g .banks-rise);
+    flags-right = rw (first-of Flags) (g .flags-right);
+    balances-right = rw (first-of Balance) (each-first (λ x. x ≤ 6400000000000000) (h .banks) (a .balances) (each-below 6400000000000000 (a .balances) (g .total)));
+    limits-right = rw (first-of Limit) (each-first (λ x. x ≤ 6400000000000000) (h .banks) (a .limits) (g .limits-right));
     total = few-cents;
   }
 

@@ -24,11 +24,12 @@ use Rattle.response.specs.declared.Answer.the-variants.{Recalled, Kept as Stays
 use Rattle.response.proofs.Laws.{settled-length, rejected-length, settlement-length, recall-length}
 use Rattle.reply.proofs.Sound.{SoundOutcome, SoundAnswer}
 use Rattle.queue.proofs.MemoryLaws.{byBool}
+use Rattle.book.specs.Range.{Each, allAre}
 use Rattle.engine.specs.State.{hasBin, Day, Message, Place, free, Batches, Entry, State, placeAt, placeMessages, placeBin, batchOf}
 use Rattle.engine.specs.Replies.{Reply, settlement, recall, streamOf, repliesTo, textOf, textsFrom}
 use Rattle.engine.specs.Messages.{Acted, arrived, withMessage, bin}
 use Rattle.engine.specs.Ending.{settledReplies, closeReplies}
-use Rattle.engine.specs.Rules.{Each, allAre, isWhole, isReference, isBin, RightMessage, liveMessages}
+use Rattle.engine.specs.Rules.{isWhole, isReference, isBin, RightMessage, liveMessages}
 use Rattle.engine.proofs.Truth.{and-true}
 use Rattle.engine.proofs.Seeking.{Answers, seek-answers, byFound}
 use Rattle.engine.proofs.Standing.{Standing, vacant, building, awaits, stands, Stood}

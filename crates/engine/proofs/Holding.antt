@@ -23,6 +23,7 @@ use Rattle.queue.proofs.Steps.{byTurn, walk-memory, test-stop, test-more}
 use Rattle.queue.proofs.Trail.{walk-each}
 use Rattle.queue.proofs.Agree.{forgets}
 use Rattle.queue.proofs.Promises.{fresh-none}
+use Rattle.book.specs.Range.{Each}
 use Rattle.engine.specs.declared.Action.{Action}
 use Rattle.engine.specs.declared.Action.the-variants.{Opening, Message, SubLimit, Status, Tick, Close, ClosingBook}
 use Rattle.engine.specs.declared.Answer.{Answer}
@@ -34,7 +35,7 @@ use Rattle.engine.specs.Changes.{hasDebit}
 use Rattle.engine.specs.Ending.{emptied, afterTest}
 use Rattle.engine.specs.Days.{openingAnswer, opened}
 use Rattle.engine.specs.Calls.{Call, Engine, judge, begun, act, woken, tested, isClose, left, goesOn, closes, stepped, openedBy, performed, judged, call, cleared, run}
-use Rattle.engine.specs.Rules.{Each, RightMemory}
+use Rattle.engine.specs.Rules.{RightMemory}
 use Rattle.engine.proofs.Truth.{or-right}
 use Rattle.engine.proofs.Moved.{Moved, still, one, sub, moved}
 use Rattle.engine.proofs.Counting.{times, times-append, times-kept, no-member, a-member, times-all}

@@ -13,6 +13,7 @@ use Rattle.book.specs.declared.Answer.{Answer as Check}
 use Rattle.book.specs.declared.Answer.the-variants.{Sound, Fault}
 use Rattle.book.specs.declared.Field.the-variants.{Code, Flags, Balance, Limit}
 use Rattle.queue.specs.Tests.{Outcome, fuel}
+use Rattle.book.specs.Range.{Each}
 use Rattle.engine.specs.declared.Action.{Action}
 use Rattle.engine.specs.declared.Action.the-variants.{Opening, Message, SubLimit, Status, Tick, Close, ClosingBook}
 use Rattle.engine.specs.declared.Answer.{Answer}
@@ -21,7 +22,7 @@ use Rattle.engine.specs.State.{State, fresh, noBatches, paymentsAt}
 use Rattle.engine.specs.Messages.{Acted}
 use Rattle.engine.specs.Days.{columnOf, opened, checked, openingAnswer}
 use Rattle.engine.specs.Calls.{Call, Engine, isOpen, rightDay, judge, begun, act, tested, isClose, left, goesOn, closes, stepped, openedBy, performed, judged, call}
-use Rattle.engine.specs.Rules.{Each, RightHouse}
+use Rattle.engine.specs.Rules.{RightHouse}
 use Rattle.engine.proofs.Agreement.{right-day}
 use Rattle.engine.proofs.Admitting.{Gives}
 use Rattle.engine.proofs.Standing.{Stood, join-stood, free-stood, test-stood}

@@ -15,9 +15,10 @@ use Rattle.settle.specs.Rules.{Apart, Distinct, credits, debits}
 use Rattle.queue.specs.Day.{relabel}
 use Rattle.queue.specs.Day.{relettered as newLetters}
 use Rattle.queue.proofs.MemoryLaws.{byBool}
+use Rattle.book.specs.Range.{Each}
 use Rattle.engine.specs.State.{Message, Batch, Place, paymentsOf}
 use Rattle.engine.specs.Changes.{relettered, withLetter}
-use Rattle.engine.specs.Rules.{Each, areLetters, Priced, Lettered, numbers, RightMessage, RightBatch, Complete}
+use Rattle.engine.specs.Rules.{areLetters, Priced, Lettered, numbers, RightMessage, RightBatch, Complete}
 use Rattle.engine.proofs.Truth.{or-right}
 use Rattle.engine.proofs.Standing.{Standing, vacant, building, awaits, stands}
 

@@ -15,7 +15,8 @@ use Rattle.engine.specs.State.{at, sameCode, noCode, noEntry, Entry, Sta
 use Rattle.engine.specs.Memory.{holds, isUsed, isVacant, vacant, note}
 use Rattle.engine.specs.Messages.{isThere}
 use Rattle.request.specs.declared.Reading.{Reading}
-use Rattle.engine.specs.Rules.{Each, RightEntry, remembered, Unlike, AllUnlike, has, notedToday}
+use Rattle.book.specs.Range.{Each}
+use Rattle.engine.specs.Rules.{RightEntry, remembered, Unlike, AllUnlike, has, notedToday}
 use Rattle.engine.specs.Answered.{timesIn, notedOn}
 use Rattle.engine.proofs.Truth.{or-right, or-false, and-true}
 use Rattle.engine.proofs.Seeking.{each-set, seek-answers, byFound}

@@ -15,6 +15,7 @@ use Rattle.request.specs.Request.{requestAt}
 use Rattle.book.specs.Accounts.{dayIn}
 use Rattle.queue.specs.Tests.{Outcome}
 use Rattle.queue.proofs.MemoryLaws.{byBool}
+use Rattle.book.specs.Range.{Each}
 use Rattle.engine.specs.declared.Phase.{Phase}
 use Rattle.engine.specs.declared.Phase.the-variants.{Fresh, Open, Closed}
 use Rattle.engine.specs.declared.Action.{Action}
@@ -27,7 +28,7 @@ use Rattle.engine.specs.Messages.{Acted, today}
 use Rattle.engine.specs.Ending.{afterTest, settledReplies}
 use Rattle.engine.specs.Days.{isFresh, opened, openingAnswer}
 use Rattle.engine.specs.Calls.{Call, Engine, isOpen, rightDay, judge, begun, isClose, replies, left, lastReplies, goesOn, closes, stepped, openedBy, performed, judged, call, cleared}
-use Rattle.engine.specs.Rules.{Each, RightEntry, isReference, remembered, Unlike, AllUnlike, Opened, ValidIn, Valid}
+use Rattle.engine.specs.Rules.{RightEntry, isReference, remembered, Unlike, AllUnlike, Opened, ValidIn, Valid}
 use Rattle.engine.specs.Answered.{acted, outcome, steppedReplies, repliedTo, timesIn, notedOn, referencesOf, awaitingAt, todays, awaiting, Accounted, startsAnew, answersBy, answers, after, answeredAfter}
 use Rattle.engine.specs.Promises.{answered, then}
 use Rattle.engine.proofs.Noting.{same-sym, today-remembered}

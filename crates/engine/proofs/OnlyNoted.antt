@@ -12,12 +12,13 @@ use Rattle.chars.specs.declared.Refusal.the-variants.{Unsettled}
 use Rattle.response.specs.declared.Outcome.{Outcome}
 use Rattle.response.specs.declared.Outcome.the-variants.{Settled, Rejected}
 use Rattle.queue.proofs.MemoryLaws.{byBool}
+use Rattle.book.specs.Range.{Each}
 use Rattle.engine.specs.State.{Day, Message, Batch, Place, free, live, Batches, Known, Entry, State, placeAt, placeMessages, placeBin, batchOf}
 use Rattle.engine.specs.Replies.{Reply, repliesTo}
 use Rattle.engine.specs.Messages.{Acted, today, reference, bin, arrived, firstBatch, noted, ended, withMessage}
 use Rattle.engine.specs.Changes.{relettered, withLetter}
 use Rattle.engine.specs.Ending.{emptied, settledReplies, closeReplies}
-use Rattle.engine.specs.Rules.{Each, remembered, has}
+use Rattle.engine.specs.Rules.{remembered, has}
 use Rattle.engine.specs.Answered.{replyTo}
 use Rattle.engine.proofs.Seeking.{byFound}
 use Rattle.engine.proofs.Settling.{each-append}

@@ -7,6 +7,7 @@ use native.Mathlib.Omega.{arith}
 use lib.ListN.{length, length-append}
 use Rattle.request.specs.Request.{requestAt}
 use Rattle.queue.specs.Tests.{Outcome}
+use Rattle.book.specs.Range.{Each}
 use Rattle.engine.specs.declared.Action.{Action}
 use Rattle.engine.specs.declared.Action.the-variants.{Opening, Message, SubLimit, Status, Tick, Close, ClosingBook}
 use Rattle.engine.specs.declared.Answer.{Answer}
@@ -16,7 +17,7 @@ use Rattle.engine.specs.Messages.{Acted}
 use Rattle.engine.specs.Ending.{settledReplies}
 use Rattle.engine.specs.Days.{openingAnswer}
 use Rattle.engine.specs.Calls.{Call, Engine, rightDay, roomNeeded, judge, begun, act, tested, isClose, replies, left, lastReplies, goesOn, closes, stepped, openedBy, performed, judged, call, cleared}
-use Rattle.engine.specs.Rules.{Each, Opened, Valid}
+use Rattle.engine.specs.Rules.{Opened, Valid}
 use Rattle.engine.proofs.Agreement.{right-day}
 use Rattle.engine.proofs.Doing.{did}
 use Rattle.engine.proofs.Settling.{each-append}

@@ -20,6 +20,7 @@ use Rattle.reply.proofs.Digits.{all-append, digits-codes, code-bytes}
 use Rattle.reply.proofs.RoundTrip.{settlement-reads, recall-reads}
 use Rattle.queue.specs.Tests.{Outcome}
 use Rattle.queue.proofs.MemoryLaws.{byBool}
+use Rattle.book.specs.Range.{Each, allAre}
 use Rattle.engine.specs.declared.Action.{Action}
 use Rattle.engine.specs.declared.Action.the-variants.{Opening, Message, SubLimit, Status, Tick, Close, ClosingBook}
 use Rattle.engine.specs.declared.Answer.{Answer}
@@ -28,7 +29,7 @@ use Rattle.engine.specs.State.{sameCode, noCode, Entry, State}
 use Rattle.engine.specs.Replies.{Reply, settlement, recall, streamOf, textOf}
 use Rattle.engine.specs.Messages.{Acted, today}
 use Rattle.engine.specs.Calls.{Call, Engine, rightDay, judge, begun, isClose, replies, lastReplies, call, cleared}
-use Rattle.engine.specs.Rules.{Each, allAre, isWhole, isReference, isBin, notedToday, Opened, Valid}
+use Rattle.engine.specs.Rules.{isWhole, isReference, isBin, notedToday, Opened, Valid}
 use Rattle.engine.specs.Answered.{acted, outcome, steppedReplies, repliesBy, repliesOf}
 use Rattle.engine.specs.Promises.{ReadBack, outOf, responseOf}
 use Rattle.engine.proofs.Truth.{and-true}

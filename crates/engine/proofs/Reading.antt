@@ -9,7 +9,7 @@ use lib.ListN.{length, getD, take, drop, replicate, length-append}
 use lib.Seq.{length-sets, sets-eq, take-append-seam}
 use borrow.Author.Tests.{eq-eqb, lt-ltb}
 use Rattle.chars.specs.Chars.{isCode, isDigit}
-use Rattle.codes.specs.Codes.{longOf, longText, shortText}
+use Rattle.codes.specs.Codes.{longOf, longText}
 use Rattle.codes.specs.declared.Code.{Code}
 use Rattle.dates.specs.Dates.{sum as total}
 use Rattle.scan.proofs.Standing.{All}
@@ -21,15 +21,15 @@ use Rattle.request.specs.declared.Reading.{Reading}
 use Rattle.grammar.proofs.Payments.{noPayment}
 use Rattle.grammar.proofs.Values.{GivenReference, GivenBin, GivenSide, GivesSettlement, InDay, settlement-gives, recall-gives}
 use Rattle.book.specs.Book.{bookCheck}
-use Rattle.book.specs.Accounts.{Stream, Bank, column, streamsIn, banksIn}
-use Rattle.book.specs.Range.{Each as EachOf, allAre as allOf, isShort as isFour, Rising as RisingOf, streamCodes as codesOf}
+use Rattle.book.specs.Accounts.{Bank, column, streamsIn, banksIn}
 use Rattle.book.specs.declared.Answer.the-variants.{Sound}
 use Rattle.book.specs.declared.Field.{Field}
 use Rattle.book.specs.declared.Field.the-variants.{Code as Codes, Flags, Balance, Limit}
 use Rattle.book.proofs.Ranging.{accepted-in-range}
 use Rattle.settle.specs.Rules.{sum}
+use Rattle.book.specs.Range.{Each, Rising, allAre, isShort}
 use Rattle.engine.specs.Days.{columnOf}
-use Rattle.engine.specs.Rules.{Each, allAre, isShort, isReference, isBin, areLetters, Rising, streamCodes, RightMinute}
+use Rattle.engine.specs.Rules.{isReference, isBin, areLetters, RightMinute}
 use Rattle.engine.proofs.Noting.{same-self}
 use Rattle.engine.proofs.Settling.{each-append}
 use Rattle.engine.proofs.Admitting.{LetterWord, TextGives, Gives}
@@ -103,27 +103,7 @@ settlement-given r g =
 texts-give : (t : List ℕ) → Gives (requestAt t)
 texts-give t = record { settlement = λ h. settlement-given (requestAt t) (settlement-gives t h); recall = λ h. reference-given (recall-gives t h .head .reference) }
 
--- ---- a book: its own words for each, four characters and rising
-
-each-of : {A : Type 0} (P Q : A → Type 0) → ((x : A) → P x → Q x) → (l : List A) → EachOf P l → Each Q l
-each-of P Q f [] h = tt
-each-of P Q f (x ∷ l) h = (f x (h .0), each-of P Q f l (h .1))
-
-pub all-same : (is : ℕ → Bool) (l : List ℕ) → allAre is l ≡ allOf is l
-all-same is [] = refl
-all-same is (x ∷ l) = rw (all-same is l)
-
-short-same : (v : ℕ) → isFour v ≡ true → isShort v ≡ true
-short-same v h = rw (all-same isCode (shortText v)) h
-
-rising-same : (l : List ℕ) → RisingOf l → Rising l
-rising-same [] h = tt
-rising-same (x ∷ []) h = tt
-rising-same (x ∷ y ∷ l) h = (h .0, rising-same (y ∷ l) (h .1))
-
-pub codes-same : (l : List Stream) → codesOf l ≡ streamCodes l
-codes-same [] = refl
-codes-same (x ∷ l) = ap (λ (c : List ℕ). x .code ∷ c) (codes-same l)
+-- ---- a book
 
 pub sum-same : (l : List ℕ) → sum l ≡ total l
 sum-same [] = refl
@@ -192,21 +172,18 @@ books-give b h =
     record {
       house = record {
         few-streams = g .few-streams;
-        stream-codes = each-of (λ x. isFour (x .code) ≡ true) (λ x. isShort (x .code) ≡ true) (λ x e. short-same (x .code) e) (streamsIn b) (g .stream-codes);
-        administrators = each-of (λ x. (1 ≤ x .sender) × (x .sender ≤ 255)) (λ x. (1 ≤ x .sender) × (x .sender ≤ 255)) (λ x e. e) (streamsIn b) (g .administrators);
-        streams-rise = rising-same (streamCodes (streamsIn b)) (subst (λ (l : List ℕ). RisingOf l) (codes-same (streamsIn b)) (g .streams-rise));
+        stream-codes = g .stream-codes;
+        administrators = g .administrators;
+        streams-rise = g .streams-rise;
         few-banks = g .few-banks;
         codes-long = column-64 Codes bs (g .few-banks);
         flags-long = column-64 Flags bs (g .few-banks);
         balances-long = column-64 Balance bs (g .few-banks);
         limits-long = column-64 Limit bs (g .few-banks);
-        bank-codes = subst (λ (l : List ℕ). Each (λ x. isShort x ≡ true) l) (sym (column-first Codes bs (g .few-banks)))
-            (each-of (λ x. isFour x ≡ true) (λ x. isShort x ≡ true) short-same (column Codes bs) (g .bank-codes));
-        banks-rise = subst (λ (l : List ℕ). Rising l) (sym (column-first Codes bs (g .few-banks))) (rising-same (column Codes bs) (g .banks-rise));
-        flags-right = subst (λ (l : List ℕ). Each (λ x. x / 2 < 2 ^ length (streamsIn b)) l) (sym (column-first Flags bs (g .few-banks)))
-            (each-of (λ x. x / 2 < 2 ^ length (streamsIn b)) (λ x. x / 2 < 2 ^ length (streamsIn b)) (λ x e. e) (column Flags bs) (g .flags-right));
-        limits-right = column-each Limit bs (g .few-banks) (λ x. x ≤ 6400000000000000) (omega arith)
-            (each-of (λ x. x ≤ 6400000000000000) (λ x. x ≤ 6400000000000000) (λ x e. e) (column Limit bs) (g .limits-right));
+        bank-codes = subst (λ (l : List ℕ). Each (λ x. isShort x ≡ true) l) (sym (column-first Codes bs (g .few-banks))) (g .bank-codes);
+        banks-rise = subst (λ (l : List ℕ). Rising l) (sym (column-first Codes bs (g .few-banks))) (g .banks-rise);
+        flags-right = subst (λ (l : List ℕ). Each (λ x. x / 2 < 2 ^ length (streamsIn b)) l) (sym (column-first Flags bs (g .few-banks))) (g .flags-right);
+        limits-right = column-each Limit bs (g .few-banks) (λ x. x ≤ 6400000000000000) (omega arith) (g .limits-right);
         total = omega (arith, column-sum Balance bs (g .few-banks), g .total);
         codes-past = column-past Codes bs (g .few-banks);
         flags-past = column-past Flags bs (g .few-banks);

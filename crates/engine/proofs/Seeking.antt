@@ -9,9 +9,9 @@ use lib.ListN.{set, length, getD, take}
 use Rattle.chars.specs.Words.{member}
 use Rattle.queue.proofs.MemoryLaws.{byBool}
 use Rattle.codes.specs.declared.Code.{Code}
+use Rattle.book.specs.Range.{Each}
 use Rattle.engine.specs.State.{Found, at, nowhere, seekFrom, seek, House, free, Batches, hasBin, batchOf}
 use Rattle.engine.specs.Messages.{bankPlace, waits, assembling, waiting}
-use Rattle.engine.specs.Rules.{Each}
 use Rattle.engine.proofs.Counting.{times, a-member}
 
 pub byFound {ℓ} : {X : Type ℓ} (f : Found) → ((p : ℕ) → f ≡ at p → X) → (f ≡ nowhere → X) → X

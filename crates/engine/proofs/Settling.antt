@@ -17,8 +17,9 @@ use Rattle.queue.proofs.MemoryLaws.{byBool}
 use Rattle.queue.proofs.Steps.{test-stop, test-more}
 use Rattle.queue.proofs.Trail.{test-trail, test-each}
 use Rattle.queue.proofs.Balances.{trail-length, trail-limits, trail-total}
+use Rattle.book.specs.Range.{Each}
 use Rattle.engine.specs.State.{House, Message, Place, Batches, placePayments, paymentsAt, paymentsOf}
-use Rattle.engine.specs.Rules.{Each, Priced, RightMessage, RightHouse}
+use Rattle.engine.specs.Rules.{Priced, RightMessage, RightHouse}
 use Rattle.engine.proofs.Seeking.{each-set}
 use Rattle.engine.proofs.Counting.{times, times-append, times-all}
 use Rattle.engine.proofs.Standing.{Standing, vacant, building, awaits, stands, Stood}

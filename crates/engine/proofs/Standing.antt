@@ -13,11 +13,12 @@ use Rattle.queue.proofs.MemoryLaws.{byBool}
 use Rattle.terms.specs.declared.Activation.{Activation}
 use Rattle.terms.specs.declared.Activation.the-variants.{AtOnce, Minute}
 use Rattle.request.specs.declared.Reading.{Reading}
+use Rattle.book.specs.Range.{Each}
 use Rattle.engine.specs.State.{Batch, Place, free, live, Batches, State, placeAt, withPlace, noBatches}
 use Rattle.engine.specs.Joining.{keep, byTime, time, isDue, join}
 use Rattle.engine.specs.Messages.{ended, toTail, mayQueue}
 use Rattle.engine.specs.Ending.{emptied, afterTest}
-use Rattle.engine.specs.Rules.{Each, RightPlace, RightBatch, RightBatches, Complete, Given, WaitsAt, Timed, Assembled}
+use Rattle.engine.specs.Rules.{RightPlace, RightBatch, RightBatches, Complete, Given, WaitsAt, Timed, Assembled}
 use Rattle.engine.proofs.Truth.{or-right}
 use Rattle.engine.proofs.Counting.{times, times-append, times-last, times-other, times-kept, times-left-out, times-parted, times-by-time, once-times, times-once, no-member, a-member, all-times, times-all, at-most}
 

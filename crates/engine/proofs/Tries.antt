@@ -6,6 +6,7 @@ use native.Mathlib.Omega.{arith}
 use lib.ListN.{length}
 use Rattle.queue.specs.Tests.{Outcome}
 use Rattle.queue.proofs.Promises.{tries-fit}
+use Rattle.book.specs.Range.{Each}
 use Rattle.engine.specs.declared.Action.{Action}
 use Rattle.engine.specs.declared.Action.the-variants.{Opening, Message, SubLimit, Status, Tick, Close, ClosingBook}
 use Rattle.engine.specs.declared.Answer.{Answer}
@@ -14,7 +15,6 @@ use Rattle.engine.specs.State.{State, paymentsAt}
 use Rattle.engine.specs.Messages.{Acted}
 use Rattle.engine.specs.Days.{openingAnswer}
 use Rattle.engine.specs.Calls.{Call, Engine, judge, begun, act, woken, tested, isClose, goesOn, closes, stepped, openedBy, performed, judged, call, cleared, run}
-use Rattle.engine.specs.Rules.{Each}
 use Rattle.engine.proofs.Standing.{few-queued}
 use Rattle.engine.proofs.Keeping.{Readers, Kept, acted-stood, fresh-kept, call-kept}
 

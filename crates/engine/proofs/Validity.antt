@@ -16,6 +16,7 @@ use Rattle.book.specs.Accounts.{dayIn, banksIn}
 use Rattle.book.specs.declared.Answer.{Answer as Check}
 use Rattle.book.specs.declared.Answer.the-variants.{Sound, Fault}
 use Rattle.queue.specs.Tests.{Outcome, fuel}
+use Rattle.book.specs.Range.{Each}
 use Rattle.engine.specs.declared.Phase.{Phase}
 use Rattle.engine.specs.declared.Phase.the-variants.{Fresh, Open, Closed}
 use Rattle.engine.specs.declared.Action.{Action}
@@ -28,7 +29,7 @@ use Rattle.engine.specs.Joining.{join}
 use Rattle.engine.specs.Ending.{afterTest, settledReplies}
 use Rattle.engine.specs.Days.{isFresh, opened, isLater, checked, openingAnswer}
 use Rattle.engine.specs.Calls.{Call, Engine, isOpen, isClosed, isOpening, roomNeeded, rowsNeeded, rightDay, judge, begun, act, woken, tested, isClose, replies, left, lastReplies, goesOn, closes, stepped, openedBy, bookGiven, performed, judged, call, cleared, run}
-use Rattle.engine.specs.Rules.{Each, RightEntry, remembered, isReference, isBin, RightKnown, Opened, Idle, ValidIn, Valid, liveMessages, notedToday}
+use Rattle.engine.specs.Rules.{RightEntry, remembered, isReference, isBin, RightKnown, Opened, Idle, ValidIn, Valid, liveMessages, notedToday}
 use Rattle.engine.proofs.Truth.{and-true}
 use Rattle.engine.proofs.Agreement.{right-day}
 use Rattle.engine.proofs.Counting.{times}

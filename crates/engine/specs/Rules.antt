@@ -15,7 +15,7 @@ use Rattle.scan.specs.Scan.{begins}
 use Rattle.values.specs.Letters.{isStatus, isFourth}
 use Rattle.terms.specs.declared.Activation.{Activation}
 use Rattle.terms.specs.declared.Activation.the-variants.{AtOnce, Minute}
-use Rattle.book.specs.Accounts.{Stream}
+use Rattle.book.specs.Range.{Each, allAre, isShort, Rising, streamCodes}
 use Rattle.settle.specs.Payments.{Payment, credit, debit, bankOf, centsOf}
 use Rattle.settle.specs.Rules.{sum, credits, debits, Distinct}
 use Rattle.queue.specs.Promise.{All, Once}
@@ -24,21 +24,7 @@ use Rattle.engine.specs.declared.Phase.the-variants.{Fresh, Open, Closed
 use Rattle.engine.specs.State.{House, Message, Batch, Place, free, live, Batches, Entry, Known, State, fresh, sameCode, noCode, noEntry, paymentsOf, placePayments, placeMessages, placeAt}
 use Rattle.engine.specs.Changes.{hasDebit}
 
--- something holds of each of a list
-abbrev pub Each : {A : Type 0} → (A → Type 0) → List A → Type 0
-Each P [] = Unit {0}
-Each P (x ∷ xs) = P x × Each P xs
-
 -- ---- "each stored value one that book, text or clock allows"
-
--- every byte of a list is of a class
-abbrev pub allAre : (ℕ → Bool) → List ℕ → Bool
-allAre is [] = true
-allAre is (x ∷ xs) = is x && allAre is xs
-
--- "4 of A-Z 0-9", as a number
-abbrev pub isShort : ℕ → Bool
-isShort v = ltb v 4294967296 && allAre isCode (shortText v)
 
 -- a code is the code of its own characters: nothing stands after its first zero
 abbrev pub isWhole : Code → Bool
@@ -71,16 +57,6 @@ Lettered (credit k c) = Unit {0}
 Lettered (debit l k c) = (l < 4294967296) × (areLetters (shortText l) ≡ true)
 
 -- ---- the house
-
--- "Codes rise strictly."
-abbrev pub Rising : List ℕ → Type 0
-Rising [] = Unit {0}
-Rising (x ∷ []) = Unit {0}
-Rising (x ∷ y ∷ l) = (x < y) × Rising (y ∷ l)
-
-abbrev pub streamCodes : List Stream → List ℕ
-streamCodes [] = []
-streamCodes (x ∷ xs) = x .code ∷ streamCodes xs
 
 pub record RightHouse (h : House) (balances limits : List ℕ) : Type 0 where
   pub few-streams : length (h .streams) ≤ 8
