@@ -1,14 +1,14 @@
 -- Orders whose texts are worked out here: they read back as the same values.
 use Prim.Native.Nat.{ℕ}
 use mathlib.Core.Path.{_≡_, refl}
-use mathlib.Core.List.{List, [], _∷_, _++_}
+use mathlib.Core.List.{List, _∷_}
 use lib.ListN.{replicate}
 use Rattle.chars.specs.Words.{bytes}
-use Rattle.chars.specs.Chars.{isDigit, isLetter, isCode, digitValue}
-use Rattle.clock.specs.Clock.{hhmmOf, minuteOf}
-use Rattle.codes.specs.Codes.{packOn, packed, longOf, longAt, shortAt, unpacked, named, shortText, spelled, longText}
+use Rattle.chars.specs.Chars.{isDigit, isLetter, isCode}
+use Rattle.clock.specs.Clock.{hhmmOf}
+use Rattle.codes.specs.Codes.{packOn, packed, longOf, unpacked, named, shortText, spelled, longText}
 use Rattle.put.specs.Digits.{digitsOf}
-use Rattle.terms.specs.declared.Activation.the-variants.{AtOnce, Minute}
+use Rattle.terms.specs.declared.Activation.the-variants.{Minute}
 use Rattle.administrator.specs.Orders.{fixed, widthOn, widthOf, blank, proper, nameText, fourText, numbersText, timeText, amountText, countText, lineText, headText, termsText, paymentOf, noLine, paymentsTo, paymentsText, messageText, orderText}
 use Rattle.administrator.specs.declared.Line.{Line}
 use Rattle.administrator.specs.declared.Side.the-variants.{Credit, Debit}

@@ -1,9 +1,9 @@
 -- What the functions that write leave behind.
 use Prim.Native.Nat.{ℕ, zero, suc, _+_, _-_, _*_, _/_, _%_, _≤_, _<_}
 use mathlib.Core.Path.{_≡_, refl, ap, sym, _∙_}
-use mathlib.Core.Bool.{Bool, true, false, cond, not}
-use mathlib.Core.List.{List, [], _∷_, _++_, append-assoc, append-nil}
-use native.Mathlib.Nat.{add-zero, zero-add, add-assoc}
+use mathlib.Core.Bool.{Bool, true, false, not}
+use mathlib.Core.List.{List, [], _++_}
+use native.Mathlib.Nat.{add-zero, zero-add}
 use native.Mathlib.Numerals.{add-one}
 use native.Mathlib.Omega.{arith}
 use borrow.Author.Tests.{le-leb, lt-leb, lt-ltb, le-ltb, ltb-true, ltb-false, eq-eqb, ne-eqb, not-true, not-false}
@@ -15,20 +15,18 @@ use Rattle.chars.specs.Chars.{isCode}
 use Rattle.clock.specs.Clock.{hhmmOf}
 use Rattle.codes.specs.Codes.{shortText, longText, spelled}
 use Rattle.codes.specs.declared.Code.{Code}
-use Rattle.codes.proofs.Laws.{spelled-length}
 use Rattle.put.specs.Digits.{digitsOf}
-use Rattle.put.proofs.Laws.{then, three, digits-length}
+use Rattle.put.proofs.Laws.{then, digits-length}
 use Rattle.response.proofs.Laws.{short-length}
 use Rattle.scan.specs.Scan.{ten}
 use Rattle.administrator.specs.Orders.{fixed, widthOn, widthOf, blank, proper, nameText, fourText, numbersText, timeText, amountText, countText, valueText, lineText, headText, activationText, termsText, paymentOf, paymentText, noLine, paymentsTo, paymentsText, messageText, orderText, Puts, Wrote}
 use Rattle.administrator.specs.declared.Given.{Given}
-use Rattle.administrator.specs.declared.Given.the-variants.{Nothing, Name, SubType, Numbers, Date, Time, Four, CreditSide, DebitSide, Amount, Count}
+use Rattle.administrator.specs.declared.Given.the-variants.{Nothing, Name, SubType, Numbers, Date, Four, CreditSide, DebitSide, Amount, Count}
 use Rattle.administrator.specs.declared.Line.{Line}
 use Rattle.administrator.specs.declared.Side.{Side}
 use Rattle.administrator.specs.declared.Side.the-variants.{Credit, Debit}
 use Rattle.administrator.specs.declared.Order.{Order}
 use Rattle.terms.specs.declared.Activation.{Activation}
-use Rattle.terms.specs.declared.Activation.the-variants.{AtOnce, Minute}
 use Rattle.chars.specs.declared.Refusal.the-variants.{ShortBuffer}
 use Rattle.response.specs.Texts.{written, after}
 use Rattle.response.specs.declared.Written.{Written}

@@ -12,7 +12,6 @@ use Rattle.chars.specs.declared.Refusal.the-variants.{ShortBuffer}
 use Rattle.response.specs.Texts.{written, after}
 use Rattle.response.specs.declared.Written.{Written}
 use Rattle.response.specs.declared.Written.the-variants.{End, Unfit}
-use Rattle.fields.specs.declared.Break.{Break}
 use Rattle.request.specs.Request.{requestAt}
 use Rattle.request.specs.declared.Outcome.{Outcome}
 use Rattle.request.specs.declared.Outcome.the-variants.{Settlement, Recall, Refused}

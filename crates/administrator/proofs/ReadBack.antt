@@ -3,16 +3,15 @@ use Prim.Native.Nat.{ℕ, zero, suc, _+_, _-_, _*_, _/_, _%_, _≤_, _<_}
 use mathlib.Core.Path.{_≡_, refl, ap, sym, _∙_}
 use mathlib.Core.Bool.{Bool, true, false, cond}
 use mathlib.Core.List.{List, [], _∷_, _++_, append-assoc}
-use native.Mathlib.Nat.{add-assoc}
 use native.Mathlib.Omega.{arith}
-use borrow.Author.Tests.{lt-ltb, ltb-true, eq-eqb, ne-eqb}
+use borrow.Author.Tests.{lt-ltb, ltb-true, ne-eqb}
 use lib.Dec.{ltb}
-use lib.ListN.{length, take, drop}
+use lib.ListN.{take, drop}
 use lib.Seq.{take-at}
 use Rattle.chars.specs.Words.{bytes}
 use Rattle.chars.specs.Chars.{isDigit, digitValue}
 use Rattle.chars.proofs.Laws.{in-range, digit-yes}
-use Rattle.scan.specs.Scan.{litAt, digitsAt, numberAt, ten}
+use Rattle.scan.specs.Scan.{numberAt, ten}
 use Rattle.scan.proofs.Standing.{All, valueOf, past, lit-reads, digits-reads, number-reads}
 use Rattle.values.specs.Values.{amountAt, hundredths}
 use Rattle.values.specs.declared.Value.the-variants.{Read}

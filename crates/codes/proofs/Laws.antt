@@ -3,13 +3,13 @@ use Prim.Native.Nat.{ℕ, zero, suc, _+_, _*_, _-_, _/_, _%_, _^_, _≤_, _<_}
 use mathlib.Core.Path.{_≡_, refl, ap, sym, _∙_}
 use mathlib.Core.Bool.{Bool, true, false, cond}
 use mathlib.Core.List.{List, [], _∷_, _++_, append-assoc, append-nil}
-use native.Mathlib.Nat.{add-zero, zero-add, add-suc, suc-add, mul-add-div-right, mul-add-mod-self-right, mod-eq-of-lt, div-eq-of-lt, div-add-mod', pow-succ', pow-le-pow-right, le-of-lt}
+use native.Mathlib.Nat.{add-zero, zero-add, add-suc, suc-add, div-add-mod', pow-succ', pow-le-pow-right, le-of-lt}
 use native.Mathlib.Numerals.{add-one}
 use native.Mathlib.Omega.{arith}
-use borrow.Author.Tests.{eq-eqb, ne-eqb, lt-ltb, le-ltb, ltb-true, ltb-false, eqb-true, eqb-false}
+use borrow.Author.Tests.{eq-eqb, ne-eqb, lt-ltb, le-ltb, ltb-true, ltb-false}
 use lib.Dec.{eqb, ltb}
 use lib.ListN.{length, getD, take, drop, length-append, length-take, length-drop, drop-of-length-le, List·getD-append, List·getD-eq-default}
-use lib.Seq.{drop-cons, drop-drop, getD-drop, getD-take, getD-at, getD-append-add}
+use lib.Seq.{drop-cons, getD-drop, getD-take, getD-at, getD-append-add}
 use Rattle.codes.specs.Codes.{packOn, packed, shortAt, longOf, longAt, unpacked, named, shortText, spelled, longText, before, codeBefore}
 use Rattle.codes.specs.declared.Code.{Code}
 

@@ -1,6 +1,6 @@
 -- The account of a request, a line each, as it is told of an accepted one; and the order that it asks for.
 use Prim.Native.Nat.{ℕ, zero, suc, _+_, _-_}
-use mathlib.Core.Bool.{Bool, true, false, _&&_, _||_, cond}
+use mathlib.Core.Bool.{Bool, true, _&&_, _||_, cond}
 use mathlib.Core.List.{List, [], _∷_}
 use lib.Dec.{eqb, leb, ltb}
 use lib.ListN.{length, getD, take, drop, set, replicate}
@@ -21,7 +21,6 @@ use Rattle.terms.specs.declared.Activation.the-variants.{AtOnce, Minute}
 use Rattle.administrator.specs.declared.Line.{Line}
 use Rattle.administrator.specs.declared.Side.{Side}
 use Rattle.administrator.specs.declared.Side.the-variants.{Credit, Debit}
-use Rattle.administrator.specs.declared.Order.{Order}
 use Rattle.administrator.specs.Orders.{noLine}
 use Rattle.composing.specs.declared.Told.{Told}
 use Rattle.composing.specs.declared.Told.the-variants.{Number, Untold}

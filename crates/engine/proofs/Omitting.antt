@@ -1,18 +1,17 @@
 -- The omission rule over any calls from a fresh start: the memory is what the history has left of a fresh one.
 use Prim.Native.Nat.{ℕ, zero, suc, _+_, _≤_, _<_}
-use mathlib.Core.Path.{_≡_, refl, sym, ap, subst, _∙_}
+use mathlib.Core.Path.{_≡_, refl, sym, ap, _∙_}
 use mathlib.Core.Bool.{Bool, true, false, cond, false≢true}
 use mathlib.Core.List.{List, [], _∷_, _++_, map}
 use native.Mathlib.Omega.{arith}
-use lib.Dec.{eqb, ltb, leb}
+use lib.Dec.{eqb, ltb}
 use lib.ListN.{length, getD, set, replicate, List·getD-eq-default}
 use lib.Seq.{getD-set-other}
-use borrow.Author.Tests.{eqb-true, eqb-false, eq-eqb, ltb-true, ltb-false}
+use borrow.Author.Tests.{eqb-true, eqb-false, ltb-true, ltb-false}
 use Rattle.chars.specs.Words.{member}
 use Rattle.book.specs.Book.{each}
-use Rattle.settle.specs.Payments.{Payment}
 use Rattle.queue.specs.Memory.{wake}
-use Rattle.queue.specs.Tests.{Outcome, test, fuel}
+use Rattle.queue.specs.Tests.{Outcome, fuel}
 use Rattle.queue.specs.Promise.{All}
 use Rattle.queue.specs.History.{Event, limitChanged, changed, replay, testEvents}
 use Rattle.queue.specs.History.{after as afterEvent}
@@ -26,13 +25,13 @@ use Rattle.engine.specs.declared.Action.{Action}
 use Rattle.engine.specs.declared.Action.the-variants.{Opening, Message, SubLimit, Status, Tick, Close, ClosingBook}
 use Rattle.engine.specs.declared.Answer.{Answer}
 use Rattle.engine.specs.declared.Answer.the-variants.{Done, Refused}
-use Rattle.engine.specs.State.{Place, free, Batches, State, noMemory, placeAt, paymentsAt}
+use Rattle.engine.specs.State.{Place, free, Batches, State, noMemory, paymentsAt}
 use Rattle.engine.specs.Messages.{Acted, Waking, bank, place}
 use Rattle.engine.specs.Days.{openingAnswer}
 use Rattle.engine.specs.Calls.{Call, Engine, judge, begun, woken, tested, isClose, goesOn, closes, stepped, openedBy, performed, judged, call, cleared}
 use Rattle.engine.specs.Answered.{acted, outcome, after}
 use Rattle.engine.specs.Promises.{wakingEvents, allPlaces, steppedEvents, eventsBy, history, OmittedByRule}
-use Rattle.engine.proofs.Counting.{times, times-all}
+use Rattle.engine.proofs.Counting.{times-all}
 use Rattle.engine.proofs.Standing.{Standing, vacant, building, awaits, stands, Stood}
 
 -- ---- what an action wakes

@@ -3,7 +3,6 @@ use Prim.Native.Nat.{ℕ}
 use mathlib.Core.List.{List, _++_}
 use Rattle.chars.specs.Refusals.{numberOf}
 use Rattle.codes.specs.declared.Code.{Code}
-use Rattle.fields.specs.declared.Break.{Break}
 use Rattle.response.specs.declared.Outcome.{Outcome}
 use Rattle.response.specs.declared.Outcome.the-variants.{Settled, Rejected}
 use Rattle.response.specs.declared.Answer.{Answer}

@@ -1,5 +1,4 @@
 -- The example of document 01: "Whole, CR LF after each line, 105 bytes".
-use Prim.Native.Nat.{ℕ}
 use mathlib.Core.Path.{_≡_, refl}
 use lib.ListN.{length}
 use Rattle.chars.specs.Words.{bytes}

@@ -5,8 +5,6 @@ use Rattle.scan.specs.Scan.{ten}
 use Rattle.administrator.proofs.Laws.{fits-down, fits-none}
 use Rattle.administrator.proofs.fits.Statement.{statement}
 use Rattle.administrator.proofs.fits.Tie as tie
-use Rattle.administrator.proofs.fits.Reads as reads
-use Rattle.administrator.proofs.fits.Lts as lts
 
 abbrev Inv-loop : tie.InvT-loop
 Inv-loop v k i₀ rest₀ i rest = ltb rest (ten i) ≡ ltb v (ten k)

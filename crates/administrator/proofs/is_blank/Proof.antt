@@ -8,9 +8,6 @@ use Rattle.administrator.specs.Orders.{blank}
 use Rattle.administrator.proofs.Laws.{blank-on, blank-stop, blank-end}
 use Rattle.administrator.proofs.is_blank.Statement.{statement}
 use Rattle.administrator.proofs.is_blank.Tie as tie
-use Rattle.administrator.proofs.is_blank.Reads as reads
-use Rattle.administrator.proofs.is_blank.Lts as lts
-use Rattle.codes.proofs.Code.byte.Reads as byte-reads
 
 abbrev Inv-loop : tie.InvT-loop
 Inv-loop c from i₀ i = blank (drop i (spelled c)) ≡ blank (drop from (spelled c))
@@ -18,31 +15,24 @@ Inv-loop c from i₀ i = blank (drop i (spelled c)) ≡ blank (drop from (spelle
 abbrev μ-loop : tie.MeasureT-loop
 μ-loop c from i₀ i = 16 - i
 
--- src/lib.rt:74:5
 loop-holds : tie.Need-loop-holds Inv-loop μ-loop
 loop-holds c = refl
 
--- src/lib.rt:75:12
 byte-requires : tie.Need-byte-requires Inv-loop μ-loop
 byte-requires c κs = tt
 
--- src/lib.rt:76:13
 returns : tie.Need-returns Inv-loop μ-loop
 returns c = let l = c .before .before .before in blank-stop _ (l .loop .i) (rw spelled-length (omega arith)) (c .before .byte .ensures) (c .if1 .taken) ∙ l .loop .inv
 
--- src/lib.rt:78:9
 add-i : tie.Need-add-i Inv-loop μ-loop
 add-i c = omega arith
 
--- src/lib.rt:74:5
 loop-less : tie.Need-loop-less Inv-loop μ-loop
 loop-less c = omega arith
 
--- src/lib.rt:74:5
 loop-again : tie.Need-loop-again Inv-loop μ-loop
 loop-again c = let l = c .before .before .before in sym (blank-on _ (l .loop .i) (rw spelled-length (omega arith)) (c .before .byte .ensures) (c .if1 .left)) ∙ l .loop .inv
 
--- src/lib.rt:70:1
 returns-2 : tie.Need-returns-2 Inv-loop μ-loop
 returns-2 c = let l = c .before in blank-end _ (l .loop .i) (rw spelled-length (omega arith)) ∙ l .loop .inv
 

@@ -8,11 +8,6 @@ use Rattle.administrator.specs.Orders.{proper}
 use Rattle.administrator.proofs.Laws.{proper-on, proper-stop, proper-end}
 use Rattle.administrator.proofs.is_proper.Statement.{statement}
 use Rattle.administrator.proofs.is_proper.Tie as tie
-use Rattle.administrator.proofs.is_proper.Reads as reads
-use Rattle.administrator.proofs.is_proper.Lts as lts
-use Rattle.administrator.proofs.is_blank.Reads as is-blank-reads
-use Rattle.chars.proofs.is_code.Reads as is-code-reads
-use Rattle.codes.proofs.Code.byte.Reads as byte-reads
 
 abbrev Inv-loop : tie.InvT-loop
 Inv-loop c i₀ i = proper (drop i (spelled c)) ≡ proper (spelled c)

@@ -3,9 +3,6 @@ use Rattle.administrator.proofs.Laws.{activation-put, nothing-put}
 use borrow.Author.Needs.{needs}
 use Rattle.administrator.proofs.put_activation.Statement.{statement}
 use Rattle.administrator.proofs.put_activation.Tie as tie
-use Rattle.administrator.proofs.put_activation.Reads as reads
-use Rattle.administrator.proofs.put_activation.Lts as lts
-use Rattle.administrator.proofs.put_line.Reads as put-line-reads
 
 enum-told : tie.Need-enum-told
 enum-told c = search needs

@@ -3,11 +3,6 @@ use Rattle.administrator.proofs.Laws.{amount-put, amount-out}
 use borrow.Author.Needs.{needs}
 use Rattle.administrator.proofs.put_cents.Statement.{statement}
 use Rattle.administrator.proofs.put_cents.Tie as tie
-use Rattle.administrator.proofs.put_cents.Reads as reads
-use Rattle.administrator.proofs.put_cents.Lts as lts
-use Rattle.administrator.proofs.width.Reads as width-reads
-use Rattle.put.proofs.bytes.Reads as bytes-reads
-use Rattle.put.proofs.digits.Reads as digits-reads
 
 width-requires : tie.Need-width-requires
 width-requires c κs = search needs

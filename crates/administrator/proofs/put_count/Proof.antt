@@ -3,10 +3,6 @@ use Rattle.administrator.proofs.Laws.{count-put, count-out}
 use borrow.Author.Needs.{needs}
 use Rattle.administrator.proofs.put_count.Statement.{statement}
 use Rattle.administrator.proofs.put_count.Tie as tie
-use Rattle.administrator.proofs.put_count.Reads as reads
-use Rattle.administrator.proofs.put_count.Lts as lts
-use Rattle.administrator.proofs.width.Reads as width-reads
-use Rattle.put.proofs.digits.Reads as digits-reads
 
 width-requires : tie.Need-width-requires
 width-requires c κs = search needs

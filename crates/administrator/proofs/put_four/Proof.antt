@@ -3,27 +3,19 @@ use Rattle.administrator.proofs.Laws.{four-put, four-out}
 use borrow.Author.Needs.{needs}
 use Rattle.administrator.proofs.put_four.Statement.{statement}
 use Rattle.administrator.proofs.put_four.Tie as tie
-use Rattle.administrator.proofs.put_four.Reads as reads
-use Rattle.administrator.proofs.put_four.Lts as lts
-use Rattle.put.proofs.short_code.Reads as short-code-reads
 
--- src/lib.rt:116:9
 short-code-requires : tie.Need-short-code-requires
 short-code-requires c κs = search needs
 
--- src/lib.rt:117:16
 add-result : tie.Need-add-result
 add-result c = search needs
 
--- src/lib.rt:117:9
 same-length : tie.Need-same-length
 same-length c = search needs
 
--- src/lib.rt:117:9
 returns : tie.Need-returns
 returns c = (search four-put, omega arith)
 
--- src/lib.rt:110:1
 returns-2 : tie.Need-returns-2
 returns-2 c = (search four-out, omega arith)
 

@@ -3,10 +3,6 @@ use Rattle.administrator.proofs.Laws.{line-put}
 use borrow.Author.Needs.{needs}
 use Rattle.administrator.proofs.put_line.Statement.{statement}
 use Rattle.administrator.proofs.put_line.Tie as tie
-use Rattle.administrator.proofs.put_line.Reads as reads
-use Rattle.administrator.proofs.put_line.Lts as lts
-use Rattle.administrator.proofs.put_value.Reads as put-value-reads
-use Rattle.put.proofs.bytes.Reads as bytes-reads
 
 bytes-requires : tie.Need-bytes-requires
 bytes-requires c κs = search needs

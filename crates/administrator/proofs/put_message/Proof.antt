@@ -3,11 +3,6 @@ use Rattle.administrator.proofs.Laws.{message-put}
 use borrow.Author.Needs.{needs}
 use Rattle.administrator.proofs.put_message.Statement.{statement}
 use Rattle.administrator.proofs.put_message.Tie as tie
-use Rattle.administrator.proofs.put_message.Reads as reads
-use Rattle.administrator.proofs.put_message.Lts as lts
-use Rattle.administrator.proofs.put_line.Reads as put-line-reads
-use Rattle.administrator.proofs.put_payments.Reads as put-payments-reads
-use Rattle.administrator.proofs.put_terms.Reads as put-terms-reads
 
 put-terms-requires : tie.Need-put-terms-requires
 put-terms-requires c κs = search needs

@@ -3,11 +3,6 @@ use Rattle.administrator.proofs.Laws.{name-put, name-out}
 use borrow.Author.Needs.{needs}
 use Rattle.administrator.proofs.put_name.Statement.{statement}
 use Rattle.administrator.proofs.put_name.Tie as tie
-use Rattle.administrator.proofs.put_name.Reads as reads
-use Rattle.administrator.proofs.put_name.Lts as lts
-use Rattle.administrator.proofs.is_proper.Reads as is-proper-reads
-use Rattle.codes.proofs.Code.len.Reads as len-reads
-use Rattle.put.proofs.long_code.Reads as long-code-reads
 
 is-proper-requires : tie.Need-is-proper-requires
 is-proper-requires c κs = search needs

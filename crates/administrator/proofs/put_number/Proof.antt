@@ -3,10 +3,6 @@ use Rattle.administrator.proofs.Laws.{number-put, number-out}
 use borrow.Author.Needs.{needs}
 use Rattle.administrator.proofs.put_number.Statement.{statement}
 use Rattle.administrator.proofs.put_number.Tie as tie
-use Rattle.administrator.proofs.put_number.Reads as reads
-use Rattle.administrator.proofs.put_number.Lts as lts
-use Rattle.administrator.proofs.fits.Reads as fits-reads
-use Rattle.put.proofs.digits.Reads as digits-reads
 
 fits-requires : tie.Need-fits-requires
 fits-requires c κs = search needs

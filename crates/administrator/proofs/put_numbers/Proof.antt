@@ -3,10 +3,6 @@ use Rattle.administrator.proofs.Laws.{numbers-put}
 use borrow.Author.Needs.{needs}
 use Rattle.administrator.proofs.put_numbers.Statement.{statement}
 use Rattle.administrator.proofs.put_numbers.Tie as tie
-use Rattle.administrator.proofs.put_numbers.Reads as reads
-use Rattle.administrator.proofs.put_numbers.Lts as lts
-use Rattle.administrator.proofs.put_number.Reads as put-number-reads
-use Rattle.put.proofs.bytes.Reads as bytes-reads
 
 put-number-requires : tie.Need-put-number-requires
 put-number-requires c κs = search needs

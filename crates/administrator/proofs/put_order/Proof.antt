@@ -3,11 +3,6 @@ use Rattle.administrator.proofs.Laws.{settlement-put, recall-put}
 use borrow.Author.Needs.{needs}
 use Rattle.administrator.proofs.put_order.Statement.{statement}
 use Rattle.administrator.proofs.put_order.Tie as tie
-use Rattle.administrator.proofs.put_order.Reads as reads
-use Rattle.administrator.proofs.put_order.Lts as lts
-use Rattle.administrator.proofs.put_address.Reads as put-address-reads
-use Rattle.administrator.proofs.put_message.Reads as put-message-reads
-use Rattle.administrator.proofs.put_opening.Reads as put-opening-reads
 
 put-opening-requires : tie.Need-put-opening-requires
 put-opening-requires c κs = search needs

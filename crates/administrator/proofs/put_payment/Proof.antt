@@ -3,11 +3,6 @@ use Rattle.administrator.proofs.Laws.{credit-put, debit-put}
 use borrow.Author.Needs.{needs}
 use Rattle.administrator.proofs.put_payment.Statement.{statement}
 use Rattle.administrator.proofs.put_payment.Tie as tie
-use Rattle.administrator.proofs.put_payment.Reads as reads
-use Rattle.administrator.proofs.put_payment.Lts as lts
-use Rattle.administrator.proofs.put_debtor.Reads as put-debtor-reads
-use Rattle.administrator.proofs.put_line.Reads as put-line-reads
-use Rattle.administrator.proofs.put_money.Reads as put-money-reads
 
 enum-told : tie.Need-enum-told
 enum-told c = search needs

@@ -3,9 +3,6 @@ use Prim.Native.Nat.{_-_}
 use Rattle.administrator.proofs.Laws.{Paying, paying-start, paying-on, paying-stop, paying-done}
 use Rattle.administrator.proofs.put_payments.Statement.{statement}
 use Rattle.administrator.proofs.put_payments.Tie as tie
-use Rattle.administrator.proofs.put_payments.Reads as reads
-use Rattle.administrator.proofs.put_payments.Lts as lts
-use Rattle.administrator.proofs.put_payment.Reads as put-payment-reads
 
 abbrev Inv-loop : tie.InvT-loop
 Inv-loop out₀ at n lines i₀ a₀ out i a = Paying lines n out₀ at out i a

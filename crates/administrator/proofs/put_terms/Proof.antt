@@ -3,10 +3,6 @@ use Rattle.administrator.proofs.Laws.{terms-put}
 use borrow.Author.Needs.{needs}
 use Rattle.administrator.proofs.put_terms.Statement.{statement}
 use Rattle.administrator.proofs.put_terms.Tie as tie
-use Rattle.administrator.proofs.put_terms.Reads as reads
-use Rattle.administrator.proofs.put_terms.Lts as lts
-use Rattle.administrator.proofs.put_activation.Reads as put-activation-reads
-use Rattle.administrator.proofs.put_line.Reads as put-line-reads
 
 slice-aggregate-put-line : tie.Need-slice-aggregate-put-line
 slice-aggregate-put-line c = search needs

@@ -3,10 +3,6 @@ use Rattle.administrator.proofs.Laws.{time-put, time-out}
 use borrow.Author.Needs.{needs}
 use Rattle.administrator.proofs.put_time.Statement.{statement}
 use Rattle.administrator.proofs.put_time.Tie as tie
-use Rattle.administrator.proofs.put_time.Reads as reads
-use Rattle.administrator.proofs.put_time.Lts as lts
-use Rattle.clock.proofs.hhmm_of.Reads as hhmm-of-reads
-use Rattle.put.proofs.digits.Reads as digits-reads
 
 hhmm-of-requires : tie.Need-hhmm-of-requires
 hhmm-of-requires c κs = search needs

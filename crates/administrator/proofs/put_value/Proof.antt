@@ -3,16 +3,6 @@ use Rattle.administrator.proofs.Laws.{by-given}
 use borrow.Author.Needs.{needs}
 use Rattle.administrator.proofs.put_value.Statement.{statement}
 use Rattle.administrator.proofs.put_value.Tie as tie
-use Rattle.administrator.proofs.put_value.Reads as reads
-use Rattle.administrator.proofs.put_value.Lts as lts
-use Rattle.administrator.proofs.put_cents.Reads as put-cents-reads
-use Rattle.administrator.proofs.put_count.Reads as put-count-reads
-use Rattle.administrator.proofs.put_four.Reads as put-four-reads
-use Rattle.administrator.proofs.put_name.Reads as put-name-reads
-use Rattle.administrator.proofs.put_number.Reads as put-number-reads
-use Rattle.administrator.proofs.put_numbers.Reads as put-numbers-reads
-use Rattle.administrator.proofs.put_side.Reads as put-side-reads
-use Rattle.administrator.proofs.put_time.Reads as put-time-reads
 
 enum-told : tie.Need-enum-told
 enum-told c = search needs

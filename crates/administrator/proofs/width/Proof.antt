@@ -1,12 +1,10 @@
-use Prim.Native.Nat.{_≤_, _<_, _-_, _+_}
-use mathlib.Core.Path.{_≡_, refl, sym, _∙_}
+use Prim.Native.Nat.{_<_, _-_, _+_}
+use mathlib.Core.Path.{_≡_}
 use native.Mathlib.Omega.{arith}
 use Rattle.administrator.specs.Orders.{widthOn, widthOf}
 use Rattle.administrator.proofs.Laws.{width-small, width-big, width-none}
 use Rattle.administrator.proofs.width.Statement.{statement}
 use Rattle.administrator.proofs.width.Tie as tie
-use Rattle.administrator.proofs.width.Reads as reads
-use Rattle.administrator.proofs.width.Lts as lts
 
 abbrev Inv-loop : tie.InvT-loop
 Inv-loop v f₀ k₀ m₀ f k m = (k + f ≡ 10) × (0 < k) × (k + widthOn f m ≡ 1 + widthOf v)
@@ -14,32 +12,25 @@ Inv-loop v f₀ k₀ m₀ f k m = (k + f ≡ 10) × (0 < k) × (k + widthOn f m 
 abbrev μ-loop : tie.MeasureT-loop
 μ-loop v f₀ k₀ m₀ f k m = f
 
--- src/lib.rt:16:5
 loop-holds : tie.Need-loop-holds Inv-loop μ-loop
 unfolding widthOf
 loop-holds c = omega arith
 
--- src/lib.rt:18:13
 returns : tie.Need-returns Inv-loop μ-loop
 returns c = let l = c .before .before .loop in omega (arith, width-small (l .f) (l .m) (c .if1 .taken))
 
--- src/lib.rt:21:9
 add-k : tie.Need-add-k Inv-loop μ-loop
 add-k c = omega arith
 
--- src/lib.rt:22:9
 sub-f : tie.Need-sub-f Inv-loop μ-loop
 sub-f c = omega arith
 
--- src/lib.rt:16:5
 loop-less : tie.Need-loop-less Inv-loop μ-loop
 loop-less c = omega arith
 
--- src/lib.rt:16:5
 loop-again : tie.Need-loop-again Inv-loop μ-loop
 loop-again c = let l = c .before .before .loop in omega (arith, width-big (l .f) (l .m) (omega arith) (c .if1 .left))
 
--- src/lib.rt:9:1
 returns-2 : tie.Need-returns-2 Inv-loop μ-loop
 returns-2 c = let l = c .before .loop in omega (arith, width-none (l .f) (l .m) (omega arith))
 

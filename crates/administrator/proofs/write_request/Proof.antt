@@ -1,13 +1,7 @@
-use native.Mathlib.Omega.{arith}
 use Rattle.administrator.proofs.Laws.{made, made-size, order-refused, settlement-written, recall-written}
 use borrow.Author.Needs.{needs}
 use Rattle.administrator.proofs.write_request.Statement.{statement}
 use Rattle.administrator.proofs.write_request.Tie as tie
-use Rattle.administrator.proofs.write_request.Reads as reads
-use Rattle.administrator.proofs.write_request.Lts as lts
-use Rattle.administrator.proofs.put_order.Reads as put-order-reads
-use Rattle.administrator.proofs.write_text.Reads as write-text-reads
-use Rattle.request.proofs.read_request.Reads as read-request-reads
 
 slice-aggregate-put-order : tie.Need-slice-aggregate-put-order
 slice-aggregate-put-order c = search needs

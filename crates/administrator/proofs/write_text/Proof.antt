@@ -1,11 +1,7 @@
-use native.Mathlib.Omega.{arith}
 use Rattle.administrator.proofs.Laws.{too-long, too-late, copied}
 use borrow.Author.Needs.{needs}
 use Rattle.administrator.proofs.write_text.Statement.{statement}
 use Rattle.administrator.proofs.write_text.Tie as tie
-use Rattle.administrator.proofs.write_text.Reads as reads
-use Rattle.administrator.proofs.write_text.Lts as lts
-use Rattle.put.proofs.bytes.Reads as bytes-reads
 
 returns : tie.Need-returns
 returns c = let a = c .before .before .before .args in too-long (a .out .now) (a .text .now) (a .at) (c .if1 .taken)

@@ -1,28 +1,21 @@
-use mathlib.Core.Path.{refl, _∙_}
 use native.Mathlib.Omega.{arith}
 use borrow.Author.Needs.{needs}
 use Rattle.chars.specs.Chars.{isDigit, digitValue}
 use Rattle.chars.proofs.Laws.{in-range, below-range, above-range}
 use Rattle.chars.proofs.digit_value.Statement.{statement}
 use Rattle.chars.proofs.digit_value.Tie as tie
-use Rattle.chars.proofs.digit_value.Reads as reads
-use Rattle.chars.proofs.digit_value.Lts as lts
 
--- src/lib.rt:44:24
 cast-result : tie.Need-cast-result
 cast-result c = search needs
 
--- src/lib.rt:39:1
 returns : tie.Need-returns
 unfolding digitValue isDigit
 returns c = (simp (in-range 48 57 (c .before .before .args .b) (omega arith) (omega arith)), omega arith)
 
--- src/lib.rt:39:1
 returns-2 : tie.Need-returns-2
 unfolding digitValue isDigit
 returns-2 c = (simp (below-range 48 57 (c .before .args .b) (omega arith)), omega arith)
 
--- src/lib.rt:39:1
 returns-3 : tie.Need-returns-3
 unfolding digitValue isDigit
 returns-3 c = (simp (above-range 48 57 (c .before .before .args .b) (omega arith)), omega arith)

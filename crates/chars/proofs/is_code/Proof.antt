@@ -1,7 +1,6 @@
 use Rattle.chars.proofs.is_code.Statement.{statement}
 use Rattle.chars.proofs.is_code.Tie as tie
 use native.Mathlib.Omega.{arith}
-use mathlib.Core.Path.{sym}
 use Rattle.chars.specs.Chars.{isCode, isLetter, isDigit}
 use Rattle.chars.proofs.Laws.{in-range, below-range, above-range}
 

@@ -1,7 +1,6 @@
 use Rattle.chars.proofs.is_digit.Statement.{statement}
 use Rattle.chars.proofs.is_digit.Tie as tie
 use native.Mathlib.Omega.{arith}
-use mathlib.Core.Path.{sym}
 use Rattle.chars.specs.Chars.{isDigit}
 use Rattle.chars.proofs.Laws.{in-range, below-range, above-range}
 

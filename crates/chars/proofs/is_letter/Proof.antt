@@ -1,7 +1,6 @@
 use Rattle.chars.proofs.is_letter.Statement.{statement}
 use Rattle.chars.proofs.is_letter.Tie as tie
 use native.Mathlib.Omega.{arith}
-use mathlib.Core.Path.{sym}
 use Rattle.chars.specs.Chars.{isLetter}
 use Rattle.chars.proofs.Laws.{in-range, below-range, above-range}
 

@@ -5,10 +5,6 @@ use lib.ListN.{length}
 use Rattle.checksum.proofs.Laws.{Going, going-on, going-done, sum-short}
 use Rattle.checksum.proofs.block_sum.Statement.{statement}
 use Rattle.checksum.proofs.block_sum.Tie as tie
-use Rattle.checksum.proofs.block_sum.Reads as reads
-use Rattle.checksum.proofs.block_sum.Lts as lts
-use Rattle.checksum.proofs.word.Reads as word-reads
-use Rattle.std.proofs.num.wrapping_add_u32.Reads as wrapping-add-u32-reads
 
 abbrev Inv-loop : tie.InvT-loop
 Inv-loop s at sum₀ left₀ j₀ sum left j = Going s at sum left j × (at + 508 ≤ length s)
@@ -16,57 +12,44 @@ Inv-loop s at sum₀ left₀ j₀ sum left j = Going s at sum left j × (at + 50
 abbrev μ-loop : tie.MeasureT-loop
 μ-loop s at sum₀ left₀ j₀ sum left j = left
 
--- src/lib.rt:28:18
 mul-if1 : tie.Need-mul-if1 Inv-loop μ-loop
 mul-if1 c = omega arith
 
--- src/lib.rt:29:9
 returns : tie.Need-returns Inv-loop μ-loop
 returns c = sum-short _ _ (omega arith)
 
--- src/lib.rt:31:18
 mul-if2 : tie.Need-mul-if2 Inv-loop μ-loop
 mul-if2 c = omega arith
 
--- src/lib.rt:31:8
 sub-if2 : tie.Need-sub-if2 Inv-loop μ-loop
 sub-if2 c = omega arith
 
--- src/lib.rt:32:9
 returns-2 : tie.Need-returns-2 Inv-loop μ-loop
 returns-2 c = sum-short _ _ (omega arith)
 
--- src/lib.rt:37:5
 loop-holds : tie.Need-loop-holds Inv-loop μ-loop
 loop-holds c = (record { inside = omega arith; fits = omega arith; same = simp zero-add }, omega arith)
 
--- src/lib.rt:38:47
 word-requires : tie.Need-word-requires Inv-loop μ-loop
 word-requires c κs = omega (arith, c .before .loop .inv .0 .inside)
 
--- src/lib.rt:38:9
 wrapping-add-u32-requires : tie.Need-wrapping-add-u32-requires Inv-loop μ-loop
 wrapping-add-u32-requires c κs = tt
 
--- src/lib.rt:39:9
 sub-left : tie.Need-sub-left Inv-loop μ-loop
 sub-left c = omega arith
 
--- src/lib.rt:40:9
 add-j : tie.Need-add-j Inv-loop μ-loop
 add-j c = omega (arith, c .before .before .before .loop .inv .0 .inside)
 
--- src/lib.rt:37:5
 loop-less : tie.Need-loop-less Inv-loop μ-loop
 loop-less c = omega arith
 
--- src/lib.rt:37:5
 loop-again : tie.Need-loop-again Inv-loop μ-loop
 loop-again c =
     let l = c .before .before .before .loop in
     (going-on (l .inv .0) (omega arith) (c .before .word .ensures) (c .wrapping-add-u32 .ensures), l .inv .1)
 
--- src/lib.rt:25:1
 returns-3 : tie.Need-returns-3 Inv-loop μ-loop
 returns-3 c = going-done (c .before .loop .inv .0) (omega arith) (c .before .loop .inv .1)
 

@@ -3,34 +3,25 @@ use Rattle.codes.proofs.Laws.{byte-there, byte-past-n, byte-past-end}
 use borrow.Author.Needs.{needs}
 use Rattle.codes.proofs.byte.Statement.{statement}
 use Rattle.codes.proofs.byte.Tie as tie
-use Rattle.codes.proofs.byte.Reads as reads
-use Rattle.codes.proofs.byte.Lts as lts
 
--- src/lib.rt:24:16
 sub-if2 : tie.Need-sub-if2
 sub-if2 c = search needs
 
--- src/lib.rt:26:26
 add-result : tie.Need-add-result
 add-result c = search needs
 
--- src/lib.rt:26:24
 shared-slice-read-result : tie.Need-shared-slice-read-result
 shared-slice-read-result c = search needs
 
--- src/lib.rt:26:17
 returns : tie.Need-returns
 returns c = let a = c .before .before .before .before .args in byte-there (a .s .now) (a .at) (a .n) (a .i) (omega arith)
 
--- src/lib.rt:20:1
 returns-2 : tie.Need-returns-2
 returns-2 c = let a = c .before .before .before .args in byte-past-n (a .s .now) (a .at) (a .n) (a .i) (omega arith)
 
--- src/lib.rt:20:1
 returns-3 : tie.Need-returns-3
 returns-3 c = let a = c .before .before .args in byte-past-end (a .s .now) (a .at) (a .n) (a .i) (omega arith)
 
--- src/lib.rt:20:1
 returns-4 : tie.Need-returns-4
 returns-4 c = let a = c .before .args in byte-past-end (a .s .now) (a .at) (a .n) (a .i) (omega arith)
 

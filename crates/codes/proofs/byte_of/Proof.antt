@@ -2,8 +2,6 @@ use native.Mathlib.Omega.{arith}
 use Rattle.codes.proofs.Laws.{Unpacking, unpack-past, unpacking-start, unpacking-on, unpacking-done}
 use Rattle.codes.proofs.byte_of.Statement.{statement}
 use Rattle.codes.proofs.byte_of.Tie as tie
-use Rattle.codes.proofs.byte_of.Reads as reads
-use Rattle.codes.proofs.byte_of.Lts as lts
 
 abbrev Inv-loop : tie.InvT-loop
 Inv-loop v w i left₀ rest₀ left rest = Unpacking w v i left rest
@@ -11,35 +9,27 @@ Inv-loop v w i left₀ rest₀ left rest = Unpacking w v i left rest
 abbrev μ-loop : tie.MeasureT-loop
 μ-loop v w i left₀ rest₀ left rest = left
 
--- src/lib.rt:78:9
 returns : tie.Need-returns Inv-loop μ-loop
 returns c = let a = c .before .args in unpack-past (a .w) (a .v) (a .i) (omega arith)
 
--- src/lib.rt:80:20
 sub-left : tie.Need-sub-left Inv-loop μ-loop
 sub-left c = omega arith
 
--- src/lib.rt:82:5
 loop-holds : tie.Need-loop-holds Inv-loop μ-loop
 loop-holds c = let a = c .before .args in unpacking-start (a .w) (a .v) (a .i) (omega arith)
 
--- src/lib.rt:84:9
 sub-left-2 : tie.Need-sub-left-2 Inv-loop μ-loop
 sub-left-2 c = omega arith
 
--- src/lib.rt:82:5
 loop-less : tie.Need-loop-less Inv-loop μ-loop
 loop-less c = omega arith
 
--- src/lib.rt:82:5
 loop-again : tie.Need-loop-again Inv-loop μ-loop
 loop-again c = unpacking-on (c .before .loop .inv) (omega arith)
 
--- src/lib.rt:86:5
 cast-result : tie.Need-cast-result Inv-loop μ-loop
 cast-result c = omega arith
 
--- src/lib.rt:74:1
 returns-2 : tie.Need-returns-2 Inv-loop μ-loop
 returns-2 c = unpacking-done (c .before .loop .inv) (omega arith)
 

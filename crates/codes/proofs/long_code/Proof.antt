@@ -2,19 +2,13 @@ use Rattle.codes.proofs.Laws.{long-is}
 use borrow.Author.Needs.{needs}
 use Rattle.codes.proofs.long_code.Statement.{statement}
 use Rattle.codes.proofs.long_code.Tie as tie
-use Rattle.codes.proofs.long_code.Reads as reads
-use Rattle.codes.proofs.long_code.Lts as lts
-use Rattle.codes.proofs.pack.Reads as pack-reads
 
--- src/lib.rt:68:15
 pack-requires : tie.Need-pack-requires
 pack-requires c κs = search needs
 
--- src/lib.rt:69:14
 pack-requires-2 : tie.Need-pack-requires-2
 pack-requires-2 c κs = search needs
 
--- src/lib.rt:64:1
 returns : tie.Need-returns
 returns c = let a = c .before .before .before .args in long-is (a .s .now) (a .at) (a .n) (c .before .pack .ensures .0) (c .pack2 .ensures .0)
 

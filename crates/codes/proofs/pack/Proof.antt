@@ -1,5 +1,5 @@
 use Prim.Native.Nat.{_-_}
-use mathlib.Core.Path.{refl, sym, _∙_}
+use mathlib.Core.Path.{sym, _∙_}
 use native.Mathlib.Nat.{sub-zero}
 use native.Mathlib.Omega.{arith}
 use lib.ListN.{take, drop}
@@ -7,10 +7,6 @@ use lib.Seq.{getD-drop}
 use Rattle.codes.proofs.Laws.{Packing, packing-on, packing-done, pow-eight}
 use Rattle.codes.proofs.pack.Statement.{statement}
 use Rattle.codes.proofs.pack.Tie as tie
-use Rattle.codes.proofs.pack.Reads as reads
-use Rattle.codes.proofs.pack.Lts as lts
-use Rattle.codes.proofs.byte.Reads as byte-reads
-use Rattle.codes.proofs.wide.Reads as wide-reads
 
 abbrev Inv-loop : tie.InvT-loop
 Inv-loop s at n from w v₀ i₀ v i = Packing (drop from (take n (drop at s))) w v i
@@ -18,48 +14,38 @@ Inv-loop s at n from w v₀ i₀ v i = Packing (drop from (take n (drop at s))) 
 abbrev μ-loop : tie.MeasureT-loop
 μ-loop s at n from w v₀ i₀ v i = w - i
 
--- src/lib.rt:48:5
 loop-holds : tie.Need-loop-holds Inv-loop μ-loop
 loop-holds c = record { few = omega arith; small = omega arith; same = simp sub-zero }
 
--- src/lib.rt:49:13
 mul-v : tie.Need-mul-v Inv-loop μ-loop
 mul-v c = omega (arith, pow-eight (c .before .loop .i) (c .before .loop .v) (omega arith) (c .before .loop .inv .small))
 
--- src/lib.rt:49:43
 add-byte : tie.Need-add-byte Inv-loop μ-loop
 add-byte c = omega arith
 
--- src/lib.rt:49:28
 byte-requires : tie.Need-byte-requires Inv-loop μ-loop
 byte-requires c κs = tt
 
--- src/lib.rt:49:23
 wide-requires : tie.Need-wide-requires Inv-loop μ-loop
 wide-requires c κs = tt
 
--- src/lib.rt:49:13
 add-v : tie.Need-add-v Inv-loop μ-loop
 add-v c =
     let l = c .before .before .before .loop in
     omega (arith, pow-eight (l .i) (l .v) (omega arith) (l .inv .small))
 
--- src/lib.rt:50:9
 add-i : tie.Need-add-i Inv-loop μ-loop
 add-i c = omega arith
 
--- src/lib.rt:48:5
 loop-less : tie.Need-loop-less Inv-loop μ-loop
 loop-less c = omega arith
 
--- src/lib.rt:48:5
 loop-again : tie.Need-loop-again Inv-loop μ-loop
 loop-again c =
     let l = c .before .before .before .loop in
     let a = c .before .before .before .before .before .args in
     packing-on (l .inv) (omega arith) (c .wide .ensures .0 ∙ c .before .byte .ensures ∙ sym (getD-drop (a .from) (take (a .n) (drop (a .at) (a .s .now))) (l .i) 0)) (c .wide .ensures .1)
 
--- src/lib.rt:41:1
 returns : tie.Need-returns Inv-loop μ-loop
 returns c = packing-done (c .before .loop .inv) (omega arith)
 

@@ -4,10 +4,6 @@ use mathlib.Core.Path.{sym}
 use borrow.Author.Needs.{needs}
 use Rattle.compose.proofs.compose_first.Statement.{statement}
 use Rattle.compose.proofs.compose_first.Tie as tie
-use Rattle.compose.proofs.compose_first.Reads as reads
-use Rattle.compose.proofs.compose_first.Lts as lts
-use Rattle.compose.proofs.compose.Reads as compose-reads
-use Rattle.compose.proofs.say.Reads as say-reads
 
 slice-aggregate-say : tie.Need-slice-aggregate-say
 slice-aggregate-say c = search needs

@@ -4,9 +4,6 @@ use mathlib.Core.Path.{sym}
 use borrow.Author.Needs.{needs}
 use Rattle.compose.proofs.write_first.Statement.{statement}
 use Rattle.compose.proofs.write_first.Tie as tie
-use Rattle.compose.proofs.write_first.Reads as reads
-use Rattle.compose.proofs.write_first.Lts as lts
-use Rattle.io.proofs.write_all.Reads as write-all-reads
 
 slice-aggregate-write-all : tie.Need-slice-aggregate-write-all
 slice-aggregate-write-all c = sym (length-take-le _ _ (omega arith))

@@ -2,9 +2,6 @@ use Rattle.composing.proofs.Laws.{activation-true, activation-untrue}
 use borrow.Author.Needs.{needs}
 use Rattle.composing.proofs.activation_of.Statement.{statement}
 use Rattle.composing.proofs.activation_of.Tie as tie
-use Rattle.composing.proofs.activation_of.Reads as reads
-use Rattle.composing.proofs.activation_of.Lts as lts
-use Rattle.clock.proofs.minute_of.Reads as minute-of-reads
 
 minute-of-requires : tie.Need-minute-of-requires
 minute-of-requires c κs = search needs

@@ -2,9 +2,6 @@ use Rattle.composing.proofs.Laws.{shown-first, shown-second, shown-thir
 use borrow.Author.Needs.{needs}
 use Rattle.composing.proofs.are_shown.Statement.{statement}
 use Rattle.composing.proofs.are_shown.Tie as tie
-use Rattle.composing.proofs.are_shown.Reads as reads
-use Rattle.composing.proofs.are_shown.Lts as lts
-use Rattle.composing.proofs.is_shown.Reads as is-shown-reads
 
 array-read-is-shown : tie.Need-array-read-is-shown
 array-read-is-shown c = search needs

@@ -2,8 +2,6 @@ use mathlib.Core.Path.{refl}
 use Rattle.composing.specs.Account.{asked}
 use Rattle.composing.proofs.asked.Statement.{statement}
 use Rattle.composing.proofs.asked.Tie as tie
-use Rattle.composing.proofs.asked.Reads as reads
-use Rattle.composing.proofs.asked.Lts as lts
 
 returns : tie.Need-returns
 unfolding asked

@@ -2,8 +2,6 @@ use Rattle.composing.proofs.Laws.{byte-past}
 use borrow.Author.Needs.{needs}
 use Rattle.composing.proofs.byte.Statement.{statement}
 use Rattle.composing.proofs.byte.Tie as tie
-use Rattle.composing.proofs.byte.Reads as reads
-use Rattle.composing.proofs.byte.Lts as lts
 
 shared-slice-read-result : tie.Need-shared-slice-read-result
 shared-slice-read-result c = search needs

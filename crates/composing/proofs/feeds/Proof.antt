@@ -2,8 +2,6 @@ use native.Mathlib.Omega.{arith}
 use Rattle.composing.proofs.Laws.{feed-1, feed-2}
 use Rattle.composing.proofs.feeds.Statement.{statement}
 use Rattle.composing.proofs.feeds.Tie as tie
-use Rattle.composing.proofs.feeds.Reads as reads
-use Rattle.composing.proofs.feeds.Lts as lts
 
 returns : tie.Need-returns
 returns c = (search feed-1, omega arith)

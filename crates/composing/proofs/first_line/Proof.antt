@@ -2,10 +2,6 @@ use Rattle.composing.proofs.Laws.{first-1, first-2}
 use borrow.Author.Needs.{needs}
 use Rattle.composing.proofs.first_line.Statement.{statement}
 use Rattle.composing.proofs.first_line.Tie as tie
-use Rattle.composing.proofs.first_line.Reads as reads
-use Rattle.composing.proofs.first_line.Lts as lts
-use Rattle.composing.proofs.line_after.Reads as line-after-reads
-use Rattle.scan.proofs.lit.Reads as lit-reads
 
 slice-aggregate-lit : tie.Need-slice-aggregate-lit
 slice-aggregate-lit c = search needs

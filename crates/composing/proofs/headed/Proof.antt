@@ -2,9 +2,6 @@ use Rattle.composing.proofs.Laws.{headed-is}
 use borrow.Author.Needs.{needs}
 use Rattle.composing.proofs.headed.Statement.{statement}
 use Rattle.composing.proofs.headed.Tie as tie
-use Rattle.composing.proofs.headed.Reads as reads
-use Rattle.composing.proofs.headed.Lts as lts
-use Rattle.composing.proofs.asked.Reads as asked-reads
 
 asked-requires : tie.Need-asked-requires
 asked-requires c κs = search needs

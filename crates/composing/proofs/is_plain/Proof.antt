@@ -2,9 +2,6 @@ use Rattle.composing.proofs.Laws.{plain-1, plain-2, plain-3}
 use borrow.Author.Needs.{needs}
 use Rattle.composing.proofs.is_plain.Statement.{statement}
 use Rattle.composing.proofs.is_plain.Tie as tie
-use Rattle.composing.proofs.is_plain.Reads as reads
-use Rattle.composing.proofs.is_plain.Lts as lts
-use Rattle.composing.proofs.byte.Reads as byte-reads
 
 returns : tie.Need-returns
 returns c = search plain-1

@@ -2,9 +2,6 @@ use Rattle.composing.proofs.Laws.{shown-1, shown-2}
 use borrow.Author.Needs.{needs}
 use Rattle.composing.proofs.is_shown.Statement.{statement}
 use Rattle.composing.proofs.is_shown.Tie as tie
-use Rattle.composing.proofs.is_shown.Reads as reads
-use Rattle.composing.proofs.is_shown.Lts as lts
-use Rattle.chars.proofs.is_letter.Reads as is-letter-reads
 
 returns : tie.Need-returns
 returns c = search shown-1

@@ -7,8 +7,6 @@ use Rattle.composing.specs.Account.{lineAfter}
 use Rattle.composing.proofs.Laws.{Seeking, seeking-on, seeking-there, seeking-none}
 use Rattle.composing.proofs.line_after.Statement.{statement}
 use Rattle.composing.proofs.line_after.Tie as tie
-use Rattle.composing.proofs.line_after.Reads as reads
-use Rattle.composing.proofs.line_after.Lts as lts
 
 abbrev Inv-loop : tie.InvT-loop
 Inv-loop s at i₀ i = Seeking s at i

@@ -6,9 +6,6 @@ use mathlib.Core.Path.{refl}
 use Rattle.composing.proofs.Laws.{Numbering, numbering-on, numbering-there, numbering-end}
 use Rattle.composing.proofs.line_of.Statement.{statement}
 use Rattle.composing.proofs.line_of.Tie as tie
-use Rattle.composing.proofs.line_of.Reads as reads
-use Rattle.composing.proofs.line_of.Lts as lts
-use Rattle.composing.proofs.feeds.Reads as feeds-reads
 
 abbrev Inv-loop : tie.InvT-loop
 Inv-loop s at i₀ line₀ i line = Numbering s at i line

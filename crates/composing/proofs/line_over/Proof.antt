@@ -2,8 +2,6 @@ use Rattle.composing.proofs.Laws.{over-1, over-2, over-3}
 use borrow.Author.Needs.{needs}
 use Rattle.composing.proofs.line_over.Statement.{statement}
 use Rattle.composing.proofs.line_over.Tie as tie
-use Rattle.composing.proofs.line_over.Reads as reads
-use Rattle.composing.proofs.line_over.Lts as lts
 
 returns : tie.Need-returns
 returns c = search over-1

@@ -2,12 +2,6 @@ use Rattle.composing.proofs.Laws.{account-1, account-2}
 use borrow.Author.Needs.{needs}
 use Rattle.composing.proofs.read_account.Statement.{statement}
 use Rattle.composing.proofs.read_account.Tie as tie
-use Rattle.composing.proofs.read_account.Reads as reads
-use Rattle.composing.proofs.read_account.Lts as lts
-use Rattle.composing.proofs.first_line.Reads as first-line-reads
-use Rattle.composing.proofs.read_body.Reads as read-body-reads
-use Rattle.composing.proofs.read_head.Reads as read-head-reads
-use Rattle.composing.proofs.unread.Reads as unread-reads
 
 first-line-requires : tie.Need-first-line-requires
 first-line-requires c κs = search needs

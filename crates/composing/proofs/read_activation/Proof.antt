@@ -2,12 +2,6 @@ use Rattle.composing.proofs.Laws.{activation-1, activation-2, activatio
 use borrow.Author.Needs.{needs}
 use Rattle.composing.proofs.read_activation.Statement.{statement}
 use Rattle.composing.proofs.read_activation.Tie as tie
-use Rattle.composing.proofs.read_activation.Reads as reads
-use Rattle.composing.proofs.read_activation.Lts as lts
-use Rattle.composing.proofs.activation_of.Reads as activation-of-reads
-use Rattle.composing.proofs.line_over.Reads as line-over-reads
-use Rattle.composing.proofs.read_line.Reads as read-line-reads
-use Rattle.scan.proofs.lit.Reads as lit-reads
 
 slice-aggregate-lit : tie.Need-slice-aggregate-lit
 slice-aggregate-lit c = search needs

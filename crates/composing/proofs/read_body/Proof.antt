@@ -2,10 +2,6 @@ use Rattle.composing.proofs.Laws.{body-1, body-2, body-3, body-4}
 use borrow.Author.Needs.{needs}
 use Rattle.composing.proofs.read_body.Statement.{statement}
 use Rattle.composing.proofs.read_body.Tie as tie
-use Rattle.composing.proofs.read_body.Reads as reads
-use Rattle.composing.proofs.read_body.Lts as lts
-use Rattle.composing.proofs.headed.Reads as headed-reads
-use Rattle.composing.proofs.read_message.Reads as read-message-reads
 
 read-message-requires : tie.Need-read-message-requires
 read-message-requires c κs = search needs

@@ -2,10 +2,6 @@ use Rattle.composing.proofs.Laws.{credit-1, credit-2, credit-3}
 use borrow.Author.Needs.{needs}
 use Rattle.composing.proofs.read_credit.Statement.{statement}
 use Rattle.composing.proofs.read_credit.Tie as tie
-use Rattle.composing.proofs.read_credit.Reads as reads
-use Rattle.composing.proofs.read_credit.Lts as lts
-use Rattle.composing.proofs.line_over.Reads as line-over-reads
-use Rattle.composing.proofs.read_sum.Reads as read-sum-reads
 
 read-sum-requires : tie.Need-read-sum-requires
 read-sum-requires c κs = search needs

@@ -2,12 +2,6 @@ use Rattle.composing.proofs.Laws.{debit-1, debit-2, debit-3, debit-4, d
 use borrow.Author.Needs.{needs}
 use Rattle.composing.proofs.read_debit.Statement.{statement}
 use Rattle.composing.proofs.read_debit.Tie as tie
-use Rattle.composing.proofs.read_debit.Reads as reads
-use Rattle.composing.proofs.read_debit.Lts as lts
-use Rattle.composing.proofs.line_over.Reads as line-over-reads
-use Rattle.composing.proofs.read_letters.Reads as read-letters-reads
-use Rattle.composing.proofs.read_sum.Reads as read-sum-reads
-use Rattle.scan.proofs.lit.Reads as lit-reads
 
 read-sum-requires : tie.Need-read-sum-requires
 read-sum-requires c κs = search needs

@@ -2,10 +2,6 @@ use Rattle.composing.proofs.Laws.{head-1, head-2, head-3, head-4, head-
 use borrow.Author.Needs.{needs}
 use Rattle.composing.proofs.read_head.Statement.{statement}
 use Rattle.composing.proofs.read_head.Tie as tie
-use Rattle.composing.proofs.read_head.Reads as reads
-use Rattle.composing.proofs.read_head.Lts as lts
-use Rattle.composing.proofs.read_line.Reads as read-line-reads
-use Rattle.composing.proofs.read_name.Reads as read-name-reads
 
 slice-aggregate-read-line : tie.Need-slice-aggregate-read-line
 slice-aggregate-read-line c = search needs

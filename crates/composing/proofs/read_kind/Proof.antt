@@ -2,11 +2,6 @@ use Rattle.composing.proofs.Laws.{kind-1, kind-2, kind-3, kind-4}
 use borrow.Author.Needs.{needs}
 use Rattle.composing.proofs.read_kind.Statement.{statement}
 use Rattle.composing.proofs.read_kind.Tie as tie
-use Rattle.composing.proofs.read_kind.Reads as reads
-use Rattle.composing.proofs.read_kind.Lts as lts
-use Rattle.codes.proofs.short_code.Reads as short-code-reads
-use Rattle.scan.proofs.code.Reads as code-reads
-use Rattle.scan.proofs.number.Reads as number-reads
 
 enum-known-kind : tie.Need-enum-known-kind
 enum-known-kind c = search needs

@@ -3,10 +3,6 @@ use native.Mathlib.Omega.{arith}
 use borrow.Author.Needs.{needs}
 use Rattle.composing.proofs.read_letters.Statement.{statement}
 use Rattle.composing.proofs.read_letters.Tie as tie
-use Rattle.composing.proofs.read_letters.Reads as reads
-use Rattle.composing.proofs.read_letters.Lts as lts
-use Rattle.composing.proofs.are_shown.Reads as are-shown-reads
-use Rattle.composing.proofs.spaced.Reads as spaced-reads
 
 returns : tie.Need-returns
 returns c = search letters-1

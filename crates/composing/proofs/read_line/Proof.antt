@@ -2,11 +2,6 @@ use Rattle.composing.proofs.Laws.{line-1, line-2, line-3, line-4}
 use borrow.Author.Needs.{needs}
 use Rattle.composing.proofs.read_line.Statement.{statement}
 use Rattle.composing.proofs.read_line.Tie as tie
-use Rattle.composing.proofs.read_line.Reads as reads
-use Rattle.composing.proofs.read_line.Lts as lts
-use Rattle.composing.proofs.line_over.Reads as line-over-reads
-use Rattle.composing.proofs.read_kind.Reads as read-kind-reads
-use Rattle.scan.proofs.lit.Reads as lit-reads
 
 lit-requires : tie.Need-lit-requires
 lit-requires c κs = search needs

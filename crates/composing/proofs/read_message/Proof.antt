@@ -2,12 +2,6 @@ use Rattle.composing.proofs.Laws.{message-1, message-2}
 use borrow.Author.Needs.{needs}
 use Rattle.composing.proofs.read_message.Statement.{statement}
 use Rattle.composing.proofs.read_message.Tie as tie
-use Rattle.composing.proofs.read_message.Reads as reads
-use Rattle.composing.proofs.read_message.Lts as lts
-use Rattle.composing.proofs.asked.Reads as asked-reads
-use Rattle.composing.proofs.headed.Reads as headed-reads
-use Rattle.composing.proofs.read_payments.Reads as read-payments-reads
-use Rattle.composing.proofs.read_terms.Reads as read-terms-reads
 
 read-terms-requires : tie.Need-read-terms-requires
 read-terms-requires c κs = search needs

@@ -3,12 +3,6 @@ use Rattle.composing.proofs.Laws.{name-1, name-2, name-3}
 use borrow.Author.Needs.{needs}
 use Rattle.composing.proofs.read_name.Statement.{statement}
 use Rattle.composing.proofs.read_name.Tie as tie
-use Rattle.composing.proofs.read_name.Reads as reads
-use Rattle.composing.proofs.read_name.Lts as lts
-use Rattle.codes.proofs.long_code.Reads as long-code-reads
-use Rattle.composing.proofs.line_over.Reads as line-over-reads
-use Rattle.scan.proofs.codes.Reads as codes-reads
-use Rattle.scan.proofs.lit.Reads as lit-reads
 
 lit-requires : tie.Need-lit-requires
 lit-requires c κs = search needs

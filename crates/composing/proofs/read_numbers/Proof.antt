@@ -2,11 +2,6 @@ use Rattle.composing.proofs.Laws.{numbers-1, numbers-2, numbers-3, numb
 use borrow.Author.Needs.{needs}
 use Rattle.composing.proofs.read_numbers.Statement.{statement}
 use Rattle.composing.proofs.read_numbers.Tie as tie
-use Rattle.composing.proofs.read_numbers.Reads as reads
-use Rattle.composing.proofs.read_numbers.Lts as lts
-use Rattle.composing.proofs.read_line.Reads as read-line-reads
-use Rattle.scan.proofs.lit.Reads as lit-reads
-use Rattle.scan.proofs.number.Reads as number-reads
 
 slice-aggregate-lit : tie.Need-slice-aggregate-lit
 slice-aggregate-lit c = search needs

@@ -2,11 +2,6 @@ use Rattle.composing.proofs.Laws.{payment-1, payment-2, payment-3}
 use borrow.Author.Needs.{needs}
 use Rattle.composing.proofs.read_payment.Statement.{statement}
 use Rattle.composing.proofs.read_payment.Tie as tie
-use Rattle.composing.proofs.read_payment.Reads as reads
-use Rattle.composing.proofs.read_payment.Lts as lts
-use Rattle.composing.proofs.read_credit.Reads as read-credit-reads
-use Rattle.composing.proofs.read_debit.Reads as read-debit-reads
-use Rattle.scan.proofs.lit.Reads as lit-reads
 
 slice-aggregate-lit : tie.Need-slice-aggregate-lit
 slice-aggregate-lit c = search needs

@@ -6,9 +6,6 @@ use Rattle.composing.specs.Account.{paymentsAt}
 use Rattle.composing.proofs.Laws.{Going, going-end, going-cut, going-on, full-end, full-cut, full-more}
 use Rattle.composing.proofs.read_payments.Statement.{statement}
 use Rattle.composing.proofs.read_payments.Tie as tie
-use Rattle.composing.proofs.read_payments.Reads as reads
-use Rattle.composing.proofs.read_payments.Lts as lts
-use Rattle.composing.proofs.read_payment.Reads as read-payment-reads
 
 abbrev Inv-loop : tie.InvT-loop
 Inv-loop s at lines₀ n₀ here₀ lines n here = Going s at lines n here

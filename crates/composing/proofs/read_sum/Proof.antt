@@ -2,13 +2,6 @@ use Rattle.composing.proofs.Laws.{sum-1, sum-2, sum-3, sum-4}
 use borrow.Author.Needs.{needs}
 use Rattle.composing.proofs.read_sum.Statement.{statement}
 use Rattle.composing.proofs.read_sum.Tie as tie
-use Rattle.composing.proofs.read_sum.Reads as reads
-use Rattle.composing.proofs.read_sum.Lts as lts
-use Rattle.codes.proofs.short_code.Reads as short-code-reads
-use Rattle.composing.proofs.is_plain.Reads as is-plain-reads
-use Rattle.scan.proofs.code.Reads as code-reads
-use Rattle.scan.proofs.digits.Reads as digits-reads
-use Rattle.scan.proofs.lit.Reads as lit-reads
 
 digits-requires : tie.Need-digits-requires
 digits-requires c κs = search needs

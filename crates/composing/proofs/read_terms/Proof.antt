@@ -2,11 +2,6 @@ use Rattle.composing.proofs.Laws.{terms-1, terms-2, terms-3, terms-4}
 use borrow.Author.Needs.{needs}
 use Rattle.composing.proofs.read_terms.Statement.{statement}
 use Rattle.composing.proofs.read_terms.Tie as tie
-use Rattle.composing.proofs.read_terms.Reads as reads
-use Rattle.composing.proofs.read_terms.Lts as lts
-use Rattle.composing.proofs.read_activation.Reads as read-activation-reads
-use Rattle.composing.proofs.read_line.Reads as read-line-reads
-use Rattle.composing.proofs.read_numbers.Reads as read-numbers-reads
 
 read-numbers-requires : tie.Need-read-numbers-requires
 read-numbers-requires c κs = search needs

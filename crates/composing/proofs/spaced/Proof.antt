@@ -2,10 +2,6 @@ use Rattle.composing.proofs.Laws.{spaced-is}
 use borrow.Author.Needs.{needs}
 use Rattle.composing.proofs.spaced.Statement.{statement}
 use Rattle.composing.proofs.spaced.Tie as tie
-use Rattle.composing.proofs.spaced.Reads as reads
-use Rattle.composing.proofs.spaced.Lts as lts
-use Rattle.codes.proofs.short_code.Reads as short-code-reads
-use Rattle.composing.proofs.unshown.Reads as unshown-reads
 
 array-read-unshown : tie.Need-array-read-unshown
 array-read-unshown c = search needs

@@ -2,9 +2,6 @@ use Rattle.composing.proofs.Laws.{unread-is}
 use borrow.Author.Needs.{needs}
 use Rattle.composing.proofs.unread.Statement.{statement}
 use Rattle.composing.proofs.unread.Tie as tie
-use Rattle.composing.proofs.unread.Reads as reads
-use Rattle.composing.proofs.unread.Lts as lts
-use Rattle.composing.proofs.headed.Reads as headed-reads
 
 headed-requires : tie.Need-headed-requires
 headed-requires c κs = search needs

@@ -1,8 +1,6 @@
 use Rattle.composing.proofs.Laws.{unshown-1, unshown-2}
 use Rattle.composing.proofs.unshown.Statement.{statement}
 use Rattle.composing.proofs.unshown.Tie as tie
-use Rattle.composing.proofs.unshown.Reads as reads
-use Rattle.composing.proofs.unshown.Lts as lts
 
 returns : tie.Need-returns
 returns c = search unshown-1

@@ -13,31 +13,24 @@ Inv-loop year month days₀ m₀ days m = (m ≤ month) × (days ≡ daysBefore 
 abbrev μ-loop : tie.MeasureT-loop
 μ-loop year month days₀ m₀ days m = month - m
 
--- src/lib.rt:56:5
 loop-holds : tie.Need-loop-holds Inv-loop μ-loop
 loop-holds c = (omega arith, refl)
 
--- src/lib.rt:57:17
 days-in-requires : tie.Need-days-in-requires Inv-loop μ-loop
 days-in-requires c κs = search needs
 
--- src/lib.rt:57:9
 add-days : tie.Need-add-days Inv-loop μ-loop
 add-days c = omega (arith, before-small (c .before .before .before .args .year) (c .before .before .loop .m))
 
--- src/lib.rt:58:9
 add-m : tie.Need-add-m Inv-loop μ-loop
 add-m c = omega arith
 
--- src/lib.rt:56:5
 loop-less : tie.Need-loop-less Inv-loop μ-loop
 loop-less c = omega arith
 
--- src/lib.rt:56:5
 loop-again : tie.Need-loop-again Inv-loop μ-loop
 loop-again c = (omega arith, search one-more)
 
--- src/lib.rt:50:1
 returns : tie.Need-returns Inv-loop μ-loop
 returns c = (search all-before, omega (arith, before-small (c .before .before .args .year) (c .before .loop .m)))
 

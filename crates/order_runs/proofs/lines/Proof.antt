@@ -1,13 +1,9 @@
 use Prim.Native.Nat.{_-_}
 use mathlib.Core.Path.{_≡_, refl}
 use native.Mathlib.Omega.{arith}
-use borrow.Author.Needs.{needs}
 use lib.ListN.{length, length-set}
 use Rattle.order_runs.proofs.lines.Statement.{statement}
 use Rattle.order_runs.proofs.lines.Tie as tie
-use Rattle.order_runs.proofs.lines.Reads as reads
-use Rattle.order_runs.proofs.lines.Lts as lts
-use Rattle.order_runs.proofs.line.Reads as line-reads
 
 abbrev Inv-loop : tie.InvT-loop
 Inv-loop s all₀ i₀ all i = length all ≡ 10

@@ -1,9 +1,6 @@
 use native.Mathlib.Omega.{arith}
 use Rattle.order_runs.proofs.main.Statement.{statement}
 use Rattle.order_runs.proofs.main.Tie as tie
-use Rattle.order_runs.proofs.main.Reads as reads
-use Rattle.order_runs.proofs.main.Lts as lts
-use Rattle.order_runs.proofs.one_order.Reads as one-order-reads
 
 abbrev Inv-loop : tie.InvT-loop
 Inv-loop turns₀ turns = Unit {0}

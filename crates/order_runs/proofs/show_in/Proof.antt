@@ -4,9 +4,6 @@ use mathlib.Core.Path.{sym}
 use borrow.Author.Needs.{needs}
 use Rattle.order_runs.proofs.show_in.Statement.{statement}
 use Rattle.order_runs.proofs.show_in.Tie as tie
-use Rattle.order_runs.proofs.show_in.Reads as reads
-use Rattle.order_runs.proofs.show_in.Lts as lts
-use Rattle.order_runs.proofs.show.Reads as show-reads
 
 slice-relend-prefix-show : tie.Need-slice-relend-prefix-show
 slice-relend-prefix-show c = search needs

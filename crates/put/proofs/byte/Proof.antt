@@ -4,34 +4,25 @@ use Rattle.put.proofs.Laws.{set-past}
 use borrow.Author.Needs.{needs}
 use Rattle.put.proofs.byte.Statement.{statement}
 use Rattle.put.proofs.byte.Tie as tie
-use Rattle.put.proofs.byte.Reads as reads
-use Rattle.put.proofs.byte.Lts as lts
 
--- src/lib.rt:15:16
 sub-if2 : tie.Need-sub-if2
 sub-if2 c = search needs
 
--- src/lib.rt:16:17
 add-out : tie.Need-add-out
 add-out c = search needs
 
--- src/lib.rt:16:13
 slice-write-out : tie.Need-slice-write-out
 slice-write-out c = search needs
 
--- src/lib.rt:11:1
 same-length : tie.Need-same-length
 same-length c = search needs
 
--- src/lib.rt:11:1
 returns : tie.Need-returns
 returns c = search needs
 
--- src/lib.rt:11:1
 returns-2 : tie.Need-returns-2
 returns-2 c = let a = c .before .before .args in set-past (a .out .now) (a .at + a .i) (a .b) (omega arith)
 
--- src/lib.rt:11:1
 returns-3 : tie.Need-returns-3
 returns-3 c = let a = c .before .args in set-past (a .out .now) (a .at + a .i) (a .b) (omega arith)
 

@@ -1,13 +1,10 @@
 use Prim.Native.Nat.{_-_}
-use mathlib.Core.Path.{refl, sym, _∙_}
+use mathlib.Core.Path.{refl}
 use native.Mathlib.Omega.{arith}
 use lib.ListN.{length}
 use Rattle.put.proofs.Laws.{Putting, putting-start, putting-on, putting-done}
 use Rattle.put.proofs.bytes.Statement.{statement}
 use Rattle.put.proofs.bytes.Tie as tie
-use Rattle.put.proofs.bytes.Reads as reads
-use Rattle.put.proofs.bytes.Lts as lts
-use Rattle.put.proofs.byte.Reads as byte-reads
 
 abbrev Inv-loop : tie.InvT-loop
 Inv-loop out₀ at text i₀ out i = Putting out₀ text at out i
@@ -15,35 +12,27 @@ Inv-loop out₀ at text i₀ out i = Putting out₀ text at out i
 abbrev μ-loop : tie.MeasureT-loop
 μ-loop out₀ at text i₀ out i = length text - i
 
--- src/lib.rt:26:5
 loop-holds : tie.Need-loop-holds Inv-loop μ-loop
 loop-holds c = putting-start _ _ _
 
--- src/lib.rt:27:26
 shared-slice-read-byte : tie.Need-shared-slice-read-byte Inv-loop μ-loop
 shared-slice-read-byte c = omega arith
 
--- src/lib.rt:27:9
 byte-requires : tie.Need-byte-requires Inv-loop μ-loop
 byte-requires c κs = tt
 
--- src/lib.rt:28:9
 add-i : tie.Need-add-i Inv-loop μ-loop
 add-i c = omega arith
 
--- src/lib.rt:26:5
 loop-less : tie.Need-loop-less Inv-loop μ-loop
 loop-less c = omega arith
 
--- src/lib.rt:26:5
 loop-again : tie.Need-loop-again Inv-loop μ-loop
 loop-again c = putting-on (c .before .before .before .before .before .before .loop .inv) (omega arith) refl (c .before .before .byte .ensures)
 
--- src/lib.rt:22:1
 same-length : tie.Need-same-length Inv-loop μ-loop
 same-length c = c .before .loop .inv .size
 
--- src/lib.rt:22:1
 returns : tie.Need-returns Inv-loop μ-loop
 returns c = putting-done (c .before .loop .inv) (omega arith)
 

@@ -5,9 +5,6 @@ use lib.ListN.{length, length-set}
 use Rattle.put.proofs.Laws.{fromLast, from-last, from-down, from-none}
 use Rattle.put.proofs.digits.Statement.{statement}
 use Rattle.put.proofs.digits.Tie as tie
-use Rattle.put.proofs.digits.Reads as reads
-use Rattle.put.proofs.digits.Lts as lts
-use Rattle.put.proofs.byte.Reads as byte-reads
 
 abbrev Inv-loop : tie.InvT-loop
 Inv-loop out₀ at v k i₀ rest₀ out i rest = (i ≤ k) × (length out ≡ length out₀) × (fromLast i rest at out ≡ fromLast k v at out₀)
@@ -15,31 +12,24 @@ Inv-loop out₀ at v k i₀ rest₀ out i rest = (i ≤ k) × (length out ≡ le
 abbrev μ-loop : tie.MeasureT-loop
 μ-loop out₀ at v k i₀ rest₀ out i rest = i
 
--- src/lib.rt:38:5
 loop-holds : tie.Need-loop-holds Inv-loop μ-loop
 loop-holds c = (omega arith, refl, refl)
 
--- src/lib.rt:39:9
 sub-i : tie.Need-sub-i Inv-loop μ-loop
 sub-i c = omega arith
 
--- src/lib.rt:40:26
 cast-byte : tie.Need-cast-byte Inv-loop μ-loop
 cast-byte c = omega arith
 
--- src/lib.rt:40:26
 add-byte : tie.Need-add-byte Inv-loop μ-loop
 add-byte c = omega arith
 
--- src/lib.rt:40:9
 byte-requires : tie.Need-byte-requires Inv-loop μ-loop
 byte-requires c κs = tt
 
--- src/lib.rt:38:5
 loop-less : tie.Need-loop-less Inv-loop μ-loop
 loop-less c = omega arith
 
--- src/lib.rt:38:5
 loop-again : tie.Need-loop-again Inv-loop μ-loop
 loop-again c =
     let l = c .before .before .before .before .before in
@@ -47,11 +37,9 @@ loop-again c =
     let e = c .before .before .byte .ensures in
     (omega arith, rw (e, length-set) (l .loop .inv .1), rw e (sym (from-down (l .loop .i) (l .loop .rest) (a .at) (l .loop .out) (omega arith)) ∙ l .loop .inv .2))
 
--- src/lib.rt:33:1
 same-length : tie.Need-same-length Inv-loop μ-loop
 same-length c = c .before .loop .inv .1
 
--- src/lib.rt:33:1
 returns : tie.Need-returns Inv-loop μ-loop
 returns c =
     let l = c .before in

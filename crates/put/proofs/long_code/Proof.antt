@@ -1,5 +1,5 @@
 use Prim.Native.Nat.{_-_, _<_}
-use mathlib.Core.Path.{refl, sym, _∙_}
+use mathlib.Core.Path.{sym, _∙_}
 use native.Mathlib.Omega.{arith}
 use lib.ListN.{length}
 use Rattle.codes.specs.Codes.{named, spelled, longText}
@@ -7,11 +7,6 @@ use Rattle.codes.proofs.Laws.{named-at}
 use Rattle.put.proofs.Laws.{Putting, putting-start, putting-on, putting-done}
 use Rattle.put.proofs.long_code.Statement.{statement}
 use Rattle.put.proofs.long_code.Tie as tie
-use Rattle.put.proofs.long_code.Reads as reads
-use Rattle.put.proofs.long_code.Lts as lts
-use Rattle.codes.proofs.Code.byte.Reads as Code-byte-reads
-use Rattle.codes.proofs.Code.len.Reads as len-reads
-use Rattle.put.proofs.byte.Reads as byte-reads
 
 abbrev Inv-loop : tie.InvT-loop
 Inv-loop out₀ at code n i₀ out i = Putting out₀ (longText code) at out i
@@ -19,31 +14,24 @@ Inv-loop out₀ at code n i₀ out i = Putting out₀ (longText code) at out i
 abbrev μ-loop : tie.MeasureT-loop
 μ-loop out₀ at code n i₀ out i = n - i
 
--- src/lib.rt:60:9
 len-requires : tie.Need-len-requires Inv-loop μ-loop
 len-requires c κs = tt
 
--- src/lib.rt:62:5
 loop-holds : tie.Need-loop-holds Inv-loop μ-loop
 loop-holds c = putting-start _ _ _
 
--- src/lib.rt:63:26
 byte-requires : tie.Need-byte-requires Inv-loop μ-loop
 byte-requires c κs = tt
 
--- src/lib.rt:63:9
 byte-requires-2 : tie.Need-byte-requires-2 Inv-loop μ-loop
 byte-requires-2 c κs = tt
 
--- src/lib.rt:64:9
 add-i : tie.Need-add-i Inv-loop μ-loop
 add-i c = omega arith
 
--- src/lib.rt:62:5
 loop-less : tie.Need-loop-less Inv-loop μ-loop
 loop-less c = omega arith
 
--- src/lib.rt:62:5
 loop-again : tie.Need-loop-again Inv-loop μ-loop
 unfolding longText
 loop-again c =
@@ -52,11 +40,9 @@ loop-again c =
     let h : l .loop .i < length (named (spelled code)) = omega (arith, l .before .len .ensures .0) in
     putting-on (l .loop .inv) h (c .before .before .before .byte .ensures ∙ sym (named-at (spelled code) (l .loop .i) h)) (c .before .before .byte2 .ensures)
 
--- src/lib.rt:57:1
 same-length : tie.Need-same-length Inv-loop μ-loop
 same-length c = c .before .loop .inv .size
 
--- src/lib.rt:57:1
 returns : tie.Need-returns Inv-loop μ-loop
 returns c = putting-done (c .before .loop .inv) (omega arith)
 

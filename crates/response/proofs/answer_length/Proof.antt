@@ -4,22 +4,16 @@ use Rattle.response.proofs.Laws.{kept-end}
 use borrow.Author.Needs.{needs}
 use Rattle.response.proofs.answer_length.Statement.{statement}
 use Rattle.response.proofs.answer_length.Tie as tie
-use Rattle.response.proofs.answer_length.Reads as reads
-use Rattle.response.proofs.answer_length.Lts as lts
 
--- src/lib.rt:212:29
 enum-told : tie.Need-enum-told
 enum-told c = search needs
 
--- src/lib.rt:213:28
 enum-told-2 : tie.Need-enum-told-2
 enum-told-2 c = search needs
 
--- src/lib.rt:207:1
 returns : tie.Need-returns
 returns c = search needs
 
--- src/lib.rt:207:1
 returns-2 : tie.Need-returns-2
 returns-2 c = (sym (kept-end _ (c .enum-told2 .given .1)), omega arith)
 

@@ -4,22 +4,16 @@ use Rattle.response.proofs.Laws.{settled-end, rejected-end}
 use borrow.Author.Needs.{needs}
 use Rattle.response.proofs.outcome_length.Statement.{statement}
 use Rattle.response.proofs.outcome_length.Tie as tie
-use Rattle.response.proofs.outcome_length.Reads as reads
-use Rattle.response.proofs.outcome_length.Lts as lts
 
--- src/lib.rt:173:35
 enum-told : tie.Need-enum-told
 enum-told c = search needs
 
--- src/lib.rt:174:33
 enum-told-2 : tie.Need-enum-told-2
 enum-told-2 c = search needs
 
--- src/lib.rt:168:1
 returns : tie.Need-returns
 returns c = (sym (settled-end _ (c .enum-told .given .1)), omega arith)
 
--- src/lib.rt:168:1
 returns-2 : tie.Need-returns-2
 returns-2 c = (sym (rejected-end _ (c .enum-told2 .given .1)), omega arith)
 

@@ -3,44 +3,31 @@ use Rattle.response.proofs.Laws.{kept-end}
 use borrow.Author.Needs.{needs}
 use Rattle.response.proofs.put_answer.Statement.{statement}
 use Rattle.response.proofs.put_answer.Tie as tie
-use Rattle.response.proofs.put_answer.Reads as reads
-use Rattle.response.proofs.put_answer.Lts as lts
-use Rattle.put.proofs.bytes.Reads as bytes-reads
-use Rattle.response.proofs.put_rejected.Reads as put-rejected-reads
 
--- src/lib.rt:202:40
 enum-told : tie.Need-enum-told
 enum-told c = search needs
 
--- src/lib.rt:202:49
 slice-aggregate-bytes : tie.Need-slice-aggregate-bytes
 slice-aggregate-bytes c = search needs
 
--- src/lib.rt:202:29
 bytes-requires : tie.Need-bytes-requires
 bytes-requires c κs = search needs
 
--- src/lib.rt:203:22
 enum-known-answer : tie.Need-enum-known-answer
 enum-known-answer c = search needs
 
--- src/lib.rt:203:33
 put-rejected-requires : tie.Need-put-rejected-requires
 put-rejected-requires c κs = omega (arith, c .before .before .before .before .before .pre, kept-end _ (c .before .before .answer .given .1))
 
--- src/lib.rt:197:1
 same-length : tie.Need-same-length
 same-length c = search needs
 
--- src/lib.rt:197:1
 returns : tie.Need-returns
 returns c = rw (c .before .before .before .before .before .enum-told .given .1) (c .before .before .bytes .ensures)
 
--- src/lib.rt:197:1
 same-length-2 : tie.Need-same-length-2
 same-length-2 c = search needs
 
--- src/lib.rt:197:1
 returns-2 : tie.Need-returns-2
 returns-2 c = rw (c .before .before .before .before .before .answer .given .1) (c .before .before .put-rejected .ensures)
 

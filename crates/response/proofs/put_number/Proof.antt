@@ -1,5 +1,4 @@
 use mathlib.Core.Path.{refl}
-use mathlib.Core.List.{[], _∷_}
 use native.Mathlib.Omega.{arith}
 use Rattle.chars.specs.Words.{bytes}
 use Rattle.put.proofs.Laws.{three, digits-length}
@@ -7,44 +6,31 @@ use Rattle.put.specs.Digits.{digitsOf}
 use borrow.Author.Needs.{needs}
 use Rattle.response.proofs.put_number.Statement.{statement}
 use Rattle.response.proofs.put_number.Tie as tie
-use Rattle.response.proofs.put_number.Reads as reads
-use Rattle.response.proofs.put_number.Lts as lts
-use Rattle.put.proofs.bytes.Reads as bytes-reads
-use Rattle.put.proofs.digits.Reads as digits-reads
 
--- src/lib.rt:62:25
 slice-aggregate-bytes : tie.Need-slice-aggregate-bytes
 slice-aggregate-bytes c = search needs
 
--- src/lib.rt:62:5
 bytes-requires : tie.Need-bytes-requires
 bytes-requires c κs = search needs
 
--- src/lib.rt:63:22
 add-digits : tie.Need-add-digits
 add-digits c = search needs
 
--- src/lib.rt:63:5
 digits-requires : tie.Need-digits-requires
 digits-requires c κs = search needs
 
--- src/lib.rt:64:21
 add-bytes : tie.Need-add-bytes
 add-bytes c = search needs
 
--- src/lib.rt:64:30
 slice-aggregate-bytes-2 : tie.Need-slice-aggregate-bytes-2
 slice-aggregate-bytes-2 c = search needs
 
--- src/lib.rt:64:5
 bytes-requires-2 : tie.Need-bytes-requires-2
 bytes-requires-2 c κs = search needs
 
--- src/lib.rt:58:1
 same-length : tie.Need-same-length
 same-length c = search needs
 
--- src/lib.rt:58:1
 returns : tie.Need-returns
 returns c =
     let a = c .before .before .before .before .before .before .before .before .before .before .before .before .before .before .before .args in

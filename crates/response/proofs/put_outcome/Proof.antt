@@ -3,40 +3,28 @@ use Rattle.response.proofs.Laws.{settled-end, rejected-end}
 use borrow.Author.Needs.{needs}
 use Rattle.response.proofs.put_outcome.Statement.{statement}
 use Rattle.response.proofs.put_outcome.Tie as tie
-use Rattle.response.proofs.put_outcome.Reads as reads
-use Rattle.response.proofs.put_outcome.Lts as lts
-use Rattle.response.proofs.put_rejected.Reads as put-rejected-reads
-use Rattle.response.proofs.put_settled.Reads as put-settled-reads
 
--- src/lib.rt:163:26
 enum-known-outcome : tie.Need-enum-known-outcome
 enum-known-outcome c = search needs
 
--- src/lib.rt:163:42
 put-settled-requires : tie.Need-put-settled-requires
 put-settled-requires c κs = omega (arith, c .before .before .before .before .before .pre, settled-end _ (c .before .before .outcome .given .1))
 
--- src/lib.rt:164:27
 enum-known-outcome-2 : tie.Need-enum-known-outcome-2
 enum-known-outcome-2 c = search needs
 
--- src/lib.rt:164:38
 put-rejected-requires : tie.Need-put-rejected-requires
 put-rejected-requires c κs = omega (arith, c .before .before .before .before .before .pre, rejected-end _ (c .before .before .outcome2 .given .1))
 
--- src/lib.rt:158:1
 same-length : tie.Need-same-length
 same-length c = search needs
 
--- src/lib.rt:158:1
 returns : tie.Need-returns
 returns c = rw (c .before .before .before .before .before .outcome .given .1) (c .before .before .put-settled .ensures)
 
--- src/lib.rt:158:1
 same-length-2 : tie.Need-same-length-2
 same-length-2 c = search needs
 
--- src/lib.rt:158:1
 returns-2 : tie.Need-returns-2
 returns-2 c = rw (c .before .before .before .before .before .outcome2 .given .1) (c .before .before .put-rejected .ensures)
 

@@ -4,39 +4,25 @@ use Rattle.response.proofs.Laws.{recall-length, recall-pieces, room-eno
 use borrow.Author.Needs.{needs}
 use Rattle.response.proofs.write_recall.Statement.{statement}
 use Rattle.response.proofs.write_recall.Tie as tie
-use Rattle.response.proofs.write_recall.Reads as reads
-use Rattle.response.proofs.write_recall.Lts as lts
-use Rattle.codes.proofs.Code.len.Reads as len-reads
-use Rattle.response.proofs.answer_length.Reads as answer-length-reads
-use Rattle.response.proofs.has_room.Reads as has-room-reads
-use Rattle.response.proofs.put_answer.Reads as put-answer-reads
-use Rattle.response.proofs.put_head.Reads as put-head-reads
 
--- src/lib.rt:222:9
 len-requires : tie.Need-len-requires
 len-requires c κs = search needs
 
--- src/lib.rt:223:13
 add-b : tie.Need-add-b
 add-b c = search needs
 
--- src/lib.rt:225:17
 answer-length-requires : tie.Need-answer-length-requires
 answer-length-requires c κs = search needs
 
--- src/lib.rt:225:13
 add-k : tie.Need-add-k
 add-k c = search needs
 
--- src/lib.rt:226:9
 has-room-requires : tie.Need-has-room-requires
 has-room-requires c κs = search needs
 
--- src/lib.rt:227:9
 same-length : tie.Need-same-length
 same-length c = search needs
 
--- src/lib.rt:227:9
 returns : tie.Need-returns
 returns c =
     let q = c in
@@ -44,7 +30,6 @@ returns c =
     let size = recall-length (a .r) (q .before .before .before .before .len .ensures .0) (q .before .before .before .answer-length .ensures .0) in
     no-room (a .out .now) (recallText (a .r)) (a .at) (q .before .has-room .ensures) size (q .if1 .taken)
 
--- src/lib.rt:229:5
 put-head-requires : tie.Need-put-head-requires
 put-head-requires c κs =
     let q = c .before in
@@ -53,7 +38,6 @@ put-head-requires c κs =
     let room = room-enough (a .out .now) (recallText (a .r)) (a .at) (q .before .has-room .ensures) size (q .if1 .left) in
     (q .before .before .before .before .len .ensures .0, omega arith)
 
--- src/lib.rt:230:21
 add-put-answer : tie.Need-add-put-answer
 add-put-answer c =
     let q = c .before .before .before .before .before in
@@ -62,7 +46,6 @@ add-put-answer c =
     let room = room-enough (a .out .now) (recallText (a .r)) (a .at) (q .before .has-room .ensures) size (q .if1 .left) in
     omega arith
 
--- src/lib.rt:230:5
 put-answer-requires : tie.Need-put-answer-requires
 put-answer-requires c κs =
     let q = c .before .before .before .before .before in
@@ -71,7 +54,6 @@ put-answer-requires c κs =
     let room = room-enough (a .out .now) (recallText (a .r)) (a .at) (q .before .has-room .ensures) size (q .if1 .left) in
     omega (arith, q .before .before .before .answer-length .ensures .0)
 
--- src/lib.rt:231:18
 add-t8 : tie.Need-add-t8
 add-t8 c =
     let q = c .before .before .before .before .before .before .before .before in
@@ -80,11 +62,9 @@ add-t8 c =
     let room = room-enough (a .out .now) (recallText (a .r)) (a .at) (q .before .has-room .ensures) size (q .if1 .left) in
     omega arith
 
--- src/lib.rt:219:1
 same-length-2 : tie.Need-same-length-2
 same-length-2 c = search needs
 
--- src/lib.rt:219:1
 returns-2 : tie.Need-returns-2
 returns-2 c =
     let q = c .before .before .before .before .before .before .before .before in

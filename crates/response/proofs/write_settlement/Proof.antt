@@ -4,52 +4,34 @@ use Rattle.response.proofs.Laws.{settlement-length, settlement-pieces, 
 use borrow.Author.Needs.{needs}
 use Rattle.response.proofs.write_settlement.Statement.{statement}
 use Rattle.response.proofs.write_settlement.Tie as tie
-use Rattle.response.proofs.write_settlement.Reads as reads
-use Rattle.response.proofs.write_settlement.Lts as lts
-use Rattle.codes.proofs.Code.len.Reads as len-reads
-use Rattle.response.proofs.has_room.Reads as has-room-reads
-use Rattle.response.proofs.outcome_length.Reads as outcome-length-reads
-use Rattle.response.proofs.put_batch.Reads as put-batch-reads
-use Rattle.response.proofs.put_head.Reads as put-head-reads
-use Rattle.response.proofs.put_outcome.Reads as put-outcome-reads
 
--- src/lib.rt:182:9
 len-requires : tie.Need-len-requires
 len-requires c κs = search needs
 
--- src/lib.rt:183:9
 len-requires-2 : tie.Need-len-requires-2
 len-requires-2 c κs = search needs
 
--- src/lib.rt:184:13
 add-b : tie.Need-add-b
 add-b c = search needs
 
--- src/lib.rt:185:18
 add-e : tie.Need-add-e
 add-e c = search needs
 
--- src/lib.rt:185:13
 add-e-2 : tie.Need-add-e-2
 add-e-2 c = search needs
 
--- src/lib.rt:187:17
 outcome-length-requires : tie.Need-outcome-length-requires
 outcome-length-requires c κs = search needs
 
--- src/lib.rt:187:13
 add-k : tie.Need-add-k
 add-k c = search needs
 
--- src/lib.rt:188:9
 has-room-requires : tie.Need-has-room-requires
 has-room-requires c κs = search needs
 
--- src/lib.rt:189:9
 same-length : tie.Need-same-length
 same-length c = search needs
 
--- src/lib.rt:189:9
 returns : tie.Need-returns
 returns c =
     let q = c in
@@ -57,7 +39,6 @@ returns c =
     let size = settlement-length (a .r) (q .before .before .before .before .before .len .ensures .0) (q .before .before .before .before .len2 .ensures .0) (q .before .before .before .outcome-length .ensures .0) in
     no-room (a .out .now) (settlementText (a .r)) (a .at) (q .before .has-room .ensures) size (q .if1 .taken)
 
--- src/lib.rt:191:5
 put-head-requires : tie.Need-put-head-requires
 put-head-requires c κs =
     let q = c .before in
@@ -66,7 +47,6 @@ put-head-requires c κs =
     let room = room-enough (a .out .now) (settlementText (a .r)) (a .at) (q .before .has-room .ensures) size (q .if1 .left) in
     (q .before .before .before .before .before .len .ensures .0, omega arith)
 
--- src/lib.rt:192:20
 add-put-batch : tie.Need-add-put-batch
 add-put-batch c =
     let q = c .before .before .before .before .before in
@@ -75,7 +55,6 @@ add-put-batch c =
     let room = room-enough (a .out .now) (settlementText (a .r)) (a .at) (q .before .has-room .ensures) size (q .if1 .left) in
     omega arith
 
--- src/lib.rt:192:5
 put-batch-requires : tie.Need-put-batch-requires
 put-batch-requires c κs =
     let q = c .before .before .before .before .before in
@@ -84,7 +63,6 @@ put-batch-requires c κs =
     let room = room-enough (a .out .now) (settlementText (a .r)) (a .at) (q .before .has-room .ensures) size (q .if1 .left) in
     (q .before .before .before .before .len2 .ensures .0, omega arith)
 
--- src/lib.rt:193:22
 add-put-outcome : tie.Need-add-put-outcome
 add-put-outcome c =
     let q = c .before .before .before .before .before .before .before .before .before in
@@ -93,7 +71,6 @@ add-put-outcome c =
     let room = room-enough (a .out .now) (settlementText (a .r)) (a .at) (q .before .has-room .ensures) size (q .if1 .left) in
     omega arith
 
--- src/lib.rt:193:5
 put-outcome-requires : tie.Need-put-outcome-requires
 put-outcome-requires c κs =
     let q = c .before .before .before .before .before .before .before .before .before in
@@ -102,7 +79,6 @@ put-outcome-requires c κs =
     let room = room-enough (a .out .now) (settlementText (a .r)) (a .at) (q .before .has-room .ensures) size (q .if1 .left) in
     omega (arith, q .before .before .before .outcome-length .ensures .0)
 
--- src/lib.rt:194:18
 add-t10 : tie.Need-add-t10
 add-t10 c =
     let q = c .before .before .before .before .before .before .before .before .before .before .before .before in
@@ -111,11 +87,9 @@ add-t10 c =
     let room = room-enough (a .out .now) (settlementText (a .r)) (a .at) (q .before .has-room .ensures) size (q .if1 .left) in
     omega arith
 
--- src/lib.rt:179:1
 same-length-2 : tie.Need-same-length-2
 same-length-2 c = search needs
 
--- src/lib.rt:179:1
 returns-2 : tie.Need-returns-2
 returns-2 c =
     let q = c .before .before .before .before .before .before .before .before .before .before .before .before in

@@ -5,9 +5,6 @@ use Rattle.codes.specs.Codes.{spelled, longText}
 use Rattle.codes.proofs.Laws.{Naming, naming-on, naming-stop, naming-end, spelled-length}
 use Rattle.codes.proofs.Code.len.Statement.{statement}
 use Rattle.codes.proofs.Code.len.Tie as tie
-use Rattle.codes.proofs.Code.len.Reads as reads
-use Rattle.codes.proofs.Code.len.Lts as lts
-use Rattle.codes.proofs.Code.byte.Reads as byte-reads
 
 abbrev Inv-loop : tie.InvT-loop
 Inv-loop self i₀ i = Naming (spelled self) i
@@ -15,36 +12,29 @@ Inv-loop self i₀ i = Naming (spelled self) i
 abbrev μ-loop : tie.MeasureT-loop
 μ-loop self i₀ i = 16 - i
 
--- src/lib.rt:113:9
 loop-holds : tie.Need-loop-holds Inv-loop μ-loop
 loop-holds c = record { inside = omega arith; same = simp zero-add }
 
--- src/lib.rt:114:16
 byte-requires : tie.Need-byte-requires Inv-loop μ-loop
 byte-requires c κs = tt
 
--- src/lib.rt:115:17
 returns : tie.Need-returns Inv-loop μ-loop
 unfolding longText
 returns c =
     let l = c .before .before .before in
     (naming-stop (l .loop .inv) (rw spelled-length (omega arith)) (c .before .byte .ensures) (c .if1 .taken), omega arith)
 
--- src/lib.rt:117:13
 add-i : tie.Need-add-i Inv-loop μ-loop
 add-i c = omega arith
 
--- src/lib.rt:113:9
 loop-less : tie.Need-loop-less Inv-loop μ-loop
 loop-less c = omega arith
 
--- src/lib.rt:113:9
 loop-again : tie.Need-loop-again Inv-loop μ-loop
 loop-again c =
     let l = c .before .before .before in
     naming-on (l .loop .inv) (rw spelled-length (omega arith)) (c .before .byte .ensures) (c .if1 .left)
 
--- src/lib.rt:108:5
 returns-2 : tie.Need-returns-2 Inv-loop μ-loop
 unfolding longText
 returns-2 c =

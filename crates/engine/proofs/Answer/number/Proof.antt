@@ -1,27 +1,19 @@
 use borrow.Author.Needs.{needs}
 use Rattle.engine.proofs.Answer.number.Statement.{statement}
 use Rattle.engine.proofs.Answer.number.Tie as tie
-use Rattle.engine.proofs.Answer.number.Reads as reads
-use Rattle.engine.proofs.Answer.number.Lts as lts
-use Rattle.chars.proofs.Refusal.number.Reads as number-reads
 
--- src/lib.rt:44:29
 enum-told : tie.Need-enum-told
 enum-told c = search needs
 
--- src/lib.rt:45:29
 enum-known-self : tie.Need-enum-known-self
 enum-known-self c = search needs
 
--- src/lib.rt:45:35
 number-requires : tie.Need-number-requires
 number-requires c κs = search needs
 
--- src/lib.rt:40:5
 returns : tie.Need-returns
 returns c = search needs
 
--- src/lib.rt:40:5
 returns-2 : tie.Need-returns-2
 returns-2 c = rw (c .before .before .self .given .1) (c .number .ensures)
 

@@ -3,7 +3,6 @@ use native.Mathlib.Omega.{arith}
 use borrow.Author.Needs.{needs}
 use Rattle.inspect.proofs.books.total.Statement.{statement}
 use Rattle.inspect.proofs.books.total.Tie as tie
-use Rattle.std.proofs.num.wrapping_add_u64.Reads as wrapping-add-u64-reads
 
 abbrev Inv-loop : tie.InvT-loop
 Inv-loop balances n sum₀ i₀ sum i = Unit {0}
