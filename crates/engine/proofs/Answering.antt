@@ -2,7 +2,7 @@
 -- take from the live messages.
 use Prim.Native.Nat.{ℕ, zero, suc, _+_, _≤_, _<_}
 use mathlib.Core.Path.{_≡_, refl, sym, ap, _∙_}
-use mathlib.Core.Bool.{Bool, true, false, _&&_, not, cond, false≢true}
+use mathlib.Core.Bool.{Bool, true, _&&_, not, cond, false≢true}
 use mathlib.Core.List.{List, [], _∷_, _++_}
 use native.Mathlib.Omega.{arith}
 use lib.Dec.{eqb}
@@ -72,7 +72,7 @@ module _ (s : State) (r : Reading) (g : Gives r) where
     there : length (placeMessages (placeAt b p)) ≡ length (x .messages)
     one : notedToday (today s) (k .references) ≡ notedToday (today s) (s .known .references) + 1
 
-  free-messages : (x : Place) → isFree x ≡ true → length (placeMessages x) ≡ 0
+  pub free-messages : (x : Place) → isFree x ≡ true → length (placeMessages x) ≡ 0
   free-messages free e = refl
   free-messages (live b) e = absurd (false≢true e)
 
@@ -113,10 +113,10 @@ module _ (s : State) (r : Reading) (g : Gives r) where
     answered = omega (arith, live-freed (s .batches .places) p, replies-length (placeMessages (placeAt (s .batches) p)) c (Rejected (numberOf f)));
     noted-today = omega arith;
   }
-  counted (recalls p y o n w) = record {
+  counted (recalls p f n w) = record {
     new = 1;
     few = omega arith;
-    answered = omega (arith, live-freed (s .batches .places) p, replies-length (placeMessages (placeAt (s .batches) p)) (bin s r) o);
+    answered = omega (arith, live-freed (s .batches .places) p, replies-length (placeMessages (placeAt (s .batches) p)) (bin s r) (Rejected (numberOf f)));
     noted-today = one-more n;
   }
   counted (completes stream b k p x j d e f) =
@@ -157,7 +157,7 @@ settled-live d b (p ∷ done) ps o h =
 -- ---- the close
 
 -- the places of the batches that the close ends, by arrival
-unfoldable closedAt : ℕ → Batches → List Entry → List ℕ
+unfoldable pub closedAt : ℕ → Batches → List Entry → List ℕ
 closedAt now b [] = []
 closedAt now b (e ∷ es) = cond (isRemembered (e .day) now) (onFound (batchOf b (e .code)) [] (λ p. p ∷ [])) [] ++ closedAt now b es
 
@@ -227,7 +227,7 @@ module _ (d : Day) (now : ℕ) (b : Batches) (bins : (p : ℕ) (x : Batch) → p
   all-tail : (e : Entry) (es : List Entry) → AllUnlike (remembered now (e ∷ es)) → AllUnlike (remembered now es)
   all-tail e es h = byBool (counts e) (λ t. let g : AllUnlike (e .code ∷ remembered now es) = rw t at h in g .1) (λ t. rw t at h)
 
-  closed-once : (es : List Entry) → AllUnlike (remembered now es) → (p : ℕ) → times p (closedAt now b es) ≤ 1
+  pub closed-once : (es : List Entry) → AllUnlike (remembered now es) → (p : ℕ) → times p (closedAt now b es) ≤ 1
   unfolding closedAt times
   closed-once [] u p = omega arith
   closed-once (e ∷ es) u p =

@@ -26,7 +26,8 @@ use Rattle.engine.specs.State.{Place, State, placePayments, paymentsAt}
 use Rattle.engine.specs.Messages.{Acted}
 use Rattle.engine.specs.Ending.{afterTest}
 use Rattle.engine.specs.Days.{opened, openingAnswer}
-use Rattle.engine.specs.Calls.{Call, Engine, isOpen, rightDay, judge, begun, act, tested, isClose, left, goesOn, closes, stepped, openedBy, performed, judged, call, cleared}
+use Rattle.engine.specs.Calls.{Call, Engine, isOpen, rightDay, judge, begun, tested, isClose, left, goesOn, closes, stepped, openedBy, performed, judged, call, cleared}
+use Rattle.engine.specs.Answered.{acted, outcome}
 use Rattle.engine.proofs.Agreement.{Faithful, true-acted, right-day, call-faithful, cleared-faithful}
 use Rattle.engine.proofs.Counting.{times-once, off-none}
 use Rattle.engine.proofs.Standing.{at-most-once, emptied-off}
@@ -35,13 +36,6 @@ use Rattle.engine.proofs.Doing.{Did, idle, limits, letters, alone, repe
 use Rattle.engine.proofs.Keeping.{Readers, Kept, acted-stood, acted-house, fresh-kept, call-kept}
 
 -- ---- the words
-
--- a call's action, and its test
-abbrev pub acted : Engine → Call → Acted
-acted e c = act (begun (e .state) (c .clock)) (c .action) (c .input)
-
-abbrev pub outcome : Engine → Call → Outcome
-outcome e c = tested (c .quick) (acted e c) (e .memory)
 
 -- the batches that a call settles, in their order: only a call with a test settles any
 abbrev pub settledBy : Answer → Action → Engine → Call → List (List Payment)
@@ -125,7 +119,7 @@ same-money s r (limits k x b l) = refl
 same-money s r (letters k x p c m w) = refl
 same-money s r (alone n y q w) = refl
 same-money s r (repeats p c f i) = refl
-same-money s r (recalls p y o n w) = refl
+same-money s r (recalls p f n w) = refl
 same-money s r (completes stream b k p x j d e f) = refl
 same-money s r (grows stream b k p x j d e) = refl
 same-money s r (rejects f b k p x j) = refl
@@ -247,6 +241,9 @@ calls-told readers (c ∷ cs) e l k f h =
 abbrev pub noLedger : Ledger
 noLedger = record { opening = replicate 64 0; gone = [] }
 
-pub demand-three : Readers → (cs : List Call) → Told cleared noLedger cs
+pub fresh-stands : Stands cleared noLedger
 unfolding broughtBy takenBy
-demand-three readers cs = calls-told readers cs cleared noLedger fresh-kept cleared-faithful (record { stuck = tt; money = λ k b. refl; total = refl })
+fresh-stands = record { stuck = tt; money = λ k b. refl; total = refl }
+
+pub demand-three : Readers → (cs : List Call) → Told cleared noLedger cs
+demand-three readers cs = calls-told readers cs cleared noLedger fresh-kept cleared-faithful fresh-stands

@@ -7,14 +7,16 @@ use mathlib.Core.List.{List, [], _∷_}
 use lib.Dec.{eqb, leb}
 use borrow.Author.Tests.{leb-true}
 use Rattle.chars.specs.Words.{bytes, member}
+use Rattle.chars.specs.Refusals.{numberOf}
 use Rattle.chars.specs.declared.Refusal.{Refusal}
+use Rattle.chars.specs.declared.Refusal.the-variants.{NothingThere, Recalled as WasRecalled, Malformed}
 use Rattle.codes.specs.declared.Code.{Code}
 use Rattle.request.specs.Request.{requestAt}
 use Rattle.request.specs.declared.Outcome.{Outcome as Read}
 use Rattle.request.specs.declared.Outcome.the-variants.{Settlement, Recall, Refused as Unread}
 use Rattle.request.specs.declared.Reading.{Reading}
-use Rattle.response.specs.declared.Outcome.{Outcome}
-use Rattle.response.specs.declared.Answer.{Answer as Told}
+use Rattle.response.specs.declared.Outcome.the-variants.{Rejected}
+use Rattle.response.specs.declared.Answer.the-variants.{Recalled, Kept}
 use Rattle.queue.specs.Promise.{limited}
 use Rattle.engine.specs.declared.Action.{Action}
 use Rattle.engine.specs.declared.Action.the-variants.{Opening, Message, SubLimit, Status, Tick, Close, ClosingBook}
@@ -51,8 +53,8 @@ module _ (s : State) (r : Reading) where
 
   -- the reply to a message that is answered at once
   pub data Alone : Reply → Type 0 where
-    refuses : (o : Outcome) → r .outcome ≡ Settlement → Alone (settlement (reference s r) (bin s r) o)
-    answers : (a : Told) → Alone (recall (reference s r) a)
+    refuses : (f : Refusal) → r .outcome ≡ Settlement → Alone (settlement (reference s r) (bin s r) (Rejected (numberOf f)))
+    answers : (f : Refusal) → Alone (recall (reference s r) (Kept (numberOf f)))
 
   pub data Did : Acted → Type 0 where
     idle : (n : Answer) → Did (leaving s n [] [] (s .batches) (s .known))
@@ -65,8 +67,8 @@ module _ (s : State) (r : Reading) where
     -- a used reference ends the batch that is being assembled
     repeats : (p : ℕ) (c : Code) (f : Refusal) → Assembling (s .batches) c p
         → Did (rejecting s f p (s .batches) (placeMessages (placeAt (s .batches) p)) c (s .known))
-    recalls : (p : ℕ) (y : Told) (o : Outcome) → New → Waiting (s .batches) (bin s r) p
-        → Did (leaving s Done (recall (reference s r) y ∷ repliesTo (placeMessages (placeAt (s .batches) p)) (bin s r) o) (place p ∷ []) (ended (s .batches) p) (noted s r))
+    recalls : (p : ℕ) (f : Refusal) → New → Waiting (s .batches) (bin s r) p
+        → Did (leaving s Done (recall (reference s r) Recalled ∷ repliesTo (placeMessages (placeAt (s .batches) p)) (bin s r) (Rejected (numberOf f))) (place p ∷ []) (ended (s .batches) p) (noted s r))
     -- the batch with the message in it is complete and waits, or grows, or is rejected
     completes : (stream : ℕ) (b : Batches) (k : Known) (p : ℕ) (x : Batch) → Joins b k p x → firstBroken (messageRules s r stream x) ≡ Done
         → isComplete s r (withMessage s r x) ≡ true → isEven s r (withMessage s r x) ≡ true → Did (leaving s Done [] (place p ∷ []) (toTail s r b (withMessage s r x) p) k)
@@ -108,7 +110,7 @@ module _ (s : State) (r : Reading) where
     unfolding settling
     did-settling stream =
         by-cond (isKnown s r)
-        (λ _. by-found (assembling (s .batches) (bin s r)) (alone _ _ (refuses _ i) n) (λ p e.
+        (λ _. by-found (assembling (s .batches) (bin s r)) (alone _ _ (refuses Malformed i) n) (λ p e.
         by-live (placeAt (s .batches) p) (idle _) (λ x f.
         did-admit (s .batches) (noted s r) p x (record { settlement = i; new = n; start = going (is-assembling (s .batches) (bin s r) p e) f }) stream)))
         (λ u. by-found (seek isFree (s .batches .places)) (idle _) (λ p e.
@@ -117,7 +119,7 @@ module _ (s : State) (r : Reading) where
 
   did-recalling : New → Did (recalling s r (noted s r))
   unfolding recalling
-  did-recalling n = by-found (waiting (s .batches) (bin s r)) (alone _ _ (answers _) n) (λ p e. recalls p _ _ n (is-waiting (s .batches) (bin s r) p e))
+  did-recalling n = by-found (waiting (s .batches) (bin s r)) (alone _ _ (answers NothingThere) n) (λ p e. recalls p WasRecalled n (is-waiting (s .batches) (bin s r) p e))
 
   did-housed : (o : Read) (stream : ℕ) → r .outcome ≡ o → isUsed (today s) (reference s r) (s .known .references) ≡ false → Did (housed s r o stream)
   did-housed Settlement stream i u =

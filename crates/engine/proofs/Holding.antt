@@ -171,7 +171,7 @@ module _ (s : State) (r : Reading) where
   still-queued (letters k x p c m w) q h = omega arith
   still-queued (alone n y i w) q h = omega arith
   still-queued (repeats p c f i) q h = omega (arith, ended-queue (s .batches) p q (h p refl))
-  still-queued (recalls p y o n w) q h = omega (arith, ended-queue (s .batches) p q (h p refl))
+  still-queued (recalls p f n w) q h = omega (arith, ended-queue (s .batches) p q (h p refl))
   still-queued (completes stream b k p x j d e f) q h = omega (arith, ap (times q) (start-queue (j .start)), tail-queue b (withMessage s r x) p q)
   still-queued (grows stream b k p x j d e) q h = omega (arith, ap (times q) (start-queue (j .start)))
   still-queued (rejects f b k p x j) q h = omega (arith, ap (times q) (start-queue (j .start)), ended-queue b p q (h p refl))

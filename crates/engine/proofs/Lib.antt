@@ -26,3 +26,11 @@ pub mod Output
 pub mod Holding
 pub mod OnlyNoted
 pub mod Replying
+pub mod Awaiting
+pub mod Ending
+pub mod Once
+pub mod ReadBack
+pub mod Reading
+pub mod Promises
+pub mod ShutOut
+pub mod ClosingBook

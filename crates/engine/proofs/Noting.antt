@@ -1,5 +1,5 @@
 -- Remembered references and BINs: a new entry in the lowest free place keeps the rules.
-use Prim.Native.Nat.{ℕ, zero, suc, _+_, _-_, _≤_, _<_}
+use Prim.Native.Nat.{ℕ, zero, suc, _+_, _≤_, _<_}
 use mathlib.Core.Path.{_≡_, refl, sym, subst, _∙_}
 use mathlib.Core.Logic.{inl, inr}
 use mathlib.Core.Bool.{Bool, true, false, _||_, _&&_, not, false≢true}
@@ -16,6 +16,7 @@ use Rattle.engine.specs.Memory.{holds, isUsed, isVacant, vacant, note}
 use Rattle.engine.specs.Messages.{isThere}
 use Rattle.request.specs.declared.Reading.{Reading}
 use Rattle.engine.specs.Rules.{Each, RightEntry, remembered, Unlike, AllUnlike, has, notedToday}
+use Rattle.engine.specs.Answered.{timesIn, notedOn}
 use Rattle.engine.proofs.Truth.{or-right, or-false, and-true}
 use Rattle.engine.proofs.Seeking.{each-set, seek-answers, byFound}
 
@@ -53,6 +54,7 @@ pub record Noted (today : ℕ) (code : Code) (es l : List Entry) : Type 0 where
   pub entries : (is : Code → Bool) (last : ℕ) → is code ≡ true → today ≤ last → Each (RightEntry is last) es → Each (RightEntry is last) l
   pub once : isUsed today code es ≡ false → AllUnlike (remembered today es) → AllUnlike (remembered today l)
   pub one-more : notedToday today l ≡ notedToday today es + 1
+  pub this-more : (x : Code) → timesIn x (notedOn today l) ≡ timesIn x (notedOn today es) + timesIn x (code ∷ [])
   pub stays : (c : Code) → has c (remembered today es) ≡ true → has c (remembered today l) ≡ true
   pub there : has code (remembered today l) ≡ true
 
@@ -124,6 +126,16 @@ module _ (today : ℕ) (code : Code) (named : sameCode code noCode ≡ false) wh
   noted-set (x ∷ es) zero l v = rw (free-unnoted x v, named, eq-eqb today today refl) (omega arith)
   noted-set (x ∷ es) (suc p) l v = omega (arith, noted-set es p (omega arith) v)
 
+  on-set : (z : Code) (es : List Entry) (p : ℕ) → p < length es → isVacant today (getD es p noEntry) ≡ true
+      → timesIn z (notedOn today (set es p new)) ≡ timesIn z (notedOn today es) + timesIn z (code ∷ [])
+  unfolding notedOn timesIn
+  on-set z [] p l v = absurd (omega arith)
+  on-set z (x ∷ es) zero l v = rw (free-unnoted x v, named, eq-eqb today today refl) (omega arith)
+  on-set z (x ∷ es) (suc p) l v =
+      byBool (not (sameCode (x .code) noCode) && eqb (x .day) today)
+      (λ e. rw e (omega (arith, on-set z es p (omega arith) v)))
+      (λ e. rw e (omega (arith, on-set z es p (omega arith) v)))
+
   -- what was remembered still is, and so is the new one
   or-left : (u v : Bool) → u ≡ true → (u || v) ≡ true
   or-left true v e = refl
@@ -163,6 +175,7 @@ module _ (today : ℕ) (code : Code) (named : sameCode code noCode ≡ false) wh
         entries = λ is last i l h. each-set (RightEntry is last) es p new h (inr (i, l));
         once = λ u h. all-set es p (f .inside) (f .yes) u h;
         one-more = noted-set es p (f .inside) (f .yes);
+        this-more = λ x. on-set x es p (f .inside) (f .yes);
         stays = λ c h. has-set c es p (f .inside) (f .yes) h;
         there = has-new es p (f .inside);
       }

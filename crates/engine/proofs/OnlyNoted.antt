@@ -13,21 +13,17 @@ use Rattle.response.specs.declared.Outcome.{Outcome}
 use Rattle.response.specs.declared.Outcome.the-variants.{Settled, Rejected}
 use Rattle.queue.proofs.MemoryLaws.{byBool}
 use Rattle.engine.specs.State.{Day, Message, Batch, Place, free, live, Batches, Known, Entry, State, placeAt, placeMessages, placeBin, batchOf}
-use Rattle.engine.specs.Replies.{Reply, settlement, recall, repliesTo}
+use Rattle.engine.specs.Replies.{Reply, repliesTo}
 use Rattle.engine.specs.Messages.{Acted, today, reference, bin, arrived, firstBatch, noted, ended, withMessage}
 use Rattle.engine.specs.Changes.{relettered, withLetter}
 use Rattle.engine.specs.Ending.{emptied, settledReplies, closeReplies}
 use Rattle.engine.specs.Rules.{Each, remembered, has}
+use Rattle.engine.specs.Answered.{replyTo}
 use Rattle.engine.proofs.Seeking.{byFound}
 use Rattle.engine.proofs.Settling.{each-append}
 use Rattle.engine.proofs.Admitting.{Gives, each-last}
 use Rattle.engine.proofs.Remembering.{reference-noted}
 use Rattle.engine.proofs.Doing.{New, Alone, refuses, answers, Start, going, begun, Did, idle, limits, letters, alone, repeats, recalls, completes, grows, rejects}
-
--- the reference that a reply is to
-abbrev pub replyTo : Reply → Code
-replyTo (settlement r b o) = r
-replyTo (recall r a) = r
 
 -- replies, and the messages of a place, whose references are remembered
 abbrev pub AllNoted : List Code → List Reply → Type 0
@@ -103,14 +99,14 @@ module _ (s : State) (r : Reading) (g : Gives r) where
     live-noted (letters k x p c m w) = live-put (rem (s .known)) (s .batches .places) p _ h (letter-place (rem (s .known)) k x (placeAt (s .batches) p) (h p))
     live-noted (alone n y q w) = later w
     live-noted (repeats p c f i) = live-put (rem (s .known)) (s .batches .places) p free h tt
-    live-noted (recalls p y o n w) = live-put (rem (noted s r)) (s .batches .places) p free (later n) tt
+    live-noted (recalls p f n w) = live-put (rem (noted s r)) (s .batches .places) p free (later n) tt
     live-noted (completes stream b k p x j d e f) = let i = begins (j .new) (j .start) in live-put (rem k) (b .places) p (live (withMessage s r x)) (i .all) (with-this i)
     live-noted (grows stream b k p x j d e) = let i = begins (j .new) (j .start) in live-put (rem k) (b .places) p (live (withMessage s r x)) (i .all) (with-this i)
     live-noted (rejects f b k p x j) = live-put (rem k) (b .places) p free (begins (j .new) (j .start) .all) tt
 
     alone-to : {y : Reply} → Alone s r y → replyTo y ≡ reference s r
-    alone-to (refuses o i) = refl
-    alone-to (answers a) = refl
+    alone-to (refuses f i) = refl
+    alone-to (answers f) = refl
 
     pub acted-noted : {a : Acted} → Did s r a → AllNoted (rem (a .known)) (a .replies)
     acted-noted (idle n) = tt
@@ -118,7 +114,7 @@ module _ (s : State) (r : Reading) (g : Gives r) where
     acted-noted (letters k x p c m w) = tt
     acted-noted (alone n y q w) = (rw (alone-to q) (own w), tt)
     acted-noted (repeats p c f i) = replies-noted (rem (s .known)) (placeMessages (placeAt (s .batches) p)) c _ (h p)
-    acted-noted (recalls p y o n w) = (own n, replies-noted (rem (noted s r)) (placeMessages (placeAt (s .batches) p)) (bin s r) o (later n p))
+    acted-noted (recalls p f n w) = (own n, replies-noted (rem (noted s r)) (placeMessages (placeAt (s .batches) p)) (bin s r) _ (later n p))
     acted-noted (completes stream b k p x j d e f) = tt
     acted-noted (grows stream b k p x j d e) = tt
     acted-noted (rejects f b k p x j) = replies-noted (rem k) (withMessage s r x .messages) (x .bin) _ (with-this (begins (j .new) (j .start)))

@@ -1,5 +1,5 @@
 -- The output never needs more than 33,705 bytes; a closing book no more than its own length.
-use Prim.Native.Nat.{_+_, _≤_}
+use Prim.Native.Nat.{_+_, _≤_, _<_}
 use mathlib.Core.Path.{_≡_, refl}
 use mathlib.Core.Bool.{Bool, true, false, cond}
 use mathlib.Core.List.{List, [], _∷_, _++_}
@@ -22,7 +22,7 @@ use Rattle.engine.proofs.Doing.{did}
 use Rattle.engine.proofs.Settling.{each-append}
 use Rattle.engine.proofs.Keeping.{Readers, begun-stood, acted-stood, tested-stood}
 use Rattle.engine.proofs.Fitting.{Fits, texts-fit, acted-fit, settled-fit, close-fit, few-messages}
-use Rattle.engine.proofs.Validity.{k, open-in, acted-counted, left-answered, close-answered, call-valid}
+use Rattle.engine.proofs.Validity.{k, right-clock, open-in, acted-counted, left-answered, close-answered, call-valid}
 
 module _ (readers : Readers) (e : Engine) (c : Call) (v : Valid (e .state)) where
   abbrev s : State
@@ -34,32 +34,37 @@ module _ (readers : Readers) (e : Engine) (c : Call) (v : Valid (e .state)) wher
   abbrev o : Outcome
   o = tested (c .quick) a (e .memory)
 
-  replies-right : Each (λ y. Fits y) (replies s a o)
-  unfolding replies
-  replies-right =
-      each-append (s .house .banks) (λ y. Fits y) (a .replies) (settledReplies (s .day) (a .batches) (o .done))
-      (acted-fit s (begun-stood readers e c (k readers e c v)) (requestAt (c .input)) (readers .texts (c .input)) (did s (c .action) (c .input)))
-      (settled-fit (s .house .banks) (a .batches) (acted-stood readers e c (k readers e c v)) (s .day) (o .done))
-
   last-right : Each (λ y. Fits y) (lastReplies s a o)
   unfolding lastReplies
   last-right = close-fit (s .house .banks) (left s a o) (tested-stood readers e c (k readers e c v)) _ (a .known .bins)
 
-  module _ (h : Opened (e .state)) where
+  module _ (h : Opened (e .state)) (t : c .clock < 86400) where
+    replies-right : Each (λ y. Fits y) (replies s a o)
+    unfolding replies begun
+    replies-right =
+        each-append (s .house .banks) (λ y. Fits y) (a .replies) (settledReplies (s .day) (a .batches) (o .done))
+        (acted-fit s (begun-stood readers e c (k readers e c v)) (requestAt (c .input)) (readers .texts (c .input)) (did s (c .action) (c .input)))
+        (settled-fit (s .house .banks) (a .batches) (acted-stood readers e c (k readers e c v)) (s .day) (h .date) t (o .done))
+
+    -- all replies of a call with a test have values that a text can hold
+    pub stepped-right : (u : Bool) → Each (λ y. Fits y) (cond u (replies s a o ++ lastReplies s a o) (replies s a o))
+    stepped-right true = each-append (s .house .banks) (λ y. Fits y) (replies s a o) (lastReplies s a o) replies-right last-right
+    stepped-right false = replies-right
+
     -- "at most 321 texts"
     few-texts : length (replies s a o) + length (lastReplies s a o) ≤ 321
     few-texts =
         let n = acted-counted readers e c v h in
         omega (arith, left-answered readers e c v h, close-answered readers e c v h, n .few, few-messages (s .house .banks) (s .batches) (begun-stood readers e c (k readers e c v)))
 
-    ends-out : (t : Bool) → length (cond t (closes s a o) (goesOn s a o) .out) ≤ 33705
+    ends-out : (u : Bool) → length (cond u (closes s a o) (goesOn s a o) .out) ≤ 33705
     unfolding closes goesOn
     ends-out true =
         omega (
           arith,
           few-texts,
           length-append (replies s a o) (lastReplies s a o),
-          texts-fit (s .day .texts) (replies s a o ++ lastReplies s a o) (each-append (s .house .banks) (λ y. Fits y) (replies s a o) (lastReplies s a o) replies-right last-right),
+          texts-fit (s .day .texts) (replies s a o ++ lastReplies s a o) (stepped-right true),
         )
     ends-out false = omega (arith, few-texts, texts-fit (s .day .texts) (replies s a o) replies-right)
 
@@ -71,17 +76,17 @@ module _ (readers : Readers) (e : Engine) (c : Call) (v : Valid (e .state)) wher
   opened-out Done = omega arith
   opened-out (Refused r) = omega arith
 
-  performed-out : (z : Action) → rightDay z (e .state .day) ≡ true → length (performed z e c .out) ≤ roomNeeded z (e .state)
-  performed-out Opening i = opened-out (openingAnswer (e .state .day) (c .input))
-  performed-out (Message n) i = stepped-out (open-in (e .state) (e .state .day .phase) v i)
-  performed-out (SubLimit n x) i = stepped-out (open-in (e .state) (e .state .day .phase) v i)
-  performed-out (Status n b l) i = stepped-out (open-in (e .state) (e .state .day .phase) v i)
-  performed-out Tick i = stepped-out (open-in (e .state) (e .state .day .phase) v i)
-  performed-out Close i = stepped-out (open-in (e .state) (e .state .day .phase) v i)
-  performed-out (ClosingBook d) i = omega arith
+  performed-out : (z : Action) → c .clock < 86400 → rightDay z (e .state .day) ≡ true → length (performed z e c .out) ≤ roomNeeded z (e .state)
+  performed-out Opening t i = opened-out (openingAnswer (e .state .day) (c .input))
+  performed-out (Message n) t i = stepped-out (open-in (e .state) (e .state .day .phase) v i) t
+  performed-out (SubLimit n x) t i = stepped-out (open-in (e .state) (e .state .day .phase) v i) t
+  performed-out (Status n b l) t i = stepped-out (open-in (e .state) (e .state .day .phase) v i) t
+  performed-out Tick t i = stepped-out (open-in (e .state) (e .state .day .phase) v i) t
+  performed-out Close t i = stepped-out (open-in (e .state) (e .state .day .phase) v i) t
+  performed-out (ClosingBook d) t i = omega arith
 
   judged-out : (r : Answer) → judge (e .state) c ≡ r → length (judged r e c .out) ≤ roomNeeded (c .action) (e .state)
-  judged-out Done i = performed-out (c .action) (right-day (e .state) c i)
+  judged-out Done i = performed-out (c .action) (right-clock (e .state) c i) (right-day (e .state) c i)
   judged-out (Refused r) i = omega arith
 
   -- what a call writes is no more than what it asked room for

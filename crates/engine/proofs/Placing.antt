@@ -1,7 +1,7 @@
 -- Every action keeps the rules of the batch places and of the house.
 use Prim.Native.Nat.{ℕ, _<_}
 use mathlib.Core.Path.{_≡_, refl, sym, _∙_}
-use mathlib.Core.Bool.{true, false, false≢true}
+use mathlib.Core.Bool.{true, false≢true}
 use mathlib.Core.List.{[], _∷_}
 use native.Mathlib.Omega.{arith}
 use lib.Dec.{eqb}
@@ -96,7 +96,7 @@ module _ (s : State) (h : Stood (s .house .banks) (s .batches)) where
   places-kept r (letters k x p c m w) v = put-letter k x p m (w .there .inside)
   places-kept r (alone n y q w) v = h
   places-kept r (repeats p c f i) v = ends p
-  places-kept r (recalls p y o n w) v = ends p
+  places-kept r (recalls p f n w) v = ends p
   places-kept r (completes stream b k p x j d e f) v =
       let g = v (j .settlement) in
       tail-stood (s .house .banks) b p (around r (j .start)) (withMessage s r x) (message-right s r stream x (starts r g (j .start)) g d) s r
@@ -115,7 +115,7 @@ house-kept s r (limits k x b l) h = house-limited (s .house) (s .books) k x h b 
 house-kept s r (letters k x p c m w) h = h
 house-kept s r (alone n y q w) h = h
 house-kept s r (repeats p c f i) h = h
-house-kept s r (recalls p y o n w) h = h
+house-kept s r (recalls p f n w) h = h
 house-kept s r (completes stream b k p x j d e f) h = h
 house-kept s r (grows stream b k p x j d e) h = h
 house-kept s r (rejects f b k p x j) h = h

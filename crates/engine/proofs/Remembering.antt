@@ -57,7 +57,7 @@ unlike-has c d l u h = byBool (sameCode c d) (λ e. absurd (false≢true (sym (u
 module _ (s : State) (r : Reading) (g : Gives r) where
   -- ---- references
 
-  named-reference : New s r → isReference (reference s r) ≡ true
+  pub named-reference : New s r → isReference (reference s r) ≡ true
   named-reference n = go (n .read)
     where
       go : (r .outcome ≡ Settlement) ⊎ (r .outcome ≡ Recall) → isReference (reference s r) ≡ true
@@ -105,7 +105,7 @@ module _ (s : State) (r : Reading) (g : Gives r) where
     known-kept (letters k x p c m w) = h
     known-kept (alone n y q w) = noted-right w
     known-kept (repeats p c f i) = h
-    known-kept (recalls p y o n w) = noted-right n
+    known-kept (recalls p f n w) = noted-right n
     known-kept (completes stream b k p x j d e f) = joins-right j
     known-kept (grows stream b k p x j d e) = joins-right j
     known-kept (rejects f b k p x j) = joins-right j
@@ -148,7 +148,7 @@ module _ (s : State) (r : Reading) (g : Gives r) where
     bins-kept (letters k x p c m w) = binned-same (rem (s .known)) (s .batches .places) p _ h (letter-bin k x (placeAt (s .batches) p))
     bins-kept (alone n y q w) = h
     bins-kept (repeats p c f i) = none-live (rem (s .known)) (s .batches .places) p h
-    bins-kept (recalls p y o n w) = none-live (rem (s .known)) (s .batches .places) p h
+    bins-kept (recalls p f n w) = none-live (rem (s .known)) (s .batches .places) p h
     bins-kept (completes stream b k p x j d e f) = let i = start-binned (j .settlement) (j .start) in bin-stays (rem k) (b .places) p x (i .binned) (i .there)
     bins-kept (grows stream b k p x j d e) = let i = start-binned (j .settlement) (j .start) in bin-stays (rem k) (b .places) p x (i .binned) (i .there)
     bins-kept (rejects f b k p x j) = none-live (rem k) (b .places) p (start-binned (j .settlement) (j .start) .binned)

@@ -1,5 +1,5 @@
 -- The texts of a call, and to whom: over any calls from a fresh start each text answers a reference that is remembered.
-use Prim.Native.Nat.{ℕ, zero, suc, _+_}
+use Prim.Native.Nat.{ℕ, zero, suc}
 use mathlib.Core.Path.{_≡_, refl}
 use mathlib.Core.Bool.{Bool, true, false, cond}
 use mathlib.Core.List.{List, [], _∷_, _++_}
@@ -20,35 +20,14 @@ use Rattle.engine.specs.Ending.{afterTest, settledReplies}
 use Rattle.engine.specs.Days.{openingAnswer, opened, closingText}
 use Rattle.engine.specs.Calls.{Call, Engine, isOpen, rightDay, judge, begun, isClose, replies, left, lastReplies, goesOn, closes, stepped, openedBy, performed, judged, call, cleared}
 use Rattle.engine.specs.Rules.{remembered, has}
+use Rattle.engine.specs.Answered.{acted, outcome, steppedReplies, repliesBy, repliesOf, replyTo}
 use Rattle.engine.proofs.Agreement.{right-day}
 use Rattle.engine.proofs.Settling.{each-append}
 use Rattle.engine.proofs.Doing.{did}
-use Rattle.engine.proofs.OnlyNoted.{replyTo, AllNoted, LiveNoted, live-noted, acted-noted, emptied-noted, settled-noted, close-noted}
-use Rattle.engine.proofs.Demand.{acted, outcome}
+use Rattle.engine.proofs.OnlyNoted.{AllNoted, LiveNoted, live-noted, acted-noted, emptied-noted, settled-noted, close-noted}
 use Rattle.engine.proofs.Keeping.{Readers, Kept, fresh-kept, call-kept}
 
 -- ---- the words
-
--- the replies of a call with a test: its action's, the test's, and at the close the last ones
-abbrev pub steppedReplies : Engine → Call → List Reply
-steppedReplies e c =
-    let s : State = begun (e .state) (c .clock) in
-    cond (isClose (c .action))
-    (replies s (acted e c) (outcome e c) ++ lastReplies s (acted e c) (outcome e c))
-    (replies s (acted e c) (outcome e c))
-
-abbrev pub repliesBy : Answer → Action → Engine → Call → List Reply
-repliesBy (Refused r) x e c = []
-repliesBy Done Opening e c = []
-repliesBy Done (Message n) e c = steppedReplies e c
-repliesBy Done (SubLimit k v) e c = steppedReplies e c
-repliesBy Done (Status k b l) e c = steppedReplies e c
-repliesBy Done Tick e c = steppedReplies e c
-repliesBy Done Close e c = steppedReplies e c
-repliesBy Done (ClosingBook d) e c = []
-
-unfoldable pub repliesOf : Engine → Call → List Reply
-repliesOf e c = repliesBy (judge (e .state) c) (c .action) e c
 
 -- the references that are remembered
 abbrev pub noted : State → List Code

@@ -99,7 +99,7 @@ told r = line (answerNumber (r .answer)) (r .out) (r .tries) (take 2 (r .engine 
 -- ---- a day: parts out of order, a reference used twice, a batch held, a status change, an omitted try, a recall, a stranger with a used
 -- reference, a changed sub-limit, a close with a batch left, the closing book
 
-abbrev calls : List Call
+abbrev pub calls : List Call
 calls =
     asked 9 0 0 Opening (book 9895 (bank "AAAA" 10000000 3000000 ∷ bank "BBBB" 0 0 ∷ []))
     ∷ asked 10 0 0 (Message 5) (request "R2" "PROP0001" "02/02" ":127:CR\r\n:32B:AUD500,00\r\n:102:BBBB\r\n:203:1\r\n")
@@ -146,7 +146,7 @@ oneLine = ":127:DR\r\n:32B:AUD1,\r\n:113:AAA \r\n:102:AAAA\r\n:203:1\r\n"
 abbrev after : (time lines : String) → List ℕ
 after time lines = bytes ":175:" ++ (bytes time ++ (bytes "\r\n" ++ bytes lines))
 
-abbrev timed : (reference bin time : String) → List ℕ
+abbrev pub timed : (reference bin time : String) → List ℕ
 timed reference bin time = request reference bin "01/01" "" ++ after time twoLines
 
 abbrev calls₂ : List Call

@@ -72,7 +72,7 @@ open-in s Fresh v h = absurd (false≢true h)
 open-in s Open v h = v
 open-in s Closed v h = absurd (false≢true h)
 
-closed-in : (s : State) (p : Phase) → ValidIn p s → isClosed p ≡ true → Opened s × Idle s
+pub closed-in : (s : State) (p : Phase) → ValidIn p s → isClosed p ≡ true → Opened s × Idle s
 closed-in s Fresh v h = absurd (false≢true h)
 closed-in s Open v h = absurd (false≢true h)
 closed-in s Closed v h = v
@@ -82,7 +82,7 @@ closed-phase Fresh h = absurd (false≢true h)
 closed-phase Open h = absurd (false≢true h)
 closed-phase Closed h = refl
 
-known-in : (s : State) (p : Phase) → ValidIn p s → RightKnown (s .day .date) (s .known)
+pub known-in : (s : State) (p : Phase) → ValidIn p s → RightKnown (s .day .date) (s .known)
 known-in s Fresh v = rw v fresh-known
 known-in s Open v = v .known
 known-in s Closed v = v .0 .known
@@ -109,7 +109,7 @@ right-clock s c h =
 -- ---- one call
 
 -- a live batch has a BIN
-standing-bin : (banks : ℕ) {y : Place} {m n : ℕ} (x : Batch) → y ≡ live x → Standing banks y m n → isBin (x .bin) ≡ true
+pub standing-bin : (banks : ℕ) {y : Place} {m n : ℕ} (x : Batch) → y ≡ live x → Standing banks y m n → isBin (x .bin) ≡ true
 standing-bin banks x e vacant = let z : _≡_ {A = ℕ} 0 1 = cc in absurd (omega arith)
 standing-bin banks x e (building {b = b} r l) = let d : b ≡ x = cc in rw (sym d) (r .bin)
 standing-bin banks x e (awaits {b = b} r c g) = let d : b ≡ x = cc in rw (sym d) (r .bin)
@@ -138,14 +138,14 @@ module _ (readers : Readers) (e : Engine) (c : Call) (v : Valid (e .state)) wher
     acted-binned =
         bins-kept s (requestAt (c .input)) (readers .texts (c .input)) (binned _ (e .state .batches .places) (h .bins-differ) (h .bins-remembered)) (did s (c .action) (c .input))
 
-    left-binned : Binned (remembered (today s) (a .known .bins)) (left s a o .places)
+    pub left-binned : Binned (remembered (today s) (a .known .bins)) (left s a o .places)
     unfolding left afterTest
     left-binned = bins-emptied _ (o .done) (a .batches .places) acted-binned
 
     pub acted-counted : Counted s a
     acted-counted = counted s (requestAt (c .input)) (readers .texts (c .input)) (did s (c .action) (c .input))
 
-    done-once : (p : ℕ) → times p (o .done) ≤ 1
+    pub done-once : (p : ℕ) → times p (o .done) ≤ 1
     unfolding tested
     done-once p =
         omega (arith, test-times (c .quick) (paymentsAt (a .batches)) (fuel (a .batches .queue)) p (a .books) (woken (a .wakes) (e .memory)) (a .batches .queue), at-most-once (s .house .banks) (acted-stood readers e c k .each p))
@@ -156,7 +156,7 @@ module _ (readers : Readers) (e : Engine) (c : Call) (v : Valid (e .state)) wher
     left-answered =
         omega (arith, length-append (a .replies) (settledReplies (s .day) (a .batches) (o .done)), settled-live (s .day) (a .batches) (o .done) (a .batches .places) done-once (λ p l. refl), acted-counted .answered)
 
-    room-today : e .state .day .texts + liveMessages (s .batches .places) + acted-counted .new ≤ notedToday (today s) (a .known .references)
+    pub room-today : e .state .day .texts + liveMessages (s .batches .places) + acted-counted .new ≤ notedToday (today s) (a .known .references)
     unfolding begun join
     room-today = omega (arith, h .answered, acted-counted .noted-today)
 
@@ -213,7 +213,7 @@ module _ (readers : Readers) (e : Engine) (c : Call) (v : Valid (e .state)) wher
       unfolding stepped
       stepped-valid i = ends-valid (isClose (c .action)) i
 
-  later : openingAnswer (e .state .day) (c .input) ≡ Done → isLater (e .state .day) (dayIn (c .input)) ≡ true
+  pub later : openingAnswer (e .state .day) (c .input) ≡ Done → isLater (e .state .day) (dayIn (c .input)) ≡ true
   unfolding openingAnswer
   later d = is-later (bookCheck (c .input)) (isLater (e .state .day) (dayIn (c .input))) WrongMoment d
 

@@ -9,3 +9,4 @@ pub mod Ending
 pub mod Days
 pub mod Calls
 pub mod Rules
+pub mod Answered

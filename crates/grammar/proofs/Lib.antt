@@ -1,2 +1,4 @@
+pub mod Meanings
 pub mod Payments
 pub mod Request
+pub mod Values

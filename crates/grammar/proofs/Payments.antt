@@ -1,5 +1,5 @@
 -- The payments of a request as a grammar.
-use Prim.Native.Nat.{ℕ, zero, suc, _+_, _≤_}
+use Prim.Native.Nat.{ℕ, zero, suc, _+_, _≤_, _<_}
 use mathlib.Core.Path.{_≡_, refl, ap, sym, subst, _∙_}
 use mathlib.Core.List.{List, _++_}
 use mathlib.Core.Bool.{Bool, true, false, cond}
@@ -7,8 +7,10 @@ use mathlib.Core.Logic.{_⊎_, inl, inr}
 use native.Mathlib.Omega.{arith}
 use borrow.Author.Tests.{eq-eqb, ne-eqb, eqb-true, eqb-false}
 use lib.Dec.{eqb}
-use lib.ListN.{length, drop, set}
+use lib.ListN.{length, getD, drop, set, length-set}
+use lib.Seq.{getD-set-same, getD-set-other}
 use Rattle.chars.specs.Words.{bytes}
+use Rattle.codes.specs.Codes.{packed}
 use Rattle.scan.specs.Scan.{onNext, crlf, begins, litAt}
 use Rattle.scan.specs.declared.At.{At}
 use Rattle.scan.specs.declared.At.the-variants.{Next, No}
@@ -32,6 +34,7 @@ use Rattle.payments.specs.declared.Paid.{Paid}
 use Rattle.payments.specs.declared.Paid.the-variants.{One, Unpaid}
 use Rattle.payments.specs.declared.Ending.the-variants.{Done, Cut}
 use Rattle.payments.specs.declared.Payments.{Payments}
+use Rattle.grammar.proofs.Meanings.{number-is, centsIn, LineRead, line-read}
 
 -- "127, 32B, 113, 102: one payment .. 113 stands after DR and never after CR": l is a payment, and then r
 pub data PaymentText : List ℕ → List ℕ → Type 0 where
@@ -42,6 +45,26 @@ pub data PaymentText : List ℕ → List ℕ → Type 0 where
 pub data PaymentsText : ℕ → List ℕ → List ℕ → Type 0 where
   none-left : {r : List ℕ} → PaymentsText 0 r r
   one-more : {k : ℕ} {l m r : List ℕ} → PaymentText l m → PaymentsText k m r → PaymentsText (suc k) l r
+
+-- the numbers of a payment: "127 is `CR` or `DR`", 0 and 1; a credit has no letters
+pub record PaymentIs (side cents letters bank : ℕ) (p : Payment) : Type 0 where
+  pub side-is : p .side .number ≡ side
+  pub cents-are : p .amount .number ≡ cents
+  pub letters-are : p .letters .number ≡ letters
+  pub bank-is : p .bank .number ≡ bank
+
+-- what a payment says, by its text
+abbrev pub PaymentSays : {l r : List ℕ} → PaymentText l r → Payment → Type 0
+PaymentSays (credit g₁ g₂ g₃) p = PaymentIs 0 (centsIn (g₂ .is)) 0 (packed 4 (g₃ .value)) p
+PaymentSays (debit g₁ g₂ g₃ g₄) p = PaymentIs 1 (centsIn (g₂ .is)) (packed 4 (g₃ .value)) (packed 4 (g₄ .value)) p
+
+abbrev pub noPayment : Payment
+noPayment = payment nothing nothing nothing nothing
+
+-- and so many of them, which stand in a list from a place on
+abbrev pub PaymentsSay : {k : ℕ} {l r : List ℕ} → ℕ → PaymentsText k l r → List Payment → Type 0
+PaymentsSay n none-left items = Unit {0}
+PaymentsSay n (one-more p q) items = PaymentSays p (getD items n noPayment) × PaymentsSay (n + 1) q items
 
 -- what a fixed string is not, from its first bytes
 pub not-there : (s : List ℕ) (at : ℕ) (p q r : List ℕ) → drop at s ≡ q ++ r → begins p (q ++ r) ≡ false → litAt s at p ≡ No
@@ -56,9 +79,6 @@ side-cr s at r h = simp (lit-reads s at (bytes "CR") r h)
 side-dr : (s : List ℕ) (at : ℕ) (r : List ℕ) → drop at s ≡ bytes "DR" ++ r → sideAt s at ≡ Read 1 (at + 2)
 unfolding sideAt begins
 side-dr s at r h = simp (not-there s at (bytes "CR") (bytes "DR") r h refl, lit-reads s at (bytes "DR") r h)
-
-pub number-is : {v : Value} {x y d e : ℕ} → v ≡ Read x d → v ≡ Read y e → x ≡ y
-number-is p q = cc
 
 -- complete
 pub record Paying (s : List ℕ) (at : ℕ) (r : List ℕ) : Type 0 where
@@ -145,11 +165,18 @@ on-field {A} s at tag k f {p} {c} h g = go (fieldAt s at tag k) refl h
     go (Good i d) q h = g i d q h
     go (Bad b) q h = unpaid h
 
-bank-sound : (s : List ℕ) (at : ℕ) (side amount letters : Item) {p : Payment} {c : Cursor} → bankAt s at side amount letters ≡ One p c → Line (bytes ":102:") (IsWord 4) (drop at s) (drop (c .at) s)
+record BankStands (s : List ℕ) (at : ℕ) (side amount letters : Item) (p : Payment) (c : Cursor) : Type 0 where
+  line : Line (bytes ":102:") (IsWord 4) (drop at s) (drop (c .at) s)
+  bank : Item
+  is : p ≡ payment side amount letters bank
+  number : bank .number ≡ packed 4 (line .value)
+
+bank-sound : (s : List ℕ) (at : ℕ) (side amount letters : Item) {p : Payment} {c : Cursor} → bankAt s at side amount letters ≡ One p c → BankStands s at side amount letters p c
 unfolding bankAt
 bank-sound s at side amount letters {p} {c} h = on-field s at (bytes ":102:") (Word 4) (λ bank d. One (payment side amount letters bank) d) h (λ i d q r.
     let z : d ≡ c = cc in
-    rw (← z) (line-sound s at (bytes ":102:") (Word 4) q))
+    let g = line-read s at (bytes ":102:") (Word 4) 0 (omega arith) (q ∙ ap (Good i) z) in
+    record { line = g .line; bank = i; is = cc; number = g .means refl })
 
 no-field : {A : Type 0} {b : Break} {i : Item} {c : Cursor} → Bad b ≡ Good i c → A
 no-field h = let z : _≡_ {A = ℕ} 0 1 = cc in absurd (omega arith)
@@ -190,29 +217,46 @@ side-sound s at i d q = go (g .is)
     go (inl e) = inl (record { value = g .value; text = g .text; is = e }, number-is (field-value s at (bytes ":127:") Side q .0) (side-cr s (at + 5) (crlf ++ drop (d .at) s) (here ∙ ap (λ (l : List ℕ). l ++ (crlf ++ drop (d .at) s)) e)))
     go (inr e) = inr (record { value = g .value; text = g .text; is = e }, number-is (field-value s at (bytes ":127:") Side q .0) (side-dr s (at + 5) (crlf ++ drop (d .at) s) (here ∙ ap (λ (l : List ℕ). l ++ (crlf ++ drop (d .at) s)) e)))
 
-payment-sound : (s : List ℕ) (at : ℕ) {p : Payment} {c : Cursor} → paymentAt s at ≡ One p c → PaymentText (drop at s) (drop (c .at) s)
+record PaymentStands (s : List ℕ) (at : ℕ) (p : Payment) (c : Cursor) : Type 0 where
+  text : PaymentText (drop at s) (drop (c .at) s)
+  says : PaymentSays text p
+
+payment-sound : (s : List ℕ) (at : ℕ) {p : Payment} {c : Cursor} → paymentAt s at ≡ One p c → PaymentStands s at p c
 unfolding paymentAt creditAt debitAt
 payment-sound s at {p} {c} h = on-field s at (bytes ":127:") Side _ h (λ i d q₁ r₁.
-    on-field s (d .at) (bytes ":32B:") Amount _ r₁ (λ m e q₂ r₂. go i d m e (side-sound s at i d q₁) (line-sound s (d .at) (bytes ":32B:") Amount q₂) (eqb (i .number) 0) refl r₂))
+    on-field s (d .at) (bytes ":32B:") Amount _ r₁ (λ m e q₂ r₂. go i d m e (side-sound s at i d q₁) (line-read s (d .at) (bytes ":32B:") Amount 0 tt q₂) (eqb (i .number) 0) refl r₂))
   where
-    no-letters : (i m : Item) (e : Cursor) (r : At) → onNext r (bankAt s (e .at) i m nothing) (λ a. Unpaid (wrong (e .at))) ≡ One p c → Line (bytes ":102:") (IsWord 4) (drop (e .at) s) (drop (c .at) s)
+    no-letters : (i m : Item) (e : Cursor) (r : At) → onNext r (bankAt s (e .at) i m nothing) (λ a. Unpaid (wrong (e .at))) ≡ One p c → BankStands s (e .at) i m nothing p c
     no-letters i m e No h = bank-sound s (e .at) i m nothing h
     no-letters i m e (Next a) h = unpaid h
 
-    go : (i : Item) (d : Cursor) (m : Item) (e : Cursor) → Sided s at i d → Line (bytes ":32B:") IsAmount (drop (d .at) s) (drop (e .at) s) → (b : Bool) → eqb (i .number) 0 ≡ b → cond b (onNext (litAt s (e .at) (bytes ":113:")) (bankAt s (e .at) i m nothing) (λ a. Unpaid (wrong (e .at)))) (onGood (fieldAt s (e .at) (bytes ":113:") Letters) Unpaid (λ letters f. bankAt s (f .at) i m letters)) ≡ One p c → PaymentText (drop at s) (drop (c .at) s)
-    go i d m e (inl g) a true b h = credit (g .0) a (no-letters i m e (litAt s (e .at) (bytes ":113:")) h)
+    go : (i : Item) (d : Cursor) (m : Item) (e : Cursor) → Sided s at i d → LineRead s (d .at) (bytes ":32B:") Amount m e → (b : Bool) → eqb (i .number) 0 ≡ b → cond b (onNext (litAt s (e .at) (bytes ":113:")) (bankAt s (e .at) i m nothing) (λ a. Unpaid (wrong (e .at)))) (onGood (fieldAt s (e .at) (bytes ":113:") Letters) Unpaid (λ letters f. bankAt s (f .at) i m letters)) ≡ One p c → PaymentStands s at p c
+    go i d m e (inl g) a true b h =
+        let k = no-letters i m e (litAt s (e .at) (bytes ":113:")) h in
+        record {
+          text = credit (g .0) (a .line) (k .line);
+          says = subst (PaymentIs 0 (centsIn (a .line .is)) 0 (packed 4 (k .line .value))) (sym (k .is)) (record { side-is = g .1; cents-are = a .means; letters-are = refl; bank-is = k .number });
+        }
     go i d m e (inl g) a false b h = absurd (eqb-false (i .number) 0 b (g .1))
     go i d m e (inr g) a true b h = absurd (omega (arith, eqb-true (i .number) 0 b, g .1))
     go i d m e (inr g) a false b h = on-field s (e .at) (bytes ":113:") Letters _ h (λ j f q r.
-        debit (g .0) a (line-sound s (e .at) (bytes ":113:") Letters q) (bank-sound s (f .at) i m j r))
+        let w = line-read s (e .at) (bytes ":113:") Letters 0 tt q in
+        let k = bank-sound s (f .at) i m j r in
+        record {
+          text = debit (g .0) (a .line) (w .line) (k .line);
+          says = subst (PaymentIs 1 (centsIn (a .line .is)) (packed 4 (w .line .value)) (packed 4 (k .line .value))) (sym (k .is)) (record { side-is = g .1; cents-are = a .means; letters-are = w .means; bank-is = k .number });
+        })
 
--- so many payments were read
-pub record ReadOff (x : Payments) (s : List ℕ) (at n room : ℕ) (d : Cursor) : Type 0 where
+-- so many payments were read, and stand in the list from the n-th place on; those before it are as they were
+pub record ReadOff (x : Payments) (s : List ℕ) (at n room : ℕ) (items : List Payment) (d : Cursor) : Type 0 where
   pub many : ℕ
   pub most : many ≤ room
   pub least : 1 ≤ room → 1 ≤ many
   pub count : x .n ≡ n + many
   pub text : PaymentsText many (drop at s) (drop (d .at) s)
+  pub says : PaymentsSay n text (x .items)
+  pub size : length (x .items) ≡ length items
+  pub kept : (j : ℕ) → j < n → getD (x .items) j noPayment ≡ getD items j noPayment
 
 cut-off : {A : Type 0} {b : Break} {d : Cursor} → Cut b ≡ Done d → A
 cut-off h = let z : _≡_ {A = ℕ} 0 1 = cc in absurd (omega arith)
@@ -220,23 +264,49 @@ cut-off h = let z : _≡_ {A = ℕ} 0 1 = cc in absurd (omega arith)
 abbrev onward : List ℕ → ℕ → ℕ → List Payment → Bool → Payment → Cursor → Payments
 onward s room n items b p c = cond b (paymentsOn room s (c .at) (n + 1) (set items n p)) (ended (Done (place (c .at))) (n + 1) (set items n p))
 
-on-sound : (s : List ℕ) (room at n : ℕ) (items : List Payment) (d : Cursor) → paymentsOn room s at n items .ending ≡ Done d → ReadOff (paymentsOn room s at n items) s at n room d
+-- the n-th place of a list that keeps what is put there
+put-there : (items result : List Payment) (n : ℕ) (p : Payment) → n < length items → ((j : ℕ) → j < n + 1 → getD result j noPayment ≡ getD (set items n p) j noPayment) → (getD result n noPayment ≡ p) × ((j : ℕ) → j < n → getD result j noPayment ≡ getD items j noPayment)
+put-there items result n p h f = (f n (omega arith) ∙ getD-set-same items n p noPayment h, λ j k. f j (omega arith) ∙ getD-set-other items n j p noPayment (omega arith))
+
+on-sound : (s : List ℕ) (room at n : ℕ) (items : List Payment) (d : Cursor) → n + room ≤ length items → paymentsOn room s at n items .ending ≡ Done d → ReadOff (paymentsOn room s at n items) s at n room items d
 unfolding paymentsOn
-on-sound s zero at n items d h =
+on-sound s zero at n items d fit h =
     let z : place at ≡ d = cc in
-    record { many = 0; most = omega arith; least = λ z. z; count = omega arith; text = rw (← z) none-left }
-on-sound s (suc room) at n items d h = paid (paymentAt s at) refl h (λ c p. on-sound s room (c .at) (n + 1) (set items n p) d)
+    rw (← z) (record { many = 0; most = omega arith; least = λ z. z; count = omega arith; text = none-left; says = tt; size = refl; kept = λ j k. refl })
+on-sound s (suc room) at n items d fit h = paid (paymentAt s at) refl h (λ c p. on-sound s room (c .at) (n + 1) (set items n p) d (rw length-set (omega arith)))
   where
-    more : (b : Bool) (p : Payment) (c : Cursor) → PaymentText (drop at s) (drop (c .at) s) → (paymentsOn room s (c .at) (n + 1) (set items n p) .ending ≡ Done d → ReadOff (paymentsOn room s (c .at) (n + 1) (set items n p)) s (c .at) (n + 1) room d) → onward s room n items b p c .ending ≡ Done d → ReadOff (onward s room n items b p c) s at n (suc room) d
-    more true p c g f h = let i = f h in record { many = suc (i .many); most = omega (arith, i .most); least = λ z. omega arith; count = i .count ∙ omega arith; text = one-more g (i .text) }
+    more : (b : Bool) (p : Payment) (c : Cursor) → PaymentStands s at p c → (paymentsOn room s (c .at) (n + 1) (set items n p) .ending ≡ Done d → ReadOff (paymentsOn room s (c .at) (n + 1) (set items n p)) s (c .at) (n + 1) room (set items n p) d) → onward s room n items b p c .ending ≡ Done d → ReadOff (onward s room n items b p c) s at n (suc room) items d
+    more true p c g f h =
+        let i = f h in
+        let k = put-there items (paymentsOn room s (c .at) (n + 1) (set items n p) .items) n p (omega arith) (i .kept) in
+        record {
+          many = suc (i .many);
+          most = omega (arith, i .most);
+          least = λ z. omega arith;
+          count = i .count ∙ omega arith;
+          text = one-more (g .text) (i .text);
+          says = (subst (PaymentSays (g .text)) (sym (k .0)) (g .says), i .says);
+          size = i .size ∙ length-set items n p;
+          kept = k .1;
+        }
     more false p c g f h =
         let z : place (c .at) ≡ d = cc in
-        record { many = 1; most = omega arith; least = λ z. omega arith; count = refl; text = rw (← z) (one-more g none-left) }
+        let k = put-there items (set items n p) n p (omega arith) (λ j y. refl) in
+        rw (← z) (record {
+          many = 1;
+          most = omega arith;
+          least = λ z. omega arith;
+          count = refl;
+          text = one-more (g .text) none-left;
+          says = (subst (PaymentSays (g .text)) (sym (k .0)) (g .says), tt);
+          size = length-set items n p;
+          kept = k .1;
+        })
 
-    paid : (x : Paid) → paymentAt s at ≡ x → onPaid x (λ b. ended (Cut b) n items) (λ p c. onward s room n items (moreAt s (c .at)) p c) .ending ≡ Done d → ((c : Cursor) (p : Payment) → paymentsOn room s (c .at) (n + 1) (set items n p) .ending ≡ Done d → ReadOff (paymentsOn room s (c .at) (n + 1) (set items n p)) s (c .at) (n + 1) room d) → ReadOff (onPaid x (λ b. ended (Cut b) n items) (λ p c. onward s room n items (moreAt s (c .at)) p c)) s at n (suc room) d
+    paid : (x : Paid) → paymentAt s at ≡ x → onPaid x (λ b. ended (Cut b) n items) (λ p c. onward s room n items (moreAt s (c .at)) p c) .ending ≡ Done d → ((c : Cursor) (p : Payment) → paymentsOn room s (c .at) (n + 1) (set items n p) .ending ≡ Done d → ReadOff (paymentsOn room s (c .at) (n + 1) (set items n p)) s (c .at) (n + 1) room (set items n p) d) → ReadOff (onPaid x (λ b. ended (Cut b) n items) (λ p c. onward s room n items (moreAt s (c .at)) p c)) s at n (suc room) items d
     paid (One p c) q h f = more (moreAt s (c .at)) p c (payment-sound s at q) (f c p) h
     paid (Unpaid b) q h f = cut-off h
 
-pub payments-sound : (s : List ℕ) (at : ℕ) (d : Cursor) → paymentsAt s at .ending ≡ Done d → ReadOff (paymentsAt s at) s at 0 10 d
+pub payments-sound : (s : List ℕ) (at : ℕ) (d : Cursor) → paymentsAt s at .ending ≡ Done d → ReadOff (paymentsAt s at) s at 0 10 none d
 unfolding paymentsAt
-payments-sound s at d h = on-sound s 10 at 0 none d h
+payments-sound s at d h = on-sound s 10 at 0 none d (omega arith) h

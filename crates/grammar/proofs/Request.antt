@@ -1,5 +1,5 @@
 -- The grammar of a request: "The text has every field once, in this order, and nothing else".
-use Prim.Native.Nat.{ℕ, zero, suc, _+_, _-_, _≤_}
+use Prim.Native.Nat.{ℕ, zero, suc, _+_, _*_, _/_, _%_, _≤_}
 use mathlib.Core.Path.{_≡_, refl, ap, sym, subst, _∙_}
 use mathlib.Core.List.{List, [], _∷_, _++_}
 use mathlib.Core.Bool.{Bool, true, false, cond, _||_, false≢true}
@@ -8,18 +8,17 @@ use native.Mathlib.Omega.{arith}
 use borrow.Author.Tests.{eqb-true, le-ltb, ltb-false}
 use lib.Dec.{eqb, ltb}
 use lib.ListN.{length, drop, length-drop, drop-of-length-le}
-use lib.Seq.{take-append-seam}
 use Rattle.chars.specs.Words.{bytes, member}
 use Rattle.chars.specs.declared.Refusal.the-variants.{OtherSubType}
+use Rattle.codes.specs.Codes.{packed, longOf, longAt}
 use Rattle.scan.specs.Scan.{onNext, crlf, begins, litAt}
 use Rattle.scan.specs.declared.At.{At}
 use Rattle.scan.specs.declared.At.the-variants.{Next, No}
 use Rattle.scan.specs.declared.Cursor.{Cursor}
-use Rattle.scan.proofs.Standing.{valueOf, past, lit-reads, number-reads}
-use Rattle.values.specs.Values.{textOf, numeralAt}
+use Rattle.scan.proofs.Standing.{valueOf, lit-reads}
+use Rattle.values.specs.Values.{textOf}
 use Rattle.values.specs.declared.Part.{Part}
-use Rattle.values.specs.declared.Value.the-variants.{Read}
-use Rattle.values.proofs.Grammar.{IsReference, IsNumeral, IsWord, IsBin, IsNumbers, IsDate, IsTime, IsCount, word-sound}
+use Rattle.values.proofs.Grammar.{IsReference, IsNumeral, IsWord, IsBin, IsNumbers, IsDate, IsTime, IsCount}
 use Rattle.fields.specs.Fields.{absent, broken, item, place, onGood, fieldAt}
 use Rattle.fields.specs.declared.Break.{Break}
 use Rattle.fields.specs.declared.Item.{Item}
@@ -48,7 +47,8 @@ use Rattle.request.specs.declared.Head.{Head}
 use Rattle.request.specs.declared.Outcome.{Outcome}
 use Rattle.request.specs.declared.Outcome.the-variants.{Settlement, Recall, Refused}
 use Rattle.request.specs.declared.Reading.{Reading}
-use Rattle.grammar.proofs.Payments.{PaymentText, credit, debit, PaymentsText, none-left, one-more, number-is, payments-complete, field-value, payments-sound}
+use Rattle.grammar.proofs.Meanings.{number-is, part-is, numeral-reads, numbered-range, line-read}
+use Rattle.grammar.proofs.Payments.{PaymentText, credit, debit, PaymentsText, none-left, one-more, PaymentsSay, payments-complete, payments-sound}
 
 -- the lines 20 to 119 of a sub type, and then r
 pub record HeadText (kind : ℕ) (s r : List ℕ) : Type 0 where
@@ -86,15 +86,37 @@ pub record SettlementText (s : List ℕ) : Type 0 where
   pub head : HeadText 131 s rest
   pub body : BodyText rest
 
--- the number of a sub type
-numeral-reads : (s : List ℕ) (at n : ℕ) (v r : List ℕ) → drop at s ≡ v ++ r → n ≤ 18 → IsNumeral n v → numeralAt s at n ≡ Read (valueOf 0 v) (at + length v)
-unfolding numeralAt
-numeral-reads s at n v r h m g = rw (← g .size) (simp (number-reads s at v r h (g .all) (omega (arith, g .size))))
+-- what the head says, by its lines
+pub record HeadSays (kind : ℕ) (s r : List ℕ) (h : Head) : Type 0 where
+  pub text : HeadText kind s r
+  pub reference : h .reference .code ≡ longOf (text .reference .value)
+  pub subtype : h .subtype .number ≡ kind
+  pub stream : h .address .stream .number ≡ packed 4 (text .stream .value)
+  pub bin : h .address .bin .code ≡ longOf (text .bin .value)
 
--- a part of the text is the value that stands there
-part-is : (s : List ℕ) (a e : ℕ) (v r : List ℕ) → drop a s ≡ v ++ r → e ≡ a + length v → textOf s (record { start = a; end = e }) ≡ v
-unfolding textOf
-part-is s a e v r h z = let y : e - a ≡ length v = omega arith in rw (y, h) (take-append-seam v r)
+-- "the line may be missing"
+abbrev pub ActivationSays : {l r : List ℕ} → ((l ≡ r) ⊎ Line (bytes ":175:") IsTime l r) → Activation → Type 0
+ActivationSays (inl e) m = m ≡ AtOnce
+ActivationSays (inr g) m = m ≡ Minute (g .is .minute)
+
+-- what the lines after 119 say
+pub record BodySays (l : List ℕ) (r : Reading) : Type 0 where
+  pub text : BodyText l
+  pub number : r .terms .number ≡ valueOf 0 (text .numbers .is .number)
+  pub count : r .terms .count ≡ valueOf 0 (text .numbers .is .count)
+  pub date : r .terms .date .number ≡ text .date .is .day
+  pub activation : ActivationSays (text .activation) (r .terms .activation)
+  pub n : r .n ≡ text .many
+  pub size : length (r .payments) ≡ 10
+  pub payments : PaymentsSay 0 (text .payments) (r .payments)
+
+pub record SettlementSays (s : List ℕ) (r : Reading) : Type 0 where
+  pub rest : List ℕ
+  pub head : HeadSays 131 s rest (r .head)
+  pub body : BodySays rest r
+
+abbrev pub RecallSays : List ℕ → Reading → Type 0
+RecallSays s r = HeadSays 133 s [] (r .head)
 
 -- complete: the head
 pub record HeadRead (kind : ℕ) (s r : List ℕ) : Type 0 where
@@ -123,7 +145,7 @@ head-complete kind s m g =
     let p = 0 + 4 + length (g .reference .value) + 2 in
     let d : Line (bytes ":12:") (IsNumeral 3) (g .r₁) (g .r₂) = record { value = g .three-digits .value; text = g .three-digits .text; is = g .three-digits .is .0 } in
     let b = line-complete s p (bytes ":12:") (Numeral 3) 0 (omega arith) (a .rest) d in
-    let z : b .number ≡ kind = number-is (b .value) (numeral-reads s (p + 4) 3 (d .value) (crlf ++ g .r₂) (b .part) (omega arith) (d .is)) ∙ g .three-digits .is .1 in
+    let z : b .number ≡ kind = number-is (b .value) (numeral-reads s (p + 4) (d .value) (crlf ++ g .r₂) (b .part) 3 (omega arith) (d .is)) ∙ g .three-digits .is .1 in
     let c = address-complete s (p + 4 + length (d .value) + 2) (b .rest) (g .empty) (g .stream) (g .bin) in
     record {
       of = head (namedAt s (record { start = 4; end = 4 + length (g .reference .value) })) (item (p + 4) (p + 4 + length (d .value)) (b .number)) (c .0);
@@ -201,12 +223,19 @@ recall-complete s g =
 unaddressed : {A : Type 0} {b : Break} {x a : Address} {c : Cursor} → Lost b x ≡ To a c → A
 unaddressed h = let z : _≡_ {A = ℕ} 0 1 = cc in absurd (omega arith)
 
-pub record AddressText (l r : List ℕ) : Type 0 where
-  pub r₃ : List ℕ
-  pub r₄ : List ℕ
-  pub empty : Line (bytes ":77E:") (IsWord 0) l r₃
-  pub stream : Line (bytes ":22A:") (IsWord 4) r₃ r₄
-  pub bin : Line (bytes ":119:") (IsBin (stream .value)) r₄ r
+record AddressStands (l r : List ℕ) (a : Address) : Type 0 where
+  r₃ : List ℕ
+  r₄ : List ℕ
+  empty : Line (bytes ":77E:") (IsWord 0) l r₃
+  stream : Line (bytes ":22A:") (IsWord 4) r₃ r₄
+  bin : Line (bytes ":119:") (IsBin (stream .value)) r₄ r
+  stream-is : a .stream .number ≡ packed 4 (stream .value)
+  bin-is : a .bin .code ≡ longOf (bin .value)
+
+-- the code of a name is that of its value
+code-is : (s : List ℕ) (p : Part) (v : List ℕ) → textOf s p ≡ v → namedAt s p .code ≡ longOf v
+unfolding namedAt longAt textOf
+code-is s p v h = ap longOf h
 
 on-address : {A : Type 0} (s : List ℕ) (at : ℕ) (tag : List ℕ) (k : Kind) (x : Address) (f : Item → Cursor → Addressed) {a : Address} {c : Cursor} → onGood (fieldAt s at tag k) (λ b. Lost b x) f ≡ To a c → ((i : Item) (d : Cursor) → fieldAt s at tag k ≡ Good i d → f i d ≡ To a c → A) → A
 on-address {A} s at tag k x f {a} {c} h g = go (fieldAt s at tag k) refl h
@@ -215,70 +244,97 @@ on-address {A} s at tag k x f {a} {c} h g = go (fieldAt s at tag k) refl h
     go (Good i d) q h = g i d q h
     go (Bad b) q h = unaddressed h
 
-stream-text : (s : List ℕ) (at : ℕ) {i : Item} {d : Cursor} → fieldAt s at (bytes ":22A:") (Word 4) ≡ Good i d → (g : Line (bytes ":22A:") (IsWord 4) (drop at s) (drop (d .at) s)) → textOf s (i .part) ≡ g .value
-stream-text s at {i} {d} q g =
-    let f = field-value s at (bytes ":22A:") (Word 4) q in
-    let w = word-sound s (at + 5) 4 (f .0) in
-    let h = past s at (bytes ":22A:") (g .value ++ (crlf ++ drop (d .at) s)) (g .text) in
-    let z : i .part ≡ record { start = at + 5; end = i .part .end } = ap (λ (a : ℕ). record { start = a; end = i .part .end }) (f .1) in
-    ap (textOf s) z ∙ part-is s (at + 5) (i .part .end) (g .value) (crlf ++ drop (d .at) s) h (omega (arith, w .ends, w .is .size, g .is .size))
-
-address-sound : (s : List ℕ) (at : ℕ) {a : Address} {c : Cursor} → addressAt s at ≡ To a c → AddressText (drop at s) (drop (c .at) s)
+address-sound : (s : List ℕ) (at : ℕ) {a : Address} {c : Cursor} → addressAt s at ≡ To a c → AddressStands (drop at s) (drop (c .at) s) a
 unfolding addressAt
 address-sound s at {a} {c} h = on-address s at (bytes ":77E:") (Word 0) nowhere _ h (λ i d q₁ r₁.
     on-address s (d .at) (bytes ":22A:") (Word 4) nowhere _ r₁ (λ j e q₂ r₂.
     on-address s (e .at) (bytes ":119:") (Bin (j .part)) (toStream j) _ r₂ (λ k f q₃ r₃.
     let z : f ≡ c = cc in
-    let g₂ = line-sound s (d .at) (bytes ":22A:") (Word 4) q₂ in
-    let g₃ = line-sound s (e .at) (bytes ":119:") (Bin (j .part)) (q₃ ∙ ap (Good k) z) in
+    let y : a ≡ address Both j (namedAt s (k .part)) = cc in
+    let g₂ = line-read s (d .at) (bytes ":22A:") (Word 4) 0 (omega arith) q₂ in
+    let w : j .part .end ≡ j .part .start + 4 = rw (g₂ .span) (omega (arith, g₂ .line .is .size)) in
+    let g₃ = line-read s (e .at) (bytes ":119:") (Bin (j .part)) (j .part .end) (omega arith, omega (arith, w)) (q₃ ∙ ap (Good k) z) in
     record {
       r₃ = drop (d .at) s;
       r₄ = drop (e .at) s;
       empty = line-sound s at (bytes ":77E:") (Word 0) q₁;
-      stream = g₂;
-      bin = record { value = g₃ .value; text = g₃ .text; is = subst (λ (w : List ℕ). IsBin w (g₃ .value)) (stream-text s (d .at) q₂ g₂) (g₃ .is) };
+      stream = g₂ .line;
+      bin = record { value = g₃ .line .value; text = g₃ .line .text; is = subst (λ (w : List ℕ). IsBin w (g₃ .line .value)) (g₂ .text) (g₃ .line .is) };
+      stream-is = ap (λ (x : Address). x .stream .number) y ∙ g₂ .means refl;
+      bin-is = ap (λ (x : Address). x .bin .code) y ∙ code-is s (k .part) (g₃ .line .value) (g₃ .text);
     })))
 
 ungiven : {A : Type 0} {b : Break} {m : Activation} {p : Part} {c : Cursor} → Ungiven b ≡ Given m p c → A
 ungiven h = let z : _≡_ {A = ℕ} 0 1 = cc in absurd (omega arith)
 
-activation-sound : (s : List ℕ) (at : ℕ) {m : Activation} {p : Part} {c : Cursor} → activationAt s at ≡ Given m p c → (drop at s ≡ drop (c .at) s) ⊎ Line (bytes ":175:") IsTime (drop at s) (drop (c .at) s)
+record ActivationStands (l r : List ℕ) (m : Activation) : Type 0 where
+  text : (l ≡ r) ⊎ Line (bytes ":175:") IsTime l r
+  says : ActivationSays text m
+
+activation-sound : (s : List ℕ) (at : ℕ) {m : Activation} {p : Part} {c : Cursor} → activationAt s at ≡ Given m p c → ActivationStands (drop at s) (drop (c .at) s) m
 unfolding activationAt
 activation-sound s at {m} {p} {c} h = go (litAt s at (bytes ":175:")) h
   where
-    timed : (x : Field) → fieldAt s at (bytes ":175:") Time ≡ x → onGood x Ungiven (λ i d. Given (Minute (i .number)) (i .part) d) ≡ Given m p c → Line (bytes ":175:") IsTime (drop at s) (drop (c .at) s)
-    timed (Good i d) q h = let z : d ≡ c = cc in line-sound s at (bytes ":175:") Time (q ∙ ap (Good i) z)
+    timed : (x : Field) → fieldAt s at (bytes ":175:") Time ≡ x → onGood x Ungiven (λ i d. Given (Minute (i .number)) (i .part) d) ≡ Given m p c → ActivationStands (drop at s) (drop (c .at) s) m
+    timed (Good i d) q h =
+        let z : d ≡ c = cc in
+        let y : m ≡ Minute (i .number) = cc in
+        let g = line-read s at (bytes ":175:") Time 0 tt (q ∙ ap (Good i) z) in
+        record { text = inr (g .line); says = y ∙ ap Minute (g .means) }
     timed (Bad b) q h = ungiven h
 
-    go : (r : At) → onNext r (Given AtOnce noPart (place at)) (λ a. onGood (fieldAt s at (bytes ":175:") Time) Ungiven (λ i d. Given (Minute (i .number)) (i .part) d)) ≡ Given m p c → (drop at s ≡ drop (c .at) s) ⊎ Line (bytes ":175:") IsTime (drop at s) (drop (c .at) s)
-    go No h = let z : place at ≡ c = cc in inl (ap (λ (k : Cursor). drop (k .at) s) z)
-    go (Next a) h = inr (timed (fieldAt s at (bytes ":175:") Time) refl h)
+    go : (r : At) → onNext r (Given AtOnce noPart (place at)) (λ a. onGood (fieldAt s at (bytes ":175:") Time) Ungiven (λ i d. Given (Minute (i .number)) (i .part) d)) ≡ Given m p c → ActivationStands (drop at s) (drop (c .at) s) m
+    go No h = let z : place at ≡ c = cc in record { text = inl (ap (λ (k : Cursor). drop (k .at) s) z); says = cc }
+    go (Next a) h = timed (fieldAt s at (bytes ":175:") Time) refl h
 
-pub record TermsText (l r : List ℕ) : Type 0 where
-  pub r₂ : List ℕ
-  pub r₃ : List ℕ
-  pub numbers : Line (bytes ":16A:") IsNumbers l r₂
-  pub date : Line (bytes ":171:") IsDate r₂ r₃
-  pub activation : (r₃ ≡ r) ⊎ Line (bytes ":175:") IsTime r₃ r
+record TermsStand (l r : List ℕ) (t : Terms) : Type 0 where
+  r₂ : List ℕ
+  r₃ : List ℕ
+  numbers : Line (bytes ":16A:") IsNumbers l r₂
+  date : Line (bytes ":171:") IsDate r₂ r₃
+  activation : (r₃ ≡ r) ⊎ Line (bytes ":175:") IsTime r₃ r
+  number-is : t .number ≡ valueOf 0 (numbers .is .number)
+  count-is : t .count ≡ valueOf 0 (numbers .is .count)
+  date-is : t .date .number ≡ date .is .day
+  activation-is : ActivationSays activation (t .activation)
 
 partial : {A : Type 0} {b : Break} {t : Terms} {c : Cursor} → Partial b ≡ Whole t c → A
 partial h = let z : _≡_ {A = ℕ} 0 1 = cc in absurd (omega arith)
 
-terms-sound : (s : List ℕ) (at : ℕ) {t : Terms} {c : Cursor} → termsAt s at ≡ Whole t c → TermsText (drop at s) (drop (c .at) s)
+-- the number and the count of one number
+parts : (x n m : ℕ) → x ≡ n * 100 + m → m ≤ 10 → (x / 100 ≡ n) × (x % 100 ≡ m)
+parts x n m h k = (omega arith, omega arith)
+
+terms-sound : (s : List ℕ) (at : ℕ) {t : Terms} {c : Cursor} → termsAt s at ≡ Whole t c → TermsStand (drop at s) (drop (c .at) s) t
 unfolding termsAt
 terms-sound s at {t} {c} h = go₁ (fieldAt s at (bytes ":16A:") Numbers) refl h
   where
-    go₃ : (i j : Item) (d e : Cursor) → fieldAt s at (bytes ":16A:") Numbers ≡ Good i d → fieldAt s (d .at) (bytes ":171:") Date ≡ Good j e → (x : Activated) → activationAt s (e .at) ≡ x → onGiven x Partial (λ m p f. Whole (terms i j m p) f) ≡ Whole t c → TermsText (drop at s) (drop (c .at) s)
+    go₃ : (i j : Item) (d e : Cursor) → fieldAt s at (bytes ":16A:") Numbers ≡ Good i d → fieldAt s (d .at) (bytes ":171:") Date ≡ Good j e → (x : Activated) → activationAt s (e .at) ≡ x → onGiven x Partial (λ m p f. Whole (terms i j m p) f) ≡ Whole t c → TermsStand (drop at s) (drop (c .at) s) t
     go₃ i j d e q₁ q₂ (Given m p f) q₃ h =
         let z : f ≡ c = cc in
-        record { r₂ = drop (d .at) s; r₃ = drop (e .at) s; numbers = line-sound s at (bytes ":16A:") Numbers q₁; date = line-sound s (d .at) (bytes ":171:") Date q₂; activation = activation-sound s (e .at) (q₃ ∙ ap (Given m p) z) }
+        let y : t ≡ terms i j m p = cc in
+        let a = line-read s at (bytes ":16A:") Numbers 0 tt q₁ in
+        let b = line-read s (d .at) (bytes ":171:") Date 0 tt q₂ in
+        let k = activation-sound s (e .at) (q₃ ∙ ap (Given m p) z) in
+        let w = parts (i .number) (valueOf 0 (a .line .is .number)) (valueOf 0 (a .line .is .count)) (a .means) (numbered-range (valueOf 0 (a .line .is .number)) (valueOf 0 (a .line .is .count)) (a .line .is .range) .2) in
+        record {
+          r₂ = drop (d .at) s;
+          r₃ = drop (e .at) s;
+          numbers = a .line;
+          date = b .line;
+          activation = k .text;
+          number-is = ap (λ (u : Terms). u .number) y ∙ w .0;
+          count-is = ap (λ (u : Terms). u .count) y ∙ w .1;
+          date-is = ap (λ (u : Terms). u .date .number) y ∙ b .means;
+          activation-is = subst (λ (u : Terms). ActivationSays (k .text) (u .activation)) (sym y) (k .says);
+        }
     go₃ i j d e q₁ q₂ (Ungiven b) q₃ h = partial h
 
-    go₂ : (i : Item) (d : Cursor) → fieldAt s at (bytes ":16A:") Numbers ≡ Good i d → (x : Field) → fieldAt s (d .at) (bytes ":171:") Date ≡ x → onGood x Partial (λ j e. onGiven (activationAt s (e .at)) Partial (λ m p f. Whole (terms i j m p) f)) ≡ Whole t c → TermsText (drop at s) (drop (c .at) s)
+    go₂ : (i : Item) (d : Cursor) → fieldAt s at (bytes ":16A:") Numbers ≡ Good i d → (x : Field) → fieldAt s (d .at) (bytes ":171:") Date ≡ x → onGood x Partial (λ j e. onGiven (activationAt s (e .at)) Partial (λ m p f. Whole (terms i j m p) f)) ≡ Whole t c → TermsStand (drop at s) (drop (c .at) s) t
     go₂ i d q₁ (Good j e) q₂ h = go₃ i j d e q₁ q₂ (activationAt s (e .at)) refl h
     go₂ i d q₁ (Bad b) q₂ h = partial h
 
-    go₁ : (x : Field) → fieldAt s at (bytes ":16A:") Numbers ≡ x → onGood x Partial (λ i d. onGood (fieldAt s (d .at) (bytes ":171:") Date) Partial (λ j e. onGiven (activationAt s (e .at)) Partial (λ m p f. Whole (terms i j m p) f))) ≡ Whole t c → TermsText (drop at s) (drop (c .at) s)
+    go₁ : (x : Field) → fieldAt s at (bytes ":16A:") Numbers ≡ x → onGood x Partial (λ i d. onGood (fieldAt s (d .at) (bytes ":171:") Date) Partial (λ j e. onGiven (activationAt s (e .at)) Partial (λ m p f. Whole (terms i j m p) f))) ≡ Whole t c → TermsStand (drop at s) (drop (c .at) s) t
     go₁ (Good i d) q₁ h = go₂ i d q₁ (fieldAt s (d .at) (bytes ":171:") Date) refl h
     go₁ (Bad b) q₁ h = partial h
 
@@ -291,21 +347,22 @@ module _ (o : Outcome) (ok : (b : Break) → Refused b ≡ o → ⊥) where
       go (Good i d) q h = g i d q h
       go (Bad b) q h = absurd (ok b h)
 
-  on-ending : {A : Type 0} (s : List ℕ) (at : ℕ) (x : Address) (r : Reading) → ending s at x r .outcome ≡ o → (drop at s ≡ [] → r .outcome ≡ o → A) → A
+  on-ending : {A : Type 0} (s : List ℕ) (at : ℕ) (x : Address) (r : Reading) → ending s at x r .outcome ≡ o → (ltb at (length s) ≡ false → r .outcome ≡ o → A) → A
   on-ending {A} s at x r h f = go (ltb at (length s)) refl h
     where
       go : (b : Bool) → ltb at (length s) ≡ b → cond b (refusal (absent at) x) r .outcome ≡ o → A
       go true q h = absurd (ok (absent at) h)
-      go false q h = f (drop-of-length-le s (ltb-false at (length s) q)) h
+      go false q h = f q h
 
   -- the head
-  pub record HeadStands (s : List ℕ) : Type 0 where
-    pub kind : ℕ
-    pub known : member kind (131 ∷ 133 ∷ []) ≡ true
-    pub of : Head
-    pub next : ℕ
-    pub text : HeadText kind s (drop next s)
-    pub is : cond (eqb kind 131) (settlementAt s next of) (recallAt s next of) .outcome ≡ o
+  record HeadStands (s : List ℕ) : Type 0 where
+    kind : ℕ
+    known : member kind (131 ∷ 133 ∷ []) ≡ true
+    of : Head
+    next : ℕ
+    says : HeadSays kind s (drop next s) of
+    same : requestAt s ≡ cond (eqb kind 131) (settlementAt s next of) (recallAt s next of)
+    is : cond (eqb kind 131) (settlementAt s next of) (recallAt s next of) .outcome ≡ o
 
   head-sound : (s : List ℕ) → requestAt s .outcome ≡ o → HeadStands s
   unfolding requestAt messageAt
@@ -315,27 +372,32 @@ module _ (o : Outcome) (ok : (b : Break) → Refused b ≡ o → ⊥) where
       addressed : (i : Item) (c : Cursor) (t : Item) (d : Cursor) → fieldAt s 0 (bytes ":20:") Reference ≡ Good i c → fieldAt s (c .at) (bytes ":12:") (Numeral 3) ≡ Good t d → member (t .number) (131 ∷ 133 ∷ []) ≡ true → (x : Addressed) → addressAt s (d .at) ≡ x → onTo x refusal (λ a e. cond (eqb (t .number) 131) (settlementAt s (e .at) (head (namedAt s (i .part)) t a)) (recallAt s (e .at) (head (namedAt s (i .part)) t a))) .outcome ≡ o → HeadStands s
       addressed i c t d q₁ q₂ m (Lost b a) q₃ h = absurd (ok b h)
       addressed i c t d q₁ q₂ m (To a e) q₃ h =
-          let g₁ = line-sound s 0 (bytes ":20:") Reference q₁ in
-          let g₂ = line-sound s (c .at) (bytes ":12:") (Numeral 3) q₂ in
+          let g₁ = line-read s 0 (bytes ":20:") Reference 0 tt q₁ in
+          let g₂ = line-read s (c .at) (bytes ":12:") (Numeral 3) 0 (omega arith) q₂ in
           let g₃ = address-sound s (d .at) q₃ in
-          let p = past s (c .at) (bytes ":12:") (g₂ .value ++ (crlf ++ drop (d .at) s)) (g₂ .text) in
-          let v = number-is (numeral-reads s (c .at + 4) 3 (g₂ .value) (crlf ++ drop (d .at) s) p (omega arith) (g₂ .is)) (field-value s (c .at) (bytes ":12:") (Numeral 3) q₂ .0) in
           record {
             kind = t .number;
             known = m;
             of = head (namedAt s (i .part)) t a;
             next = e .at;
-            text = record {
-              r₁ = drop (c .at) s;
-              r₂ = drop (d .at) s;
-              r₃ = g₃ .r₃;
-              r₄ = g₃ .r₄;
-              reference = g₁;
-              three-digits = record { value = g₂ .value; text = g₂ .text; is = (g₂ .is, v) };
-              empty = g₃ .empty;
-              stream = g₃ .stream;
-              bin = g₃ .bin;
+            says = record {
+              text = record {
+                r₁ = drop (c .at) s;
+                r₂ = drop (d .at) s;
+                r₃ = g₃ .r₃;
+                r₄ = g₃ .r₄;
+                reference = g₁ .line;
+                three-digits = record { value = g₂ .line .value; text = g₂ .line .text; is = (g₂ .line .is, sym (g₂ .means)) };
+                empty = g₃ .empty;
+                stream = g₃ .stream;
+                bin = g₃ .bin;
+              };
+              reference = code-is s (i .part) (g₁ .line .value) (g₁ .text);
+              subtype = refl;
+              stream = g₃ .stream-is;
+              bin = g₃ .bin-is;
             };
+            same = simp (q₁, q₂, m, q₃);
             is = h;
           }
 
@@ -344,47 +406,67 @@ module _ (o : Outcome) (ok : (b : Break) → Refused b ≡ o → ⊥) where
       typed i c t d q₁ q₂ false m h = absurd (ok (broken (c .at) OtherSubType) h)
 
   -- what follows 119
-  pub record BodyStands (l : List ℕ) : Type 0 where
-    pub text : BodyText l
-    pub settles : Settlement ≡ o
+  record BodyStands (l : List ℕ) (x : Head) (r : Reading) : Type 0 where
+    settles : Settlement ≡ o
+    of : r .head ≡ x
+    says : BodySays l r
 
-  body-sound : (s : List ℕ) (at : ℕ) (x : Head) → settlementAt s at x .outcome ≡ o → BodyStands (drop at s)
+  body-sound : (s : List ℕ) (at : ℕ) (x : Head) → settlementAt s at x .outcome ≡ o → BodyStands (drop at s) x (settlementAt s at x)
   unfolding settlementAt
   body-sound s at x h = go₁ (termsAt s at) refl h
     where
-      go₂ : (u : Terms) (c : Cursor) → termsAt s at ≡ Whole u c → (e : Ending) → paymentsAt s (c .at) .ending ≡ e → onDone e (λ b. refusal b (x .address)) (λ d. onGood (fieldAt s (d .at) (bytes ":203:") (Count (paymentsAt s (c .at) .n))) (λ b. refusal b (x .address)) (λ count f. ending s (f .at) (x .address) (settlement x u (paymentsAt s (c .at)) count))) .outcome ≡ o → BodyStands (drop at s)
+      go₂ : (u : Terms) (c : Cursor) → termsAt s at ≡ Whole u c → (e : Ending) → paymentsAt s (c .at) .ending ≡ e → onDone e (λ b. refusal b (x .address)) (λ d. onGood (fieldAt s (d .at) (bytes ":203:") (Count (paymentsAt s (c .at) .n))) (λ b. refusal b (x .address)) (λ count f. ending s (f .at) (x .address) (settlement x u (paymentsAt s (c .at)) count))) .outcome ≡ o → BodyStands (drop at s) x (settlementAt s at x)
       go₂ u c q (Cut b) p h = absurd (ok b h)
       go₂ u c q (Done d) p h = on-reading s (d .at) (bytes ":203:") (Count (paymentsAt s (c .at) .n)) (x .address) _ h (λ i f q₃ r.
-          on-ending s (f .at) (x .address) (settlement x u (paymentsAt s (c .at)) i) r (λ nil last.
+          on-ending s (f .at) (x .address) (settlement x u (paymentsAt s (c .at)) i) r (λ at-end last.
+          let nil = drop-of-length-le s (ltb-false (f .at) (length s) at-end) in
+          let same : settlementAt s at x ≡ settlement x u (paymentsAt s (c .at)) i = simp (q, p, q₃, at-end) in
           let g = terms-sound s at q in
           let w = payments-sound s (c .at) d p in
           let n : paymentsAt s (c .at) .n ≡ w .many = w .count ∙ omega arith in
           let k = line-sound s (d .at) (bytes ":203:") (Count (paymentsAt s (c .at) .n)) q₃ in
-          record {
-            text = record {
-              r₂ = g .r₂;
-              r₃ = g .r₃;
-              r₄ = drop (c .at) s;
-              r₅ = drop (d .at) s;
-              numbers = g .numbers;
-              date = g .date;
-              activation = g .activation;
-              many = w .many;
-              least = w .least (omega arith);
-              most = w .most;
-              payments = w .text;
-              count = record { value = k .value; text = k .text ∙ ap (λ (l : List ℕ). bytes ":203:" ++ (k .value ++ (crlf ++ l))) nil; is = subst (λ (m : ℕ). IsCount m (k .value)) n (k .is) };
-            };
+          subst (λ (y : Reading). BodyStands (drop at s) x y) (sym same) (record {
             settles = last;
-          }))
+            of = refl;
+            says = record {
+              text = record {
+                r₂ = g .r₂;
+                r₃ = g .r₃;
+                r₄ = drop (c .at) s;
+                r₅ = drop (d .at) s;
+                numbers = g .numbers;
+                date = g .date;
+                activation = g .activation;
+                many = w .many;
+                least = w .least (omega arith);
+                most = w .most;
+                payments = w .text;
+                count = record { value = k .value; text = k .text ∙ ap (λ (l : List ℕ). bytes ":203:" ++ (k .value ++ (crlf ++ l))) nil; is = subst (λ (m : ℕ). IsCount m (k .value)) n (k .is) };
+              };
+              number = g .number-is;
+              count = g .count-is;
+              date = g .date-is;
+              activation = g .activation-is;
+              n = n;
+              size = w .size;
+              payments = w .says;
+            };
+          })))
 
-      go₁ : (t : Stated) → termsAt s at ≡ t → onWhole t (λ b. refusal b (x .address)) (λ u c. onDone (paymentsAt s (c .at) .ending) (λ b. refusal b (x .address)) (λ d. onGood (fieldAt s (d .at) (bytes ":203:") (Count (paymentsAt s (c .at) .n))) (λ b. refusal b (x .address)) (λ count f. ending s (f .at) (x .address) (settlement x u (paymentsAt s (c .at)) count)))) .outcome ≡ o → BodyStands (drop at s)
+      go₁ : (t : Stated) → termsAt s at ≡ t → onWhole t (λ b. refusal b (x .address)) (λ u c. onDone (paymentsAt s (c .at) .ending) (λ b. refusal b (x .address)) (λ d. onGood (fieldAt s (d .at) (bytes ":203:") (Count (paymentsAt s (c .at) .n))) (λ b. refusal b (x .address)) (λ count f. ending s (f .at) (x .address) (settlement x u (paymentsAt s (c .at)) count)))) .outcome ≡ o → BodyStands (drop at s) x (settlementAt s at x)
       go₁ (Whole u c) q h = go₂ u c q (paymentsAt s (c .at) .ending) refl h
       go₁ (Partial b) q h = absurd (ok b h)
 
-  recall-ends : (s : List ℕ) (at : ℕ) (x : Head) → recallAt s at x .outcome ≡ o → (drop at s ≡ []) × (Recall ≡ o)
+  record RecallStands (l : List ℕ) (x : Head) (r : Reading) : Type 0 where
+    recalls : Recall ≡ o
+    of : r .head ≡ x
+    nil : l ≡ []
+
+  recall-ends : (s : List ℕ) (at : ℕ) (x : Head) → recallAt s at x .outcome ≡ o → RecallStands (drop at s) x (recallAt s at x)
   unfolding recallAt
-  recall-ends s at x h = on-ending s at (x .address) (bare Recall x) h (λ nil last. (nil, last))
+  recall-ends s at x h = on-ending s at (x .address) (bare Recall x) h (λ at-end last.
+      let same : recallAt s at x ≡ bare Recall x = simp at-end in
+      record { recalls = last; of = ap (λ (y : Reading). y .head) same; nil = drop-of-length-le s (ltb-false at (length s) at-end) })
 
 settles-not : (b : Break) → Refused b ≡ Settlement → ⊥
 settles-not b h = let z : _≡_ {A = ℕ} 0 1 = cc in omega arith
@@ -392,20 +474,30 @@ settles-not b h = let z : _≡_ {A = ℕ} 0 1 = cc in omega arith
 recalls-not : (b : Break) → Refused b ≡ Recall → ⊥
 recalls-not b h = let z : _≡_ {A = ℕ} 0 1 = cc in omega arith
 
-pub settlement-sound : (s : List ℕ) → requestAt s .outcome ≡ Settlement → SettlementText s
-settlement-sound s h = go (eqb (g .kind) 131) refl (g .is)
+-- what a settlement request that was read says, by its text
+pub settlement-says : (s : List ℕ) → requestAt s .outcome ≡ Settlement → SettlementSays s (requestAt s)
+settlement-says s h = go (eqb (g .kind) 131) refl (g .same) (g .is)
   where
     g : HeadStands Settlement settles-not s
     g = head-sound Settlement settles-not s h
 
-    go : (b : Bool) → eqb (g .kind) 131 ≡ b → cond b (settlementAt s (g .next) (g .of)) (recallAt s (g .next) (g .of)) .outcome ≡ Settlement → SettlementText s
-    go true e h =
+    go : (b : Bool) → eqb (g .kind) 131 ≡ b → requestAt s ≡ cond b (settlementAt s (g .next) (g .of)) (recallAt s (g .next) (g .of)) → cond b (settlementAt s (g .next) (g .of)) (recallAt s (g .next) (g .of)) .outcome ≡ Settlement → SettlementSays s (requestAt s)
+    go true e same h =
         let z = eqb-true (g .kind) 131 e in
-        record { rest = drop (g .next) s; head = subst (λ (k : ℕ). HeadText k s (drop (g .next) s)) z (g .text); body = body-sound Settlement settles-not s (g .next) (g .of) h .text }
-    go false e h =
-        let p = recall-ends Settlement settles-not s (g .next) (g .of) h .1 in
+        let k = body-sound Settlement settles-not s (g .next) (g .of) h in
+        let y : requestAt s .head ≡ g .of = ap (λ (x : Reading). x .head) same ∙ k .of in
+        record {
+          rest = drop (g .next) s;
+          head = subst (λ (x : Head). HeadSays 131 s (drop (g .next) s) x) (sym y) (subst (λ (n : ℕ). HeadSays n s (drop (g .next) s) (g .of)) z (g .says));
+          body = subst (λ (x : Reading). BodySays (drop (g .next) s) x) (sym same) (k .says);
+        }
+    go false e same h =
+        let p = recall-ends Settlement settles-not s (g .next) (g .of) h .recalls in
         let z : _≡_ {A = ℕ} 0 1 = cc in
         absurd (omega arith)
+
+pub settlement-sound : (s : List ℕ) → requestAt s .outcome ≡ Settlement → SettlementText s
+settlement-sound s h = let g = settlement-says s h in record { rest = g .rest; head = g .head .text; body = g .body .text }
 
 other-kind : (k : ℕ) → member k (131 ∷ 133 ∷ []) ≡ true → eqb k 131 ≡ false → k ≡ 133
 other-kind k m e = go (eqb k 133) refl (rw e at m)
@@ -414,18 +506,23 @@ other-kind k m e = go (eqb k 133) refl (rw e at m)
     go true q h = eqb-true k 133 q
     go false q h = absurd (false≢true h)
 
-pub recall-sound : (s : List ℕ) → requestAt s .outcome ≡ Recall → RecallText s
-recall-sound s h = go (eqb (g .kind) 131) refl (g .is)
+-- and a recall
+pub recall-says : (s : List ℕ) → requestAt s .outcome ≡ Recall → RecallSays s (requestAt s)
+recall-says s h = go (eqb (g .kind) 131) refl (g .same) (g .is)
   where
     g : HeadStands Recall recalls-not s
     g = head-sound Recall recalls-not s h
 
-    go : (b : Bool) → eqb (g .kind) 131 ≡ b → cond b (settlementAt s (g .next) (g .of)) (recallAt s (g .next) (g .of)) .outcome ≡ Recall → RecallText s
-    go true e h =
+    go : (b : Bool) → eqb (g .kind) 131 ≡ b → requestAt s ≡ cond b (settlementAt s (g .next) (g .of)) (recallAt s (g .next) (g .of)) → cond b (settlementAt s (g .next) (g .of)) (recallAt s (g .next) (g .of)) .outcome ≡ Recall → RecallSays s (requestAt s)
+    go true e same h =
         let p = body-sound Recall recalls-not s (g .next) (g .of) h .settles in
         let z : _≡_ {A = ℕ} 0 1 = cc in
         absurd (omega arith)
-    go false e h =
+    go false e same h =
         let p = recall-ends Recall recalls-not s (g .next) (g .of) h in
-        let t = subst (λ (k : ℕ). HeadText k s (drop (g .next) s)) (other-kind (g .kind) (g .known) e) (g .text) in
-        subst (λ (r : List ℕ). HeadText 133 s r) (p .0) t
+        let y : requestAt s .head ≡ g .of = ap (λ (x : Reading). x .head) same ∙ p .of in
+        let t = subst (λ (k : ℕ). HeadSays k s (drop (g .next) s) (g .of)) (other-kind (g .kind) (g .known) e) (g .says) in
+        subst (λ (x : Head). HeadSays 133 s [] x) (sym y) (subst (λ (r : List ℕ). HeadSays 133 s r (g .of)) (p .nil) t)
+
+pub recall-sound : (s : List ℕ) → requestAt s .outcome ≡ Recall → RecallText s
+recall-sound s h = recall-says s h .text

@@ -1,0 +1,247 @@
+-- "Only a noted message is answered by a text, once", over any calls from a fresh start: each reference noted on a day is noted once, and has
+-- been answered or awaits its answer. After the close none awaits.
+use Prim.Native.Nat.{ℕ, zero, suc, _+_, _≤_, _<_}
+use mathlib.Core.Path.{_≡_, refl, sym, ap, _∙_}
+use mathlib.Core.Logic.{inl, inr}
+use mathlib.Core.Bool.{Bool, true, false, _&&_, _||_, not, cond}
+use mathlib.Core.List.{List, [], _∷_, _++_}
+use native.Mathlib.Omega.{arith}
+use lib.Dec.{eqb, ltb}
+use lib.ListN.{replicate}
+use borrow.Author.Tests.{not-true, eqb-true, ne-eqb, ltb-true}
+use Rattle.codes.specs.declared.Code.{Code}
+use Rattle.dates.specs.Dates.{isRemembered}
+use Rattle.request.specs.Request.{requestAt}
+use Rattle.book.specs.Accounts.{dayIn}
+use Rattle.queue.specs.Tests.{Outcome}
+use Rattle.queue.proofs.MemoryLaws.{byBool}
+use Rattle.engine.specs.declared.Phase.{Phase}
+use Rattle.engine.specs.declared.Phase.the-variants.{Fresh, Open, Closed}
+use Rattle.engine.specs.declared.Action.{Action}
+use Rattle.engine.specs.declared.Action.the-variants.{Opening, Message, SubLimit, Status, Tick, Close, ClosingBook}
+use Rattle.engine.specs.declared.Answer.{Answer}
+use Rattle.engine.specs.declared.Answer.the-variants.{Done, Refused}
+use Rattle.engine.specs.State.{sameCode, noCode, noEntry, Place, Entry, State, noBatches}
+use Rattle.engine.specs.Joining.{join}
+use Rattle.engine.specs.Messages.{Acted, today}
+use Rattle.engine.specs.Ending.{afterTest, settledReplies}
+use Rattle.engine.specs.Days.{isFresh, opened, openingAnswer}
+use Rattle.engine.specs.Calls.{Call, Engine, isOpen, rightDay, judge, begun, isClose, replies, left, lastReplies, goesOn, closes, stepped, openedBy, performed, judged, call, cleared}
+use Rattle.engine.specs.Rules.{Each, RightEntry, isReference, remembered, Unlike, AllUnlike, Opened, ValidIn, Valid}
+use Rattle.engine.specs.Answered.{acted, outcome, steppedReplies, repliedTo, timesIn, notedOn, referencesOf, awaitingAt, todays, awaiting, Accounted, startsAnew, answersBy, answers, after, answeredAfter}
+use Rattle.engine.proofs.Noting.{same-sym, today-remembered}
+use Rattle.engine.proofs.Remembering.{same-code}
+use Rattle.engine.proofs.Doing.{did}
+use Rattle.engine.proofs.Agreement.{right-day}
+use Rattle.engine.proofs.Awaiting.{told, waits, times-in-append, told-append, balanced}
+use Rattle.engine.proofs.Ending.{settled-told, close-all-told}
+use Rattle.engine.proofs.Keeping.{Readers, tested-stood}
+use Rattle.engine.proofs.Validity.{k, known-in, open-in, standing-bin, later, acted-known, left-binned, done-once, call-valid}
+
+-- ---- what is noted today is noted once
+
+unlike-absent : (x c : Code) (l : List Code) → sameCode c x ≡ true → Unlike c l → timesIn x l ≡ 0
+unfolding timesIn
+unlike-absent x c [] e u = refl
+unlike-absent x c (d ∷ l) e u =
+    let f : sameCode d x ≡ false = ap (sameCode d) (sym (same-code c x e)) ∙ same-sym d c ∙ u .0 in
+    rw f (omega (arith, unlike-absent x c l e (u .1)))
+
+all-once : (x : Code) (l : List Code) → AllUnlike l → timesIn x l ≤ 1
+unfolding timesIn
+all-once x [] u = omega arith
+all-once x (c ∷ l) u =
+    byBool (sameCode c x)
+    (λ e. rw e (omega (arith, unlike-absent x c l e (u .0))))
+    (λ e. rw e (omega (arith, all-once x l (u .1))))
+
+-- what was noted today is remembered
+today-among : (x : Code) (day : ℕ) (es : List Entry) → timesIn x (notedOn day es) ≤ timesIn x (remembered day es)
+unfolding notedOn timesIn
+today-among x day [] = omega arith
+today-among x day (e ∷ es) =
+    byBool (sameCode (e .code) noCode)
+    (λ n. rw n (today-among x day es))
+    (λ n.
+    byBool (eqb (e .day) day)
+    (λ t. let m : isRemembered (e .day) day ≡ true = rw (eqb-true (e .day) day t) (today-remembered day) in rw (n, t, m) (omega (arith, today-among x day es)))
+    (λ t.
+    byBool (isRemembered (e .day) day)
+    (λ m. rw (n, t, m) (omega (arith, today-among x day es)))
+    (λ m. rw (n, t, m) (today-among x day es))))
+
+pub noted-once : (s : State) → Valid s → (x : Code) → timesIn x (todays s) ≤ 1
+noted-once s v x =
+    omega (arith, today-among x (s .day .date) (s .known .references), all-once x (remembered (s .day .date) (s .known .references)) (known-in s (s .day .phase) v .references-once))
+
+-- ---- nothing is noted on a later day
+
+entry-before : (day last : ℕ) (e : Entry) → last < day → RightEntry (λ c. isReference c) last e → (not (sameCode (e .code) noCode) && eqb (e .day) day) ≡ false
+entry-before day last e l (inl h) = rw h refl
+entry-before day last e l (inr h) = rw (ne-eqb (e .day) day (λ d. omega (arith, h .1))) (none (not (sameCode (e .code) noCode)))
+  where
+    none : (u : Bool) → (u && false) ≡ false
+    none true = refl
+    none false = refl
+
+none-before : (x : Code) (day last : ℕ) (es : List Entry) → last < day → Each (RightEntry (λ c. isReference c) last) es → timesIn x (notedOn day es) ≡ 0
+unfolding notedOn timesIn
+none-before x day last [] l h = refl
+none-before x day last (e ∷ es) l h = rw (entry-before day last e l (h .0)) (none-before x day last es l (h .1))
+
+none-fresh : (x : Code) (day n : ℕ) → timesIn x (notedOn day (replicate n noEntry)) ≡ 0
+unfolding notedOn timesIn
+none-fresh x day zero = refl
+none-fresh x day (suc n) = none-fresh x day n
+
+none-in : (x : Code) (s : State) (p : Phase) (day : ℕ) → ValidIn p s → (isFresh p || ltb (s .day .date) day) ≡ true → timesIn x (notedOn day (s .known .references)) ≡ 0
+none-in x s Fresh day v h = rw v (none-fresh x day 2048)
+none-in x s Open day v h = none-before x day (s .day .date) (s .known .references) (ltb-true (s .day .date) day h) (v .known .references)
+none-in x s Closed day v h = none-before x day (s .day .date) (s .known .references) (ltb-true (s .day .date) day h) (v .0 .known .references)
+
+none-wait : (x : Code) → waits x (noBatches .places) ≡ 0
+unfolding awaitingAt referencesOf timesIn
+none-wait x = refl
+
+-- ---- one call
+
+abbrev Owed : Code → State → List Code → Type 0
+Owed x s l = timesIn x (todays s) ≡ timesIn x l + timesIn x (awaiting s)
+
+module _ (readers : Readers) (e : Engine) (c : Call) (v : Valid (e .state)) (x : Code) (l : List Code) (h : Owed x (e .state) l) where
+  abbrev s : State
+  s = begun (e .state) (c .clock)
+
+  abbrev a : Acted
+  a = acted e c
+
+  abbrev o : Outcome
+  o = outcome e c
+
+  module _ (i : Opened (e .state)) where
+    acted-owed : timesIn x (notedOn (today s) (a .known .references)) ≡ timesIn x l + (told x (a .replies) + waits x (a .batches .places))
+    unfolding begun join
+    acted-owed = omega (arith, h, balanced s (requestAt (c .input)) (readers .texts (c .input)) x (did s (c .action) (c .input)))
+
+    replies-told : told x (replies s a o) + waits x (left s a o .places) ≡ told x (a .replies) + waits x (a .batches .places)
+    unfolding replies left afterTest
+    replies-told =
+        omega (
+          arith,
+          told-append x (a .replies) (settledReplies (s .day) (a .batches) (o .done)),
+          settled-told x (s .day) (a .batches) (o .done) (a .batches .places) (done-once readers e c v i) (λ p n. refl),
+        )
+
+    last-told : told x (lastReplies s a o) ≡ waits x (left s a o .places)
+    unfolding lastReplies
+    last-told =
+        let b = left-binned readers e c v i in
+        close-all-told (s .day) (today s) (left s a o) (λ p y q. standing-bin (s .house .banks) y q (tested-stood readers e c (k readers e c v) .each p)) x (b .differ)
+        (a .known .bins) (acted-known readers e c v i .bins-once) (λ p y q. b .known p (y .bin) (rw q refl))
+
+    ends-owed : (t : Bool) → Owed x (cond t (closes s a o) (goesOn s a o) .engine .state) (l ++ repliedTo (cond t (replies s a o ++ lastReplies s a o) (replies s a o)))
+    unfolding closes goesOn
+    ends-owed true =
+        omega (
+          arith,
+          times-in-append x l (repliedTo (replies s a o ++ lastReplies s a o)),
+          told-append x (replies s a o) (lastReplies s a o),
+          none-wait x,
+          acted-owed,
+          replies-told,
+          last-told,
+        )
+    ends-owed false = omega (arith, times-in-append x l (repliedTo (replies s a o)), acted-owed, replies-told)
+
+    stepped-owed : Owed x (stepped e c .engine .state) (l ++ repliedTo (steppedReplies e c))
+    unfolding stepped
+    stepped-owed = ends-owed (isClose (c .action))
+
+  opened-owed : (r : Answer) → openingAnswer (e .state .day) (c .input) ≡ r → isOpen (e .state .day .phase) ≡ false → Owed x (openedBy r e c .engine .state) (startsAnew r l)
+  unfolding opened timesIn
+  opened-owed Done d i =
+      omega (arith, none-in x (e .state) (e .state .day .phase) (dayIn (c .input)) v (later readers e c v d), ap (λ (b : List Place). waits x b) (ap (λ y. y .places) (k readers e c v .idle i)), none-wait x)
+  opened-owed (Refused r) d i = h
+
+  performed-owed : (z : Action) → rightDay z (e .state .day) ≡ true → Owed x (performed z e c .engine .state) (answersBy Done z e c l)
+  performed-owed Opening i = opened-owed (openingAnswer (e .state .day) (c .input)) refl (not-true _ i)
+  performed-owed (Message n) i = stepped-owed (open-in (e .state) (e .state .day .phase) v i)
+  performed-owed (SubLimit n y) i = stepped-owed (open-in (e .state) (e .state .day .phase) v i)
+  performed-owed (Status n b y) i = stepped-owed (open-in (e .state) (e .state .day .phase) v i)
+  performed-owed Tick i = stepped-owed (open-in (e .state) (e .state .day .phase) v i)
+  performed-owed Close i = stepped-owed (open-in (e .state) (e .state .day .phase) v i)
+  performed-owed (ClosingBook d) i = h
+
+  judged-owed : (r : Answer) → judge (e .state) c ≡ r → Owed x (judged r e c .engine .state) (answersBy r (c .action) e c l)
+  judged-owed Done i = performed-owed (c .action) (right-day (e .state) c i)
+  judged-owed (Refused r) i = h
+
+  call-owed : Owed x (call e c .engine .state) (answers e c l)
+  unfolding call answers
+  call-owed = judged-owed (judge (e .state) c) refl
+
+-- ---- any calls
+
+pub after-valid : (readers : Readers) (cs : List Call) (e : Engine) → Valid (e .state) → Valid (after call e cs .state)
+unfolding after
+after-valid readers [] e v = v
+after-valid readers (c ∷ cs) e v = after-valid readers cs (call e c .engine) (call-valid readers e c v)
+
+after-owed : (readers : Readers) (cs : List Call) (e : Engine) → Valid (e .state) → (x : Code) (l : List Code) → Owed x (e .state) l → Owed x (after call e cs .state) (answeredAfter e l cs)
+unfolding after answeredAfter
+after-owed readers [] e v x l h = h
+after-owed readers (c ∷ cs) e v x l h =
+    after-owed readers cs (call e c .engine) (call-valid readers e c v) x (answers e c l) (call-owed readers e c v x l h)
+
+fresh-owed : (x : Code) → Owed x (cleared .state) []
+unfolding timesIn
+fresh-owed x = omega (arith, none-fresh x 0 2048, none-wait x)
+
+-- the engine after some calls from a fresh start, and what was answered on its last opened day
+abbrev pub then : List Call → State
+then cs = after call cleared cs .state
+
+abbrev pub answered : List Call → List Code
+answered cs = answeredAfter cleared [] cs
+
+pub accounted : Readers → (cs : List Call) → Accounted (then cs) (answered cs)
+accounted readers cs = record {
+  each = λ x. after-owed readers cs cleared refl x [] (fresh-owed x);
+  once = λ x. noted-once (then cs) (after-valid readers cs cleared refl) x;
+}
+
+-- "Only a noted message is answered by a text": a reference that was not noted that day has not been answered
+pub only-noted : Readers → (cs : List Call) (r : Code) → timesIn r (todays (then cs)) ≡ 0 → timesIn r (answered cs) ≡ 0
+only-noted readers cs r h = omega (arith, accounted readers cs .each r)
+
+-- ", once": never twice, on no day
+pub never-twice : Readers → (cs : List Call) (r : Code) → timesIn r (answered cs) ≤ 1
+never-twice readers cs r = let i = accounted readers cs in omega (arith, i .each r, i .once r)
+
+-- after the close no message awaits its answer
+none-in-closed : (s : State) (p : Phase) → ValidIn p s → p ≡ Closed → awaiting s ≡ []
+unfolding awaitingAt referencesOf
+none-in-closed s Fresh v h = let z : _≡_ {A = ℕ} 0 1 = cc in absurd (omega arith)
+none-in-closed s Open v h = let z : _≡_ {A = ℕ} 0 1 = cc in absurd (omega arith)
+none-in-closed s Closed v h = rw (v .1) refl
+
+pub none-left-at-close : Readers → (cs : List Call) → then cs .day .phase ≡ Closed → awaiting (then cs) ≡ []
+none-left-at-close readers cs h = none-in-closed (then cs) (then cs .day .phase) (after-valid readers cs cleared refl) h
+
+-- and each reference that was noted that day has been answered exactly once
+pub answered-once : Readers → (cs : List Call) → then cs .day .phase ≡ Closed → (r : Code) → 0 < timesIn r (todays (then cs)) → timesIn r (answered cs) ≡ 1
+unfolding timesIn
+answered-once readers cs h r n =
+    let i = accounted readers cs in
+    let z : timesIn r (awaiting (then cs)) ≡ 0 = ap (timesIn r) (none-left-at-close readers cs h) in
+    omega (arith, i .each r, i .once r)
+
+-- a close that is not refused closes the day
+closed-judged : (r : Answer) (e : Engine) (c : Call) → r ≡ Done → c .action ≡ Close → judged r e c .engine .state .day .phase ≡ Closed
+unfolding stepped closes
+closed-judged Done e c d h = rw h refl
+closed-judged (Refused r) e c d h = let z : _≡_ {A = ℕ} 0 1 = cc in absurd (omega arith)
+
+pub closed-by-close : (e : Engine) (c : Call) → judge (e .state) c ≡ Done → c .action ≡ Close → call e c .engine .state .day .phase ≡ Closed
+unfolding call
+closed-by-close e c d h = closed-judged (judge (e .state) c) e c d h

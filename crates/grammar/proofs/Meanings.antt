@@ -1,0 +1,217 @@
+-- The number that is read of a value, by the bytes of the value; and a line that was read, with what it says.
+use Prim.Native.Nat.{ℕ, _+_, _*_, _-_, _≤_}
+use mathlib.Core.Path.{_≡_, refl, ap, sym, subst, _∙_}
+use mathlib.Core.List.{List, _∷_, _++_, append-assoc}
+use mathlib.Core.Bool.{Bool, true, false, cond, _&&_}
+use native.Mathlib.Omega.{arith}
+use borrow.Author.Tests.{eq-eqb, ne-eqb, eqb-true, eqb-false, leb-true}
+use lib.Dec.{eqb, leb}
+use lib.ListN.{length, getD, take, drop}
+use lib.Seq.{take-append-seam, take-at}
+use Rattle.chars.specs.Words.{bytes}
+use Rattle.chars.specs.Chars.{isDigit}
+use Rattle.chars.specs.declared.Refusal.{Refusal}
+use Rattle.chars.specs.declared.Refusal.the-variants.{WrongEsa, WrongLetter}
+use Rattle.codes.specs.Codes.{packed, shortAt}
+use Rattle.codes.proofs.Laws.{pack-take}
+use Rattle.scan.specs.Scan.{onNext, crlf, litAt, codeAt, digitsAt, numberAt, lineEndAt}
+use Rattle.scan.specs.declared.At.{At}
+use Rattle.scan.specs.declared.At.the-variants.{Next, No}
+use Rattle.scan.specs.declared.Cursor.{Cursor}
+use Rattle.scan.specs.declared.Fixed.the-variants.{Value as Digits}
+use Rattle.scan.proofs.Standing.{valueOf, past, lit-reads, digits-reads, number-reads}
+use Rattle.values.specs.Values.{malformed, textOf, numeralAt, wordAt, numbered, numbersAt, dateAt, timeAt, hundredths, amountAt, countAt}
+use Rattle.values.specs.Letters.{isStatus, isFourth, judgedAt, lettersAt}
+use Rattle.values.specs.declared.Value.{Value}
+use Rattle.values.specs.declared.Value.the-variants.{Read, Unread}
+use Rattle.values.proofs.Grammar.{IsNumeral, IsNumbers, IsDate, IsTime, IsAmount}
+use Rattle.fields.specs.Fields.{item, valueAt, fieldAt}
+use Rattle.fields.specs.declared.Item.{Item}
+use Rattle.fields.specs.declared.Field.the-variants.{Good}
+use Rattle.fields.specs.declared.Kind.{Kind}
+use Rattle.fields.specs.declared.Kind.the-variants.{Reference, Numeral, Word, Bin, Numbers, Date, Time, Side, Amount, Letters, Count}
+use Rattle.fields.proofs.Alike.{Fine}
+use Rattle.fields.proofs.Grammar.{Line, Spelt, line-complete, line-sound}
+
+pub number-is : {v : Value} {x y d e : ℕ} → v ≡ Read x d → v ≡ Read y e → x ≡ y
+number-is p q = cc
+
+unread : {A : Type 0} {x : Refusal} {v e : ℕ} → Unread x ≡ Read v e → A
+unread h = let z : _≡_ {A = ℕ} 0 1 = cc in absurd (omega arith)
+
+-- a part of the text is the value that stands there
+pub part-is : (s : List ℕ) (a e : ℕ) (v r : List ℕ) → drop a s ≡ v ++ r → e ≡ a + length v → textOf s (record { start = a; end = e }) ≡ v
+unfolding textOf
+part-is s a e v r h z = let y : e - a ≡ length v = omega arith in rw (y, h) (take-append-seam v r)
+
+-- "number, count; 01 to 10, number not above count"
+and-true : (a b : Bool) → (a && b) ≡ true → (a ≡ true) × (b ≡ true)
+and-true true b h = (refl, h)
+and-true false b h = let z : _≡_ {A = ℕ} 0 1 = cc in absurd (omega arith)
+
+pub numbered-range : (n m : ℕ) → numbered n m ≡ true → (1 ≤ n) × (n ≤ m) × (m ≤ 10)
+unfolding numbered
+numbered-range n m h =
+    let g = and-true (leb 1 n) (leb n m && leb m 10) h in
+    let k = and-true (leb n m) (leb m 10) (g .1) in
+    (leb-true 1 n (g .0), leb-true n m (k .0), leb-true m 10 (k .1))
+
+-- "`12,5` is 1,250": what the digits after the comma are in hundredths
+abbrev pub hundredthsIn : List ℕ → ℕ
+hundredthsIn part = cond (eqb (length part) 1) (valueOf 0 part * 10) (valueOf 0 part)
+
+abbrev pub centsIn : {v : List ℕ} → IsAmount v → ℕ
+centsIn g = valueOf 0 (g .whole) * 100 + hundredthsIn (g .part)
+
+hundredths-are : (b : ℕ) (part : List ℕ) → hundredths b (record { end = b + length part; value = valueOf 0 part }) ≡ hundredthsIn part
+unfolding hundredths
+hundredths-are b part = go (eqb (length part) 1) refl
+  where
+    go : (t : Bool) → eqb (length part) 1 ≡ t → cond (eqb (b + length part) (b + 1)) (valueOf 0 part * 10) (valueOf 0 part) ≡ cond t (valueOf 0 part * 10) (valueOf 0 part)
+    go true e = rw (eq-eqb (b + length part) (b + 1) (omega (arith, eqb-true (length part) 1 e)))
+    go false e = rw (ne-eqb (b + length part) (b + 1) (omega (arith, eqb-false (length part) 1 e)))
+
+comma-ends : isDigit 44 ≡ false
+unfolding isDigit
+comma-ends = refl
+
+cr-ends : isDigit 13 ≡ false
+unfolding isDigit
+cr-ends = refl
+
+module _ (s : List ℕ) (at : ℕ) (v r : List ℕ) (h : drop at s ≡ v ++ r) where
+  digits-are : (n : ℕ) → n ≤ 18 → IsNumeral n v → numberAt s at n ≡ Digits (valueOf 0 v) (at + length v)
+  digits-are n m g = ap (numberAt s at) (sym (g .size)) ∙ number-reads s at v r h (g .all) (omega (arith, g .size))
+
+  pub numeral-reads : (n : ℕ) → n ≤ 18 → IsNumeral n v → numeralAt s at n ≡ Read (valueOf 0 v) (at + length v)
+  unfolding numeralAt
+  numeral-reads n m g = simp (digits-are n m g)
+
+  date-reads : (g : IsDate v) → dateAt s at ≡ Read (g .day) (at + length v)
+  unfolding dateAt
+  date-reads g = simp (digits-are 6 (omega arith) (g .six), g .true-date)
+
+  time-reads : (g : IsTime v) → timeAt s at ≡ Read (g .minute) (at + length v)
+  unfolding timeAt
+  time-reads g = simp (digits-are 4 (omega arith) (g .four), g .true-time)
+
+  -- four characters that stand at a place
+  four-are : length v ≡ 4 → shortAt s at ≡ packed 4 v
+  unfolding shortAt
+  four-are e = sym (pack-take 4 0 (drop at s)) ∙ ap (packed 4) (ap (take 4) h ∙ take-at v r 4 e)
+
+module _ (s : List ℕ) (at : ℕ) (v r : List ℕ) (h : drop at s ≡ v ++ (crlf ++ r)) where
+  numbers-read : (g : IsNumbers v) → numbersAt s at ≡ Read (valueOf 0 (g .number) * 100 + valueOf 0 (g .count)) (at + length (g .number) + 1 + length (g .count))
+  unfolding numbersAt
+  numbers-read g =
+      let a = g .number in
+      let b = g .count in
+      let h₁ : drop at s ≡ a ++ (bytes "/" ++ (b ++ (crlf ++ r))) = h ∙ ap (λ (l : List ℕ). l ++ (crlf ++ r)) (g .is) ∙ append-assoc a (bytes "/" ++ b) (crlf ++ r) in
+      let h₂ = past s at a (bytes "/" ++ (b ++ (crlf ++ r))) h₁ in
+      let h₃ = past s (at + length a) (bytes "/") (b ++ (crlf ++ r)) h₂ in
+      let k₁ = digits-are s at a (bytes "/" ++ (b ++ (crlf ++ r))) h₁ 2 (omega arith) (g .two) in
+      let l = lit-reads s (at + length a) (bytes "/") (b ++ (crlf ++ r)) h₂ in
+      let k₂ = digits-are s (at + length a + 1) b (crlf ++ r) h₃ 2 (omega arith) (g .too) in
+      simp (k₁, l, k₂, g .range)
+
+  amount-reads : (g : IsAmount v) → amountAt s at ≡ Read (centsIn g) (at + 3 + length (g .whole) + 1 + length (g .part))
+  unfolding amountAt
+  amount-reads g =
+      let a = g .whole in
+      let b = g .part in
+      let h₁ : drop at s ≡ bytes "AUD" ++ (a ++ (bytes "," ++ (b ++ (crlf ++ r)))) = h ∙ ap (λ (l : List ℕ). l ++ (crlf ++ r)) (g .is) ∙ ap (λ (l : List ℕ). bytes "AUD" ++ l) (append-assoc a (bytes "," ++ b) (crlf ++ r)) in
+      let h₂ = past s at (bytes "AUD") (a ++ (bytes "," ++ (b ++ (crlf ++ r)))) h₁ in
+      let h₃ = past s (at + 3) a (bytes "," ++ (b ++ (crlf ++ r))) h₂ in
+      let h₄ = past s (at + 3 + length a) (bytes ",") (b ++ (crlf ++ r)) h₃ in
+      let l₁ = lit-reads s at (bytes "AUD") (a ++ (bytes "," ++ (b ++ (crlf ++ r)))) h₁ in
+      let k₁ = digits-reads s (at + 3) a 44 (b ++ (crlf ++ r)) 10 h₂ (g .most) (g .digits) comma-ends in
+      let z : (at + 3 + length a ≡ at + 3 → ⊥) = λ e. omega (arith, e, g .some) in
+      let l₂ = lit-reads s (at + 3 + length a) (bytes ",") (b ++ (crlf ++ r)) h₃ in
+      let k₂ = digits-reads s (at + 3 + length a + 1) b 13 (10 ∷ r) 2 h₄ (g .short) (g .too) cr-ends in
+      simp (l₁, k₁, ne-eqb (at + 3 + length a) (at + 3) z, l₂, k₂, hundredths-are (at + 3 + length a + 1) b)
+
+module _ (s : List ℕ) (at : ℕ) {x e : ℕ} where
+  word-number : (n : ℕ) → wordAt s at n ≡ Read x e → x ≡ shortAt s at
+  unfolding wordAt
+  word-number n h = go (codeAt s at n) h
+    where
+      go : (t : At) → onNext t malformed (λ a. Read (shortAt s at) a) ≡ Read x e → x ≡ shortAt s at
+      go (Next a) h = cc
+      go No h = unread h
+
+  letters-number : lettersAt s at ≡ Read x e → x ≡ shortAt s at
+  unfolding lettersAt judgedAt
+  letters-number h = go (lineEndAt s at 4) h
+    where
+      judged : (a : ℕ) (b₀ b₁ b₂ b₃ : Bool) → cond b₀ (cond b₁ (cond b₂ (cond b₃ (Read (shortAt s at) a) malformed) (Unread WrongLetter)) (Unread WrongLetter)) (Unread WrongEsa) ≡ Read x e → x ≡ shortAt s at
+      judged a true true true true h = cc
+      judged a true true true false h = unread h
+      judged a true true false b₃ h = unread h
+      judged a true false b₂ b₃ h = unread h
+      judged a false b₁ b₂ b₃ h = unread h
+
+      sized : (a : ℕ) (b : Bool) → cond b (judgedAt s at a) malformed ≡ Read x e → x ≡ shortAt s at
+      sized a true h = judged a (isStatus (getD s (at + 0) 0)) (isStatus (getD s (at + 1) 0)) (isStatus (getD s (at + 2) 0)) (isFourth (getD s (at + 3) 0)) h
+      sized a false h = unread h
+
+      go : (t : At) → onNext t malformed (λ a. cond (eqb a (at + 4)) (judgedAt s at a) malformed) ≡ Read x e → x ≡ shortAt s at
+      go (Next a) h = sized a (eqb a (at + 4)) h
+      go No h = unread h
+
+  count-number : (n : ℕ) → countAt s at n ≡ Read x e → x ≡ n
+  unfolding countAt
+  count-number n h = go (litAt s at (bytes "0")) (eqb (digitsAt s at 2 .end) at) (eqb (digitsAt s at 2 .value) n) refl h
+    where
+      go : (t : At) (b c : Bool) → eqb (digitsAt s at 2 .value) n ≡ c → onNext t (cond b malformed (cond c (Read (digitsAt s at 2 .value) (digitsAt s at 2 .end)) malformed)) (λ a. malformed) ≡ Read x e → x ≡ n
+      go (Next a) b c q h = unread h
+      go No true c q h = unread h
+      go No false false q h = unread h
+      go No false true q h = let z : digitsAt s at 2 .value ≡ x = cc in sym z ∙ eqb-true (digitsAt s at 2 .value) n q
+
+-- what the number beside a value is; a name's code is read of its part, a side's number is told by the side
+abbrev pub Means : (s : List ℕ) (k : Kind) (v : List ℕ) → Spelt s k v → ℕ → Type 0
+Means s Reference v g x = Unit {0}
+Means s (Numeral n) v g x = x ≡ valueOf 0 v
+Means s (Word n) v g x = n ≡ 4 → x ≡ packed 4 v
+Means s (Bin p) v g x = Unit {0}
+Means s Numbers v g x = x ≡ valueOf 0 (g .number) * 100 + valueOf 0 (g .count)
+Means s Date v g x = x ≡ g .day
+Means s Time v g x = x ≡ g .minute
+Means s Side v g x = Unit {0}
+Means s Amount v g x = x ≡ centsIn g
+Means s Letters v g x = x ≡ packed 4 v
+Means s (Count n) v g x = x ≡ n
+
+value-means : (s : List ℕ) (at : ℕ) (v r : List ℕ) → drop at s ≡ v ++ (crlf ++ r) → (b : ℕ) (k : Kind) → Fine b k → (g : Spelt s k v) {x e : ℕ} → valueAt s at k ≡ Read x e → Means s k v g x
+value-means s at v r h b Reference f g q = tt
+value-means s at v r h b (Numeral n) f g q = number-is q (numeral-reads s at v (crlf ++ r) h n (omega arith) g)
+value-means s at v r h b (Word n) f g q = λ e. word-number s at n q ∙ four-are s at v (crlf ++ r) h (g .size ∙ e)
+value-means s at v r h b (Bin p) f g q = tt
+value-means s at v r h b Numbers f g q = number-is q (numbers-read s at v r h g)
+value-means s at v r h b Date f g q = number-is q (date-reads s at v (crlf ++ r) h g)
+value-means s at v r h b Time f g q = number-is q (time-reads s at v (crlf ++ r) h g)
+value-means s at v r h b Side f g q = tt
+value-means s at v r h b Amount f g q = number-is q (amount-reads s at v r h g)
+value-means s at v r h b Letters f g q = letters-number s at q ∙ four-are s at v (crlf ++ r) h (ap length (g .is))
+value-means s at v r h b (Count n) f g q = count-number s at n q
+
+-- a line that was read stands there, its part is its value, and its number is what the value means
+pub record LineRead (s : List ℕ) (at : ℕ) (tag : List ℕ) (k : Kind) (i : Item) (c : Cursor) : Type 0 where
+  pub line : Line tag (Spelt s k) (drop at s) (drop (c .at) s)
+  pub span : i .part ≡ record { start = at + length tag; end = at + length tag + length (line .value) }
+  pub text : textOf s (i .part) ≡ line .value
+  pub means : Means s k (line .value) (line .is) (i .number)
+
+pub line-read : (s : List ℕ) (at : ℕ) (tag : List ℕ) (k : Kind) (b : ℕ) → Fine b k → {i : Item} {c : Cursor} → fieldAt s at tag k ≡ Good i c → LineRead s at tag k i c
+line-read s at tag k b f {i} {c} q =
+    let g = line-sound s at tag k q in
+    let p = line-complete s at tag k b f refl g in
+    let w = g .value in
+    let z : i ≡ item (at + length tag) (at + length tag + length w) (p .number) = cc (q, p .is) in
+    let y : i .part ≡ record { start = at + length tag; end = at + length tag + length w } = ap (λ (j : Item). j .part) z in
+    record {
+      line = g;
+      span = y;
+      text = ap (textOf s) y ∙ part-is s (at + length tag) (at + length tag + length w) w (crlf ++ drop (c .at) s) (p .part) refl;
+      means = subst (Means s k w (g .is)) (sym (ap (λ (j : Item). j .number) z)) (value-means s (at + length tag) w (drop (c .at) s) (p .part) b k f (g .is) (p .value));
+    }
