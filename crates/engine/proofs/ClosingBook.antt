@@ -15,15 +15,14 @@ use Rattle.dates.specs.declared.Day.{Day as Date}
 use Rattle.dates.specs.declared.Day.the-variants.{Number, Untrue}
 use Rattle.dates.proofs.Laws.{day-back}
 use Rattle.book.specs.Book.{each, bookCheck}
-use Rattle.book.specs.Closing.{bankOf, bookBytes}
+use Rattle.closing.specs.Closing.{bankOf, bookBytes}
 use Rattle.book.specs.Accounts.{Stream, Bank, fieldOf, column, dayIn, streamsIn, banksIn}
 use Rattle.book.specs.Range.{InRange}
 use Rattle.book.specs.Range.{Each as EachOf, isShort as isFour, Rising as RisingOf}
 use Rattle.book.specs.declared.Answer.the-variants.{Sound}
 use Rattle.book.specs.declared.Field.{Field}
 use Rattle.book.specs.declared.Field.the-variants.{Code, Flags, Balance, Limit}
-use Rattle.book.proofs.Filling.{map-each}
-use Rattle.book.proofs.Sealing.{each-length}
+use Rattle.book.proofs.Filling.{map-each, each-length}
 use Rattle.reopening.proofs.Theorems.{written-accepted, written-reads-back}
 use Rattle.settle.specs.Settlement.{Accounts, accounts}
 use Rattle.settle.specs.Rules.{sum}

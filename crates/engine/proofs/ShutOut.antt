@@ -43,7 +43,7 @@ use Rattle.response.specs.Texts.{headText, batchText, settledText, rejectedText
 use Rattle.book.specs.Block.{firstBroken, little, headRight, zerosAt, unusedRight, headerRight, checkRight, entriesRight}
 use Rattle.book.specs.Book.{dateIn, streamRight, bitsPast, bankRight, lengthRight, streamsCounted, streamRules, banksCounted, codeBefore as book-codeBefore, bankRules, bankBlocks, bankPlace, bankCount, totalRight, bookRules, bookCheck}
 use Rattle.book.specs.Accounts.{dayIn, streamsIn, banksIn}
-use Rattle.book.specs.Closing.{littleOf, streamBytes, bankBytes, sealed, streamBlock, bankBlock, bankBlocksOf, blocksFor, bookBytes}
+use Rattle.closing.specs.Closing.{littleOf, streamBytes, bankBytes, sealed, streamBlock, bankBlock, bankBlocksOf, blocksFor, bookBytes}
 use Rattle.settle.specs.Cover.{covered}
 use Rattle.settle.specs.Payments.{payment, paymentAt as settle-paymentAt, paymentsFrom, needsOf}
 use Rattle.settle.specs.Settlement.{firstUncovered, paid, settled}
