@@ -1,3 +1,4 @@
 pub mod Determined
 pub mod Rowing
 pub mod Ranking
+pub mod Batching
