@@ -2,3 +2,4 @@ pub mod Determined
 pub mod Rowing
 pub mod Ranking
 pub mod Batching
+pub mod Held

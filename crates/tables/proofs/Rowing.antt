@@ -18,10 +18,10 @@ use Rattle.tables.specs.Words.{filled, activationWord, paymentWords, pay
 
 -- ---- what stands from a place of a row on
 
-at-word : (row : List ℕ) (at i : ℕ) (l : List ℕ) → drop at row ≡ l → getD row (at + i) 0 ≡ getD l i 0
+pub at-word : (row : List ℕ) (at i : ℕ) (l : List ℕ) → drop at row ≡ l → getD row (at + i) 0 ≡ getD l i 0
 at-word row at i l h = sym (getD-drop at row i 0) ∙ ap (λ (x : List ℕ). getD x i 0) h
 
-past : (row : List ℕ) (at n : ℕ) (l : List ℕ) → drop at row ≡ l → drop (at + n) row ≡ drop n l
+pub past : (row : List ℕ) (at n : ℕ) (l : List ℕ) → drop at row ≡ l → drop (at + n) row ≡ drop n l
 past row at n l h = sym (drop-drop n at row) ∙ ap (λ (x : List ℕ). drop n x) h
 
 pub filled-long : (n : ℕ) (l : List ℕ) → length l ≤ n → length (filled n l) ≡ n
