@@ -3,3 +3,4 @@ pub mod Rowing
 pub mod Ranking
 pub mod Batching
 pub mod Held
+pub mod Kept
