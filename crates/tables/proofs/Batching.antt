@@ -5,7 +5,7 @@ use mathlib.Core.Bool.{Bool, true, false, cond, false≢true}
 use mathlib.Core.List.{List, [], _∷_, _++_, map}
 use native.Mathlib.Omega.{arith}
 use lib.Dec.{eqb}
-use lib.ListN.{length, getD, drop, replicate, length-replicate, drop-of-length-le}
+use lib.ListN.{length, getD, drop, replicate, length-append, length-replicate, drop-of-length-le}
 use lib.Seq.{take-at, drop-at, drop-cons}
 use Rattle.chars.specs.Words.{member}
 use Rattle.queue.specs.Promise.{All, Once}
@@ -46,6 +46,11 @@ module _ (b : Batches) (m : List ℕ) where
   rows-back p (x ∷ xs) h =
       let l = place-long p x (h .0) in
       rw (take-at (placeWords b m p x) (placesWords b m (p + 1) xs) 349 l, drop-at (placeWords b m p x) (placesWords b m (p + 1) xs) 349 l, rows-back (p + 1) xs (h .1))
+
+  pub places-long : (p : ℕ) (xs : List Place) → AllLie p xs → length (placesWords b m p xs) ≡ 349 * length xs
+  unfolding placesWords
+  places-long p [] h = refl
+  places-long p (x ∷ xs) h = omega (arith, length-append (placeWords b m p x) (placesWords b m (p + 1) xs), place-long p x (h .0), places-long (p + 1) xs (h .1))
 
   -- ---- places
 

@@ -23,8 +23,9 @@ use Rattle.engine.proofs.Standing.{Standing, vacant, building, awaits, stands, 
 use Rattle.engine.proofs.Validity.{valid-kept, known-in}
 use Rattle.tables.specs.Rows.{rows, batchesIn, memoryIn, entriesIn, stateIn, engineIn}
 use Rattle.tables.specs.Words.{filled, placesWords, entriesWords, tablesOf, deskOf}
+use Rattle.tables.specs.Lent.{Long}
 use Rattle.tables.proofs.Rowing.{at-word, past, EachLettered, Fits}
-use Rattle.tables.proofs.Batching.{Lies, AllLie, batches-back, memory-back}
+use Rattle.tables.proofs.Batching.{Lies, AllLie, places-long, batches-back, memory-back}
 
 -- ---- references and BINs
 
@@ -35,6 +36,11 @@ entries-back (e ∷ es) = ap (λ (l : List Entry). e ∷ l) (entries-back es)
 
 known-back : (n : ℕ) (es : List Entry) → length es ≡ n → entriesIn n (entriesWords es) ≡ es
 known-back n es h = rw (sym h) (entries-back es)
+
+entries-long : (es : List Entry) → length (entriesWords es) ≡ 3 * length es
+unfolding entriesWords
+entries-long [] = refl
+entries-long (e ∷ es) = omega (arith, entries-long es)
 
 -- ---- streams
 
@@ -122,10 +128,29 @@ module _ (banks : ℕ) (b : Batches) (m : List ℕ) (s : Stood banks b) (r : Rig
       (times-all (λ p. p < 32) (b .queue) (λ p h. inside p (omega arith)))
       (times-all (λ p. p < 32) (b .pending) (λ p h. inside p (omega arith)))
 
+  pub batches-long : length (placesWords b m 0 (b .places)) ≡ 11168
+  batches-long = omega (arith, places-long b m 0 (b .places) places-lie, s .long)
+
   pub memory-held : memoryIn (placesWords b m 0 (b .places)) ≡ m
   memory-held = memory-back b m (s .long) places-lie (r .long)
 
 -- ---- the whole
+
+-- the tables of a state that keeps the rules have the right lengths
+pub held-long : (e : Engine) → Valid (e .state) → RightMemory (e .state .batches) (e .memory) → Long (tablesOf e)
+unfolding tablesOf
+held-long e v r =
+    let k = known-in (e .state) (e .state .day .phase) v in
+    let s = valid-kept (e .state) v in
+    record {
+      codes = s .house .codes-long;
+      flags = s .house .flags-long;
+      balances = s .house .balances-long;
+      limits = s .house .limits-long;
+      batches = batches-long (e .state .house .banks) (e .state .batches) (e .memory) (s .batches) r;
+      references = omega (arith, entries-long (e .state .known .references), k .references-long);
+      bins = omega (arith, entries-long (e .state .known .bins), k .bins-long);
+    }
 
 pub held : (e : Engine) → Valid (e .state) → RightMemory (e .state .batches) (e .memory) → engineIn (deskOf (e .state)) (tablesOf e) ≡ e
 unfolding engineIn stateIn deskOf tablesOf

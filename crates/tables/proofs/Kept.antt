@@ -14,7 +14,7 @@ use Rattle.tables.specs.Rows.{Tables, engineIn}
 use Rattle.tables.specs.Words.{tablesOf, deskOf}
 use Rattle.tables.specs.Lent.{Right, Lent, Asked, callOf, Left, leftBy, callLent, Called, Long, Wiped, clearLent, Cleared}
 use Rattle.tables.specs.Running.{Lending, lentTo, callIn, Ran, done, then, leftIn, leftAll}
-use Rattle.tables.proofs.Held.{held}
+use Rattle.tables.proofs.Held.{held, held-long}
 
 -- ---- the tables of a state that keeps the rules
 
@@ -30,6 +30,10 @@ right-of e v r =
       desk = ap (λ (x : Engine). deskOf (x .state)) h;
       tables = ap (λ (x : Engine). tablesOf x) h;
     }
+
+-- tables that keep the rules have the right lengths
+pub right-long : (d : Desk) (t : Tables) → Right d t → Long t
+right-long d t r = subst (λ (x : Tables). Long x) (r .tables) (held-long (engineIn d t) (r .valid) (r .memory))
 
 called-right : (e : Engine) (c : Call) → Valid (e .state) → RightMemory (e .state .batches) (e .memory) → RightOf (call e c .engine)
 called-right e c v r = right-of (call e c .engine) (call-valid readers e c v) (call-memory e c r)
