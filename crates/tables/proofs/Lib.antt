@@ -4,3 +4,4 @@ pub mod Ranking
 pub mod Batching
 pub mod Held
 pub mod Kept
+pub mod Reported
