@@ -1,17 +1,17 @@
 -- The rows of the batch places say places, orders and memory.
-use Prim.Native.Nat.{ℕ, zero, suc, _+_, _*_, _≤_, _<_}
+use Prim.Native.Nat.{ℕ, suc, _+_, _*_, _<_}
 use mathlib.Core.Path.{_≡_, refl, sym, ap, _∙_}
-use mathlib.Core.Bool.{Bool, true, false, cond, false≢true}
-use mathlib.Core.List.{List, [], _∷_, _++_, map}
+use mathlib.Core.Bool.{true, false, false≢true}
+use mathlib.Core.List.{List, [], _∷_, map}
 use native.Mathlib.Omega.{arith}
 use lib.Dec.{eqb}
-use lib.ListN.{length, getD, drop, replicate, length-append, length-replicate, drop-of-length-le}
+use lib.ListN.{length, getD, drop, length-append, length-replicate, drop-of-length-le}
 use lib.Seq.{take-at, drop-at, drop-cons}
 use Rattle.chars.specs.Words.{member}
 use Rattle.queue.specs.Promise.{All, Once}
 use Rattle.queue.proofs.MemoryLaws.{byBool}
 use Rattle.engine.specs.State.{Batch, Place, free, live, Batches}
-use Rattle.tables.specs.Rows.{rows, word, placeIn, pendingPhase, queuedPhase, ranked, batchRows, batchesIn, memoryIn}
+use Rattle.tables.specs.Rows.{rows, word, placeIn, pendingPhase, queuedPhase, batchRows, batchesIn, memoryIn}
 use Rattle.tables.specs.Words.{batchWords, phaseOf, rankOf, placeWords, placesWords}
 use Rattle.tables.proofs.Rowing.{Fits, batch-long, batch-back}
 use Rattle.tables.proofs.Ranking.{Tells, AllTell, ranks-back}

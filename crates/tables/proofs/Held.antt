@@ -1,23 +1,20 @@
 -- The lent tables hold every state that keeps the rules.
 use Prim.Native.Nat.{ℕ, zero, suc, _+_, _*_, _-_, _≤_, _<_}
 use mathlib.Core.Path.{_≡_, refl, sym, ap, _∙_}
-use mathlib.Core.Bool.{Bool, true, false, false≢true}
+use mathlib.Core.Bool.{true, false, false≢true}
 use mathlib.Core.List.{List, [], _∷_, _++_}
 use native.Mathlib.Omega.{arith}
 use lib.Dec.{ltb}
 use lib.ListN.{length, getD, drop, replicate, length-append, List·getD-eq-default}
-use lib.Seq.{getD-drop, drop-drop}
 use borrow.Author.Tests.{ltb-true, ltb-false}
 use Rattle.chars.specs.Words.{member}
 use Rattle.book.specs.Book.{each}
 use Rattle.book.specs.Accounts.{Stream, streamRow}
 use Rattle.closing.specs.Closing.{streamOf}
-use Rattle.settle.specs.Payments.{Payment}
-use Rattle.queue.specs.Promise.{All, Once}
 use Rattle.queue.proofs.MemoryLaws.{byBool}
-use Rattle.engine.specs.State.{Message, Batch, Place, free, live, Batches, Entry, State, placeAt, paymentsOf}
+use Rattle.engine.specs.State.{Message, Batch, Place, free, live, Batches, Entry, paymentsOf}
 use Rattle.engine.specs.Calls.{Engine}
-use Rattle.engine.specs.Rules.{Each, Lettered, RightMessage, RightBatch, Valid, RightMemory}
+use Rattle.engine.specs.Rules.{Each, RightMessage, RightBatch, Valid, RightMemory}
 use Rattle.engine.proofs.Counting.{times, times-once, times-all, no-member}
 use Rattle.engine.proofs.Standing.{Standing, vacant, building, awaits, stands, Stood, at-most-once}
 use Rattle.engine.proofs.Validity.{valid-kept, known-in}

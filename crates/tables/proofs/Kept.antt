@@ -1,10 +1,9 @@
 -- The engine's own tables keep the rules, and calls on them leave what the rules say.
-use Prim.Native.Nat.{ℕ}
 use mathlib.Core.Path.{_≡_, refl, sym, ap, subst, _∙_}
 use mathlib.Core.Bool.{Bool, true, false}
 use mathlib.Core.List.{List, [], _∷_, map}
 use Rattle.chars.specs.Words.{Says}
-use Rattle.engine.specs.Calls.{Call, Engine, Result, call, cleared, run}
+use Rattle.engine.specs.Calls.{Call, Engine, call, cleared, run}
 use Rattle.engine.specs.Rules.{Each, Valid, RightMemory}
 use Rattle.engine.proofs.Reading.{readers}
 use Rattle.engine.proofs.Validity.{call-valid}

@@ -5,3 +5,5 @@ pub mod Batching
 pub mod Held
 pub mod Kept
 pub mod Reported
+pub mod Breaks
+pub mod Unbroken

@@ -2,7 +2,7 @@
 use Prim.Native.Nat.{ℕ, _+_, _≤_}
 use mathlib.Core.Path.{_≡_, refl, sym, ap, subst, _∙_}
 use mathlib.Core.Bool.{Bool, true, false, _&&_, cond}
-use mathlib.Core.List.{List, [], _++_}
+use mathlib.Core.List.{List, _++_}
 use native.Mathlib.Omega.{arith}
 use lib.Dec.{leb}
 use lib.ListN.{length, take, drop}
@@ -15,7 +15,6 @@ use Rattle.engine.specs.declared.Answer.{Answer}
 use Rattle.engine.specs.declared.Answer.the-variants.{Done, Refused}
 use Rattle.engine.specs.Calls.{Call, Engine, Result, rightClock, rightDay, roomNeeded, rowsNeeded, judge, call}
 use Rattle.engine.specs.Rules.{Valid}
-use Rattle.engine.proofs.Truth.{and-true}
 use Rattle.engine.proofs.Reading.{readers}
 use Rattle.engine.proofs.Validity.{valid-kept}
 use Rattle.engine.proofs.Output.{call-out}

@@ -1,10 +1,10 @@
 -- The words of a batch place say the batch.
-use Prim.Native.Nat.{ℕ, zero, suc, _+_, _*_, _-_, _≤_, _<_}
+use Prim.Native.Nat.{ℕ, zero, suc, _+_, _*_, _-_, _≤_}
 use mathlib.Core.Path.{_≡_, refl, sym, ap, _∙_}
-use mathlib.Core.Bool.{Bool, true, false, cond, false≢true}
+use mathlib.Core.Bool.{true, false, false≢true}
 use mathlib.Core.List.{List, [], _∷_, _++_, append-assoc}
 use native.Mathlib.Omega.{arith}
-use lib.ListN.{length, getD, take, drop, replicate, length-append, length-replicate}
+use lib.ListN.{length, getD, drop, replicate, length-append, length-replicate}
 use lib.Seq.{getD-drop, drop-drop, drop-at}
 use Rattle.codes.specs.Codes.{shortText, unpacked}
 use Rattle.values.specs.Letters.{isStatus}

@@ -1,12 +1,12 @@
 -- Calls one after another on the lent tables; buffer and try row are lent anew for each.
 use Prim.Native.Nat.{ℕ}
-use mathlib.Core.List.{List, [], _∷_, map}
+use mathlib.Core.List.{List, [], _∷_}
 use lib.ListN.{length}
 use Rattle.engine.specs.Calls.{Call, Result}
 use Rattle.tables.specs.declared.Desk.{Desk}
 use Rattle.tables.specs.Rows.{Tables}
 use Rattle.tables.specs.Words.{tablesOf, deskOf}
-use Rattle.tables.specs.Lent.{Lent, Asked, callOf, Left, leftBy, Called}
+use Rattle.tables.specs.Lent.{Lent, Asked, Left, leftBy, Called}
 
 -- what one call is asked, and the buffer and the row lent to it
 pub record Lending : Type 0 where
