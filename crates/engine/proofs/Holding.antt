@@ -297,6 +297,9 @@ unfolding run
 runs-memory [] e h = tt
 runs-memory (c ∷ cs) e h = let w = call-memory e c h in (w, runs-memory cs (call e c .engine) w)
 
+pub cleared-memory : RightMemory (cleared .state .batches) (cleared .memory)
+cleared-memory = holds-right noBatches noMemory refl (λ p k f. zero-held (sym (fresh-none p) ∙ f))
+
 -- over any calls from a fresh start
 pub memory-always-right : (cs : List Call) → Each (λ r. RightMemory (r .engine .state .batches) (r .engine .memory)) (run cleared cs)
-memory-always-right cs = runs-memory cs cleared (holds-right noBatches noMemory refl (λ p k f. zero-held (sym (fresh-none p) ∙ f)))
+memory-always-right cs = runs-memory cs cleared cleared-memory

@@ -85,7 +85,7 @@ module _ (e : Engine) (c : Call) where
   judged-number Done = performed-number (c .action)
   judged-number (Refused r) = refl
 
-  call-number : Numbered e c (call e c)
+  pub call-number : Numbered e c (call e c)
   unfolding call
   call-number = judged-number (judge (e .state) c)
 

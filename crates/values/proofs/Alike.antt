@@ -31,19 +31,19 @@ abbrev pub EndsIn : ℕ → ℕ → Value → Type 0
 EndsIn at w (Read v e) = (at ≤ e) × (e ≤ at + w)
 EndsIn at w (Unread r) = Unit {0}
 
-by-cond : {A : Type 0} (P : A → Type 0) (b : Bool) {x y : A} → P x → P y → P (cond b x y)
+pub by-cond : {A : Type 0} (P : A → Type 0) (b : Bool) {x y : A} → P x → P y → P (cond b x y)
 by-cond P true p q = p
 by-cond P false p q = q
 
-by-digits : {A : Type 0} (P : A → Type 0) (r : Fixed) {d : A} {k : ℕ → ℕ → A} → P d → ((v e : ℕ) → r ≡ Digits v e → P (k v e)) → P (onDigits r d k)
+pub by-digits : {A : Type 0} (P : A → Type 0) (r : Fixed) {d : A} {k : ℕ → ℕ → A} → P d → ((v e : ℕ) → r ≡ Digits v e → P (k v e)) → P (onDigits r d k)
 by-digits P (Digits v e) p q = q v e refl
 by-digits P Unfit p q = p
 
-by-day : {A : Type 0} (P : A → Type 0) (r : Day) {d : A} {k : ℕ → A} → P d → ((n : ℕ) → P (k n)) → P (onDay r d k)
+pub by-day : {A : Type 0} (P : A → Type 0) (r : Day) {d : A} {k : ℕ → A} → P d → ((n : ℕ) → P (k n)) → P (onDay r d k)
 by-day P (Number n) p q = q n
 by-day P Untrue p q = p
 
-by-minute : {A : Type 0} (P : A → Type 0) (r : Minute) {d : A} {k : ℕ → A} → P d → ((n : ℕ) → P (k n)) → P (onMinute r d k)
+pub by-minute : {A : Type 0} (P : A → Type 0) (r : Minute) {d : A} {k : ℕ → A} → P d → ((n : ℕ) → P (k n)) → P (onMinute r d k)
 by-minute P (Clocked n) p q = q n
 by-minute P Unclocked p q = p
 
