@@ -1,5 +1,8 @@
 pub mod Trial
 pub mod Stories
+pub mod DaysRemembered
+pub mod DaysRoom
+pub mod DaysRules
 pub mod Moved
 pub mod Agreement
 pub mod Refusals
