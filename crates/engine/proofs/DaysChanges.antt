@@ -2,9 +2,10 @@
 use Prim.Native.Nat.{ℕ}
 use Prim.Native.String.{String}
 use mathlib.Core.Path.{_≡_, refl}
-use mathlib.Core.List.{[], _∷_}
+use mathlib.Core.List.{List, [], _∷_}
 use Rattle.engine.specs.declared.Action.{Action}
 use Rattle.engine.specs.declared.Action.the-variants.{Opening, SubLimit, Status, Tick, Close, ClosingBook}
+use Rattle.engine.specs.Calls.{Call}
 use Rattle.engine.proofs.Stories.{asked, says, code, longCode, bank, book, request, begins-at, alone, pays, dr, reply132, line, quiet, plays}
 
 -- the letters of a status change
@@ -19,7 +20,8 @@ status b bin letter = Status (code b) (longCode bin) letter
 
 -- "not A, D or P 80; unknown bank 76; no pending or queued batch of that BIN with a debit of that bank 02": a pending batch by P; a queued batch by a
 -- sub-limit that leaves just its amount; a batch being assembled by neither. 76 before 14. The closing book has the last sub-limit
-pub changes : plays (
+abbrev changes-calls : List Call
+changes-calls =
     asked 9 0 0 Opening (book 9895 (bank "AAAA" 50000 30000 ∷ bank "BBBB" 0 0 ∷ []))
     ∷ says 10 0 0 (request "U1" "PROP0001" "01/01" (begins-at "1100" (pays "AAAA" "BBBB" "250," "AAA ")))
     ∷ asked 10 0 1 (status "AAAA" "PROP0001" X) []
@@ -39,7 +41,9 @@ pub changes : plays (
     ∷ asked 11 0 8 (SubLimit (code "AAAA") 6400000000000000) []
     ∷ asked 17 0 0 Close []
     ∷ asked 17 0 1 (ClosingBook 270204) []
-    ∷ [])
+    ∷ []
+
+pub changes : plays changes-calls
     ≡ quiet 0 (50000 ∷ 0 ∷ [])
     ∷ quiet 0 (50000 ∷ 0 ∷ [])
     ∷ quiet 80 (50000 ∷ 0 ∷ [])

@@ -12,7 +12,8 @@ use Rattle.engine.proofs.Stories.{asked, says, lending, code, bank, boo
 
 -- PROP0003 is being assembled at place 0, PROP0002 is queued at 2, PROP0005 is being assembled at 3, PROP0006 came last and is pending at place 1, where
 -- PROP0001 was before its recall. The closing book has the sub-limits as they stand
-pub close-by-arrival : plays (
+abbrev close-by-arrival-calls : List Call
+close-by-arrival-calls =
     asked 9 0 0 Opening (book 9895 (bank "AAAA" 10000 0 ∷ bank "BBBB" 0 0 ∷ []))
     ∷ says 10 0 0 (request "E1" "PROP0003" "01/02" (alone (dr "AAAA" "1," "AAA ")))
     ∷ says 10 0 1 (request "E2" "PROP0001" "01/01" (begins-at "1800" (pays "AAAA" "BBBB" "1," "AAA ")))
@@ -32,7 +33,9 @@ pub close-by-arrival : plays (
     ∷ lending 1024 527 (asked 17 0 1 (ClosingBook 270204) [])
     ∷ lending 1024 528 (asked 17 0 1 (ClosingBook 270204) [])
     ∷ asked 17 0 0 (ClosingBook 270204) []
-    ∷ [])
+    ∷ []
+
+pub close-by-arrival : plays close-by-arrival-calls
     ≡ quiet 0 (10000 ∷ 0 ∷ [])
     ∷ quiet 0 (10000 ∷ 0 ∷ [])
     ∷ quiet 0 (10000 ∷ 0 ∷ [])
@@ -58,13 +61,16 @@ unfolding plays
 close-by-arrival = refl
 
 -- "The close runs (a), (b), (d)" first: a batch whose minute has come joins and settles in it
-pub close-settles : plays (
+abbrev close-settles-calls : List Call
+close-settles-calls =
     asked 9 0 0 Opening (book 9895 (bank "AAAA" 10000 0 ∷ bank "BBBB" 0 0 ∷ []))
     ∷ says 10 0 0 (request "E1" "PROP0001" "01/02" (alone (dr "AAAA" "1," "AAA ")))
     ∷ says 10 0 1 (request "E2" "PROP0002" "01/01" (begins-at "1700" (pays "AAAA" "BBBB" "1," "AAA ")))
     ∷ says 10 0 2 (request "E3" "PROP0003" "01/01" (begins-at "1701" (pays "AAAA" "BBBB" "1," "AAA ")))
     ∷ asked 17 0 59 Close []
-    ∷ [])
+    ∷ []
+
+pub close-settles : plays close-settles-calls
     ≡ quiet 0 (10000 ∷ 0 ∷ [])
     ∷ quiet 0 (10000 ∷ 0 ∷ [])
     ∷ quiet 0 (10000 ∷ 0 ∷ [])
@@ -84,7 +90,8 @@ abbrev pay : Call
 pay = says 9 0 1 (request "F1" "PROP0001" "01/01" (pays "AAAA" "BBBB" "1," "AAA "))
 
 -- on a fresh start; on an open day, 05 before 07, and a call refused with 07 can be made again
-pub moments : plays (
+abbrev moments-calls : List Call
+moments-calls =
     asked 9 0 0 Tick []
     ∷ asked 9 0 0 Close []
     ∷ asked 9 0 0 (ClosingBook 270203) []
@@ -103,7 +110,9 @@ pub moments : plays (
     ∷ lending 33705 527 pay
     ∷ pay
     ∷ asked 23 59 59 Close []
-    ∷ [])
+    ∷ []
+
+pub moments : plays moments-calls
     ≡ quiet 5 (0 ∷ 0 ∷ [])
     ∷ quiet 5 (0 ∷ 0 ∷ [])
     ∷ quiet 5 (0 ∷ 0 ∷ [])
@@ -134,7 +143,8 @@ again b = asked 8 0 0 Opening b
 abbrev rich : (balance more : ℕ) → List ℕ
 rich balance more = book 9895 (bank "AAAA" balance 0 ∷ bank "BBBB" more 0 ∷ [])
 
-pub openings : plays (
+abbrev openings-calls : List Call
+openings-calls =
     opens 9895
     ∷ asked 17 0 0 Close []
     ∷ again (take 1023 (rich 0 0))
@@ -145,7 +155,9 @@ pub openings : plays (
     ∷ again (rich 6400000000000000 0)
     ∷ again (book 9896 (bank "AAAA" 6400000000000000 6400000000000000 ∷ []))
     ∷ asked 8 0 0 Tick []
-    ∷ [])
+    ∷ []
+
+pub openings : plays openings-calls
     ≡ quiet 0 (10000 ∷ 0 ∷ [])
     ∷ quiet 0 (10000 ∷ 0 ∷ [])
     ∷ quiet 11 (10000 ∷ 0 ∷ [])

@@ -84,15 +84,18 @@ abbrev calls-13 : List Call
 calls-13 = queues (pays "AAAA" "BBBB" "0,10" "AAA ") (pays "BBBB" "CCCC" "0,50" "AAA ")
 
 -- by the quick test Q1 is omitted until AAAA's sub-limit changes, in whichever call; a plain try leaves that as it is
-pub day-13 : plays (calls-13 ++ (
+abbrev later : List Call
+later =
     asked 10 0 1 Tick []
     ∷ plainly (asked 10 0 2 Tick [])
     ∷ asked 10 0 3 Tick []
     ∷ plainly (asked 10 0 4 (SubLimit (code "AAAA") 0) [])
     ∷ asked 10 0 5 Tick []
     ∷ asked 10 0 6 Tick []
-    ∷ []))
-    ≡ waits ++ (
+    ∷ []
+
+abbrev lines-later : List Line
+lines-later =
     line 0 (reply132 "1" "Q2" "PROP0002" "0\r\n:13E:270203100000") (0 ∷ 3 ∷ []) (0 ∷ 0 ∷ [])
     ∷ quiet 0 (0 ∷ 0 ∷ [])
     ∷ line 0 [] (0 ∷ []) (0 ∷ 0 ∷ [])
@@ -100,7 +103,9 @@ pub day-13 : plays (calls-13 ++ (
     ∷ line 0 [] (0 ∷ []) (0 ∷ 0 ∷ [])
     ∷ line 0 [] (0 ∷ []) (0 ∷ 0 ∷ [])
     ∷ quiet 0 (0 ∷ 0 ∷ [])
-    ∷ [])
+    ∷ []
+
+pub day-13 : plays (calls-13 ++ later) ≡ waits ++ lines-later
 unfolding plays
 day-13 = refl
 

@@ -1,11 +1,13 @@
 -- Recalls: of a queued batch, of one that has ended, is unknown or is being assembled.
 use mathlib.Core.Path.{_≡_, refl}
-use mathlib.Core.List.{[], _∷_, _++_}
+use mathlib.Core.List.{List, [], _∷_, _++_}
 use Rattle.engine.specs.declared.Action.the-variants.{Opening, Message}
+use Rattle.engine.specs.Calls.{Call}
 use Rattle.engine.proofs.Stories.{asked, says, bank, book, request, recallOf, alone, dr, cr, reply132, reply134, line, quiet, plays}
 
 -- "a batch's in arrival order, a 134 before the batch it recalls": the messages came 03, 01, 02. "else its 134 carries 02", and its reference is noted
-pub recalls : plays (
+abbrev recalls-calls : List Call
+recalls-calls =
     asked 9 0 0 Opening (book 9895 (bank "AAAA" 10000 0 ∷ bank "BBBB" 0 0 ∷ bank "CCCC" 0 0 ∷ []))
     ∷ says 10 0 0 (request "C3" "PROP0001" "03/03" (alone (cr "BBBB" "500,")))
     ∷ says 10 0 1 (request "C1" "PROP0001" "01/03" (alone (dr "AAAA" "300," "AAA ")))
@@ -18,7 +20,9 @@ pub recalls : plays (
     ∷ says 10 0 8 (recallOf "C8" "PROP0002")
     ∷ asked 10 0 9 (Message 6) (recallOf "C9" "PROP0002")
     ∷ says 10 0 10 (request "C9" "PROP0002" "02/02" (alone (cr "BBBB" "1,")))
-    ∷ [])
+    ∷ []
+
+pub recalls : plays recalls-calls
     ≡ quiet 0 (10000 ∷ 0 ∷ [])
     ∷ quiet 0 (10000 ∷ 0 ∷ [])
     ∷ quiet 0 (10000 ∷ 0 ∷ [])

@@ -94,12 +94,15 @@ abbrev noBatch : Engine
 noBatch = standing (entries "R" 32 0 ++ replicate 2016 noEntry) (entries "PROP" 32 0 ++ replicate 480 noEntry)
     (record { places = assembled 32 0; pending = []; queue = [] })
 
-pub no-place-for-a-batch : goes noBatch (
+abbrev no-place-for-a-batch-calls : List Call
+no-place-for-a-batch-calls =
     says 10 0 1 (request "N1" "PROP0032" "01/01" (pays "AAAA" "BBBB" "1," "AAA "))
     ∷ says 10 0 2 (recallOf "N2" "PROP0006")
     ∷ says 10 0 3 (request "N1" "PROP0005" "02/02" (alone (cr "BBBB" "1,")))
     ∷ says 10 0 4 (request "N3" "PROP0032" "01/01" (pays "AAAA" "BBBB" "1," "AAA "))
-    ∷ [])
+    ∷ []
+
+pub no-place-for-a-batch : goes noBatch no-place-for-a-batch-calls
     ≡ quiet 4 (10000 ∷ 0 ∷ [])
     ∷ line 2 (reply134 "1" "N2" "1\r\n:432:02") [] (10000 ∷ 0 ∷ [])
     ∷ line 0 (reply132 "2" "R0005" "PROP0005" "0\r\n:13E:270203100003" ++ reply132 "3" "N1" "PROP0005" "0\r\n:13E:270203100003") (11 ∷ []) (9900 ∷ 100 ∷ [])

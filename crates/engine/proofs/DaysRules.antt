@@ -26,8 +26,9 @@ answered n o = line n o [] (10000 ∷ 0 ∷ [])
 
 -- ---- "count or activation unlike the first message's, or number already there, 87; date before today 78, after today 84; then each payment"
 
--- a wrong count, number or activation beside a wrong date; a wrong date beside an unknown bank
-pub count-then-date : plays (
+-- a wrong count, number or activation beside a wrong date; a wrong date beside an unknown bank, and its BIN is remembered
+abbrev count-then-date-calls : List Call
+count-then-date-calls =
     opens
     ∷ says 10 0 0 (request "X1" "PROP0001" "01/02" debit)
     ∷ says 10 0 1 (dated "X2" "PROP0001" "02/03" "270204" debit)
@@ -37,7 +38,10 @@ pub count-then-date : plays (
     ∷ says 10 0 5 (dated "X6" "PROP0003" "02/02" "270202" (begins-at "1200" debit))
     ∷ says 10 0 6 (dated "X7" "PROP0004" "01/02" "270202" (of "ZZZZ"))
     ∷ says 10 0 7 (dated "X8" "PROP0005" "01/01" "270204" (of "ZZZZ"))
-    ∷ [])
+    ∷ says 10 0 8 (request "X9" "PROP0004" "02/02" debit)
+    ∷ []
+
+pub count-then-date : plays count-then-date-calls
     ≡ answered 0 []
     ∷ answered 0 []
     ∷ answered 87 (reply132 "1" "X1" "PROP0001" "1\r\n:432:87" ++ reply132 "2" "X2" "PROP0001" "1\r\n:432:87")
@@ -47,6 +51,7 @@ pub count-then-date : plays (
     ∷ answered 87 (reply132 "5" "X5" "PROP0003" "1\r\n:432:87" ++ reply132 "6" "X6" "PROP0003" "1\r\n:432:87")
     ∷ answered 78 (reply132 "7" "X7" "PROP0004" "1\r\n:432:78")
     ∷ answered 84 (reply132 "8" "X8" "PROP0005" "1\r\n:432:84")
+    ∷ answered 87 (reply132 "9" "X9" "PROP0004" "1\r\n:432:87")
     ∷ []
 unfolding plays
 count-then-date = refl

@@ -17,7 +17,8 @@ lettered letters = request "S2" "PROP0001" "02/02" (alone (dr "BBBB" "1," letter
 
 -- S1 is the first of two messages. Until S2 comes nothing touches its batch: a stranger with the used reference 73, a stream that is not in the book
 -- 87 before 73 and 74, the used reference from another administrator 74, or in a recall; a broken line 87, another sub type 88, wrong letters 80, 81, 87
-pub no-batch-touched : plays (
+abbrev no-batch-touched-calls : List Call
+no-batch-touched-calls =
     opens
     ∷ says 10 0 0 (request "S1" "PROP0001" "01/02" (alone (dr "AAAA" "1," "AAA ")))
     ∷ asked 10 0 1 (Message 7) (request "S1" "PROP0001" "02/02" (alone (cr "BBBB" "1,")))
@@ -33,7 +34,9 @@ pub no-batch-touched : plays (
     ∷ says 10 0 11 (lettered "AAA1")
     ∷ says 10 0 12 (lettered "XAA")
     ∷ says 10 0 13 (request "S2" "PROP0001" "02/02" (alone (cr "BBBB" "1,")))
-    ∷ [])
+    ∷ []
+
+pub no-batch-touched : plays no-batch-touched-calls
     ≡ quiet 0 (10000 ∷ 0 ∷ [])
     ∷ quiet 0 (10000 ∷ 0 ∷ [])
     ∷ quiet 73 (10000 ∷ 0 ∷ [])
@@ -56,7 +59,8 @@ no-batch-touched = refl
 -- ---- "For a 131 whose BIN is being assembled, that batch is rejected with 74": the message itself has no text, as its reference is not noted again. A
 -- pending batch stays; 74 comes before the 87 of a BIN that is not being assembled
 
-pub used-references : plays (
+abbrev used-references-calls : List Call
+used-references-calls =
     opens
     ∷ says 10 0 0 (request "S1" "PROP0001" "02/03" (alone (dr "AAAA" "1," "AAA ")))
     ∷ says 10 0 1 (request "S2" "PROP0001" "01/03" (alone (cr "BBBB" "1,")))
@@ -66,7 +70,9 @@ pub used-references : plays (
     ∷ says 10 0 5 (request "S4" "PROP0002" "01/01" (begins-at "1100" (pays "AAAA" "BBBB" "1," "AAA ")))
     ∷ says 10 0 6 (request "S5" "PROP0002" "01/01" (begins-at "1100" (pays "AAAA" "BBBB" "1," "AAA ")))
     ∷ asked 11 0 0 Tick []
-    ∷ [])
+    ∷ []
+
+pub used-references : plays used-references-calls
     ≡ quiet 0 (10000 ∷ 0 ∷ [])
     ∷ quiet 0 (10000 ∷ 0 ∷ [])
     ∷ quiet 0 (10000 ∷ 0 ∷ [])

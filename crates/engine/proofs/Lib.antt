@@ -9,6 +9,7 @@ pub mod DaysActivation
 pub mod DaysChanges
 pub mod DaysCover
 pub mod DaysClose
+pub mod Marked
 pub mod Moved
 pub mod Agreement
 pub mod Refusals
