@@ -15,6 +15,9 @@ P = 80
 abbrev X : ℕ
 X = 88
 
+abbrev space : ℕ
+space = 32
+
 abbrev status : (bank bin : String) → ℕ → Action
 status b bin letter = Status (code b) (longCode bin) letter
 
@@ -25,6 +28,7 @@ changes-calls =
     asked 9 0 0 Opening (book 9895 (bank "AAAA" 50000 30000 ∷ bank "BBBB" 0 0 ∷ []))
     ∷ says 10 0 0 (request "U1" "PROP0001" "01/01" (begins-at "1100" (pays "AAAA" "BBBB" "250," "AAA ")))
     ∷ asked 10 0 1 (status "AAAA" "PROP0001" X) []
+    ∷ asked 10 0 1 (status "AAAA" "PROP0001" space) []
     ∷ asked 10 0 2 (status "ZZZZ" "PROP0001" P) []
     ∷ asked 10 0 3 (status "ZZZZ" "PROP0001" X) []
     ∷ asked 10 0 4 (status "BBBB" "PROP0001" P) []
@@ -46,6 +50,7 @@ changes-calls =
 pub changes : plays changes-calls
     ≡ quiet 0 (50000 ∷ 0 ∷ [])
     ∷ quiet 0 (50000 ∷ 0 ∷ [])
+    ∷ quiet 80 (50000 ∷ 0 ∷ [])
     ∷ quiet 80 (50000 ∷ 0 ∷ [])
     ∷ quiet 76 (50000 ∷ 0 ∷ [])
     ∷ quiet 80 (50000 ∷ 0 ∷ [])

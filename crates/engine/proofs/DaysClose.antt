@@ -4,9 +4,10 @@ use Prim.Native.String.{String}
 use mathlib.Core.Path.{_≡_, refl}
 use mathlib.Core.List.{List, [], _∷_, _++_}
 use lib.ListN.{take, set}
+use Rattle.closing.specs.Closing.{bookBytes}
 use Rattle.engine.specs.declared.Action.the-variants.{Opening, SubLimit, Tick, Close, ClosingBook}
 use Rattle.engine.specs.Calls.{Call}
-use Rattle.engine.proofs.Stories.{asked, says, lending, code, bank, book, request, recallOf, begins-at, alone, pays, dr, reply132, reply134, Line, line, quiet, plays}
+use Rattle.engine.proofs.Stories.{asked, says, lending, code, bank, stream, flagged, book, request, recallOf, begins-at, alone, pays, dr, reply132, reply134, Line, line, quiet, plays}
 
 -- ---- "ends each live batch with 86 by arrival of its first message"
 
@@ -135,7 +136,7 @@ pub moments : plays moments-calls
 unfolding plays
 moments = refl
 
--- ---- openings: 11 to 15, and the date after 15; a book that is refused leaves the day and its balances
+-- ---- openings: 07, 11 to 15, and the date after 15; a book that is refused leaves the day and its balances
 
 abbrev again : List ℕ → Call
 again b = asked 8 0 0 Opening b
@@ -153,6 +154,8 @@ openings-calls =
     ∷ again (rich 6400000000000001 0)
     ∷ again (rich 6400000000000000 1)
     ∷ again (rich 6400000000000000 0)
+    ∷ lending 33704 528 (again (rich 6400000000000000 0))
+    ∷ lending 33704 528 (again (take 1023 (rich 0 0)))
     ∷ again (book 9896 (bank "AAAA" 6400000000000000 6400000000000000 ∷ []))
     ∷ asked 8 0 0 Tick []
     ∷ []
@@ -166,8 +169,20 @@ pub openings : plays openings-calls
     ∷ quiet 14 (10000 ∷ 0 ∷ [])
     ∷ quiet 15 (10000 ∷ 0 ∷ [])
     ∷ quiet 5 (10000 ∷ 0 ∷ [])
+    ∷ quiet 7 (10000 ∷ 0 ∷ [])
+    ∷ quiet 7 (10000 ∷ 0 ∷ [])
     ∷ quiet 0 (6400000000000000 ∷ 0 ∷ [])
     ∷ quiet 0 (6400000000000000 ∷ 0 ∷ [])
     ∷ []
 unfolding plays
 openings = refl
+
+-- "A closing book carries the date given", and streams, flags, balances and sub-limits as they stand
+abbrev houseBook : ℕ → List ℕ
+houseBook day = bookBytes day (stream "CARD" 7 ∷ stream "PROP" 5 ∷ [])
+    (flagged "AAAA" 6 10000 1 ∷ flagged "BBBB" 2 0 2 ∷ flagged "CCCC" 5 7 3 ∷ flagged "DDDD" 0 8 4 ∷ [])
+
+pub closing-book : plays (asked 9 0 0 Opening (houseBook 9895) ∷ asked 17 0 0 Close [] ∷ asked 18 0 0 (ClosingBook 991231) [] ∷ [])
+    ≡ quiet 0 (10000 ∷ 0 ∷ []) ∷ quiet 0 (10000 ∷ 0 ∷ []) ∷ line 0 (houseBook 36524) [] (10000 ∷ 0 ∷ []) ∷ []
+unfolding plays
+closing-book = refl
