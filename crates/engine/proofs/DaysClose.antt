@@ -1,13 +1,12 @@
 -- The close, the closing book, openings that are refused, and the wrong moments and short buffers.
 use Prim.Native.Nat.{ℕ}
-use Prim.Native.String.{String}
 use mathlib.Core.Path.{_≡_, refl}
 use mathlib.Core.List.{List, [], _∷_, _++_}
 use lib.ListN.{take, set}
 use Rattle.closing.specs.Closing.{bookBytes}
 use Rattle.engine.specs.declared.Action.the-variants.{Opening, SubLimit, Tick, Close, ClosingBook}
 use Rattle.engine.specs.Calls.{Call}
-use Rattle.engine.proofs.Stories.{asked, says, lending, code, bank, stream, flagged, book, request, recallOf, begins-at, alone, pays, dr, reply132, reply134, Line, line, quiet, plays}
+use Rattle.engine.proofs.Stories.{asked, says, lending, code, bank, stream, flagged, book, request, recallOf, begins-at, alone, pays, dr, reply132, reply134, line, quiet, plays}
 
 -- ---- "ends each live batch with 86 by arrival of its first message"
 

@@ -1,6 +1,5 @@
 -- The cover rule and the two tests in whole days, each day by the quick test and by the plain one.
 use Prim.Native.Nat.{ℕ}
-use Prim.Native.String.{String}
 use mathlib.Core.Path.{_≡_, refl}
 use mathlib.Core.List.{List, [], _∷_, _++_, map}
 use Rattle.engine.specs.declared.Action.the-variants.{Opening, SubLimit, Status, Tick, Close}

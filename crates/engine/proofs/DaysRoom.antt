@@ -16,7 +16,7 @@ use Rattle.engine.specs.State.{Batches, Place, free, live, Entry, noEntr
 use Rattle.engine.specs.Calls.{Call, Engine}
 use Rattle.engine.proofs.Stories.{says, code, stream, request, recallOf, alone, pays, cr, reply132, reply134, line, quiet, goes, leaves, longCode}
 
--- ---- states that the table rules allow, on 3 February 2027 at ten
+-- ---- states built to keep the table rules (that they do is not proved), on 3 February 2027 at ten
 
 -- a word and four digits
 abbrev nth : String → ℕ → Code

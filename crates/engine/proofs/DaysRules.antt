@@ -5,10 +5,10 @@ use Prim.Native.String.{String}
 use mathlib.Core.Path.{_≡_, refl}
 use mathlib.Core.List.{List, [], _∷_, _++_}
 use Rattle.closing.specs.Closing.{bookBytes}
-use Rattle.engine.specs.declared.Action.the-variants.{Opening, Message}
+use Rattle.engine.specs.declared.Action.the-variants.{Opening}
 use Rattle.engine.specs.State.{noBatches}
 use Rattle.engine.specs.Calls.{Call, cleared}
-use Rattle.engine.proofs.Stories.{asked, says, stream, flagged, dated, request, begins-at, alone, pays, dr, cr, reply132, Line, line, quiet, plays, leaves}
+use Rattle.engine.proofs.Stories.{asked, says, stream, flagged, dated, request, begins-at, alone, pays, dr, cr, reply132, Line, line, plays, leaves}
 
 abbrev opens : Call
 opens = asked 9 0 0 Opening (bookBytes 9895 (stream "CARD" 7 ∷ stream "PROP" 5 ∷ [])
