@@ -1,4 +1,14 @@
 pub mod Stories
+pub mod DaysRemembered
+pub mod DaysRoom
+pub mod DaysRules
+pub mod DaysSenders
+pub mod DaysRecalls
+pub mod DaysActivation
+pub mod DaysChanges
+pub mod DaysCover
+pub mod DaysClose
+pub mod Marked
 pub mod Moved
 pub mod Agreement
 pub mod Refusals

@@ -22,43 +22,12 @@ use Rattle.engine.specs.Messages.{Acted}
 use Rattle.engine.specs.Calls.{Call, Engine, Result, isClose, refused, openedBy, bookGiven, performed, judged, cleared}
 use Rattle.engine.specs.Answered.{after}
 use Rattle.engine.proofs.Refusals.{not-done}
-use Rattle.engine.proofs.Stories.{asked, bank, book, calls, timed, reply132}
+use Rattle.engine.proofs.Stories.{asked, bank, book, calls, timed, goes, reply132}
 use Rattle.engine.proofs.Promises.{numbers-are-right, texts-read-back, tries-are-right}
-use Rattle.chars.specs.Chars.{isDigit, isLetter, isCode, digitValue}
-use Rattle.codes.specs.Codes.{packOn, shortAt, longOf, longAt, unpacked, named, shortText, spelled, longText, before, codeBefore}
-use Rattle.checksum.specs.Sum.{wordOf, sumWords, blockSum}
-use Rattle.dates.specs.Dates.{february, months, daysIn, isTrue, dayOf, monthDay, dateOf, isRemembered}
-use Rattle.clock.specs.Clock.{clockOf, hasBegun, minuteOf, hhmmOf, secondOf, hhmmssOf}
-use Rattle.scan.specs.Scan.{begins, litAt, run, codesAt, codeAt, digits, digitsAt, numberAt, lineEnd, lineEndAt}
-use Rattle.values.specs.Values.{textOf, forbiddenAt, referenceAt, numeralAt, wordAt, binAt, numbered, numbersAt, dateAt, timeAt, sideAt, hundredths, amountAt, countAt}
-use Rattle.values.specs.Letters.{isStatus, isFourth, judgedAt, lettersAt}
-use Rattle.fields.specs.Fields.{fieldAt}
-use Rattle.terms.specs.Terms.{activationAt, termsAt}
-use Rattle.payments.specs.Payments.{bankAt, creditAt, debitAt, paymentAt, moreAt, paymentsOn, paymentsAt}
-use Rattle.request.specs.Request.{namedAt, addressAt, settlementAt, recallAt, messageAt, requestAt}
-use Rattle.put.specs.Digits.{digitsOf}
-use Rattle.response.specs.Texts.{headText, batchText, settledText, rejectedText, settlementText, recallText}
-use Rattle.book.specs.Block.{firstBroken, little, headRight, zerosAt, unusedRight, headerRight, checkRight, entriesRight}
-use Rattle.book.specs.Book.{dateIn, streamRight, bitsPast, bankRight, lengthRight, streamsCounted, streamRules, banksCounted, codeBefore as book-codeBefore, bankRules, bankBlocks, bankPlace, bankCount, totalRight, bookRules, bookCheck}
-use Rattle.book.specs.Accounts.{dayIn, streamsIn, banksIn}
-use Rattle.closing.specs.Closing.{littleOf, streamBytes, bankBytes, sealed, streamBlock, bankBlock, bankBlocksOf, blocksFor, bookBytes}
-use Rattle.settle.specs.Cover.{covered}
-use Rattle.settle.specs.Payments.{payment, paymentAt as settle-paymentAt, paymentsFrom, needsOf}
-use Rattle.settle.specs.Settlement.{firstUncovered, paid, settled}
-use Rattle.settle.specs.Rules.{debits, credits}
-use Rattle.queue.specs.Memory.{creditedBy, credited, wake}
-use Rattle.queue.specs.Tests.{passedOf, some, again, omits, remember, tried, turn, walk, test}
-use Rattle.queue.specs.Day.{relettered, relabel, forgotten}
-use Rattle.queue.specs.Promise.{Payer, limited, with, Stuck, brought, taken, broughtBy, takenBy}
-use Rattle.engine.specs.State.{seekFrom}
-use Rattle.engine.specs.Memory.{isUsed, vacant, note}
-use Rattle.engine.specs.Replies.{repliesTo, textOf as engine-textOf, textsFrom}
-use Rattle.engine.specs.Joining.{keep, insert, byTime, join}
-use Rattle.engine.specs.Messages.{firstBroken as engine-firstBroken, streamPlace, bankPlace as engine-bankPlace, ended, assembling, waiting, linePayments, lineRules, messageRules, completed, admit, settling, recalling, sent, message}
-use Rattle.engine.specs.Changes.{subLimit, hasDebit, relettered as engine-relettered, status}
-use Rattle.engine.specs.Ending.{emptied, afterTest, settledReplies, closeReplies}
-use Rattle.engine.specs.Days.{opened, openingAnswer, closingText}
-use Rattle.engine.specs.Calls.{judge, begun, act, woken, tested, replies, left, lastReplies, goesOn, closes, stepped, call}
+use Rattle.queue.specs.Tests.{passedOf, turn}
+use Rattle.queue.specs.Promise.{Stuck, brought, taken, broughtBy, takenBy}
+use Rattle.engine.specs.Days.{openingAnswer}
+use Rattle.engine.specs.Calls.{judge, begun, act, woken, tested, goesOn, closes, stepped, call}
 use Rattle.engine.specs.Promises.{Agree, Always, BalancesFollow, NonePasses, Numbered, SameSeen, Tried, View, Written, by, chosen, ledgerAfter, noLedger, view, viewsBy}
 
 -- ---- the wrong engines
@@ -192,7 +161,7 @@ record Shown : Type 0 where
   tried-again : callWith omittingNone (after (callWith omittingNone) cleared (take 6 calls)) tick .tries ≡ 0 ∷ []
 
 shown : Shown
-unfolding isDigit isLetter isCode digitValue packOn shortAt longOf longAt unpacked named shortText spelled longText before codeBefore wordOf sumWords blockSum february months daysIn isTrue dayOf monthDay dateOf isRemembered clockOf hasBegun minuteOf hhmmOf secondOf hhmmssOf begins litAt run codesAt codeAt digits digitsAt numberAt lineEnd lineEndAt textOf forbiddenAt referenceAt numeralAt wordAt binAt numbered numbersAt dateAt timeAt sideAt hundredths amountAt countAt isStatus isFourth judgedAt lettersAt fieldAt activationAt termsAt bankAt creditAt debitAt paymentAt moreAt paymentsOn paymentsAt namedAt addressAt settlementAt recallAt messageAt requestAt digitsOf headText batchText settledText rejectedText settlementText recallText firstBroken little headRight zerosAt unusedRight headerRight checkRight entriesRight dateIn streamRight bitsPast bankRight lengthRight streamsCounted streamRules banksCounted book-codeBefore bankRules bankBlocks bankPlace bankCount totalRight bookRules bookCheck dayIn streamsIn banksIn littleOf streamBytes bankBytes sealed streamBlock bankBlock bankBlocksOf blocksFor bookBytes covered payment settle-paymentAt paymentsFrom needsOf firstUncovered paid settled debits credits creditedBy credited wake some again omits remember tried turn walk test relettered relabel forgotten Payer limited with seekFrom isUsed vacant note repliesTo engine-textOf textsFrom keep insert byTime join engine-firstBroken streamPlace engine-bankPlace ended assembling waiting linePayments lineRules messageRules completed admit settling recalling sent message subLimit hasDebit engine-relettered status emptied afterTest settledReplies closeReplies opened openingAnswer closingText judge begun act woken tested replies left lastReplies goesOn closes stepped call after passedOf broughtBy brought takenBy taken ledgerAfter firstThen claimed
+unfolding goes after passedOf broughtBy brought takenBy taken ledgerAfter firstThen claimed
 shown = record {
   opens = refl;
   too-early = refl;
