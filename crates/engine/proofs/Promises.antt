@@ -23,7 +23,7 @@ use Rattle.engine.specs.Days.{openingAnswer}
 use Rattle.engine.specs.Calls.{Call, Engine, Result, judge, begun, tested, woken, isClose, goesOn, closes, refused, stepped, openedBy, performed, judged, call, cleared, run}
 use Rattle.engine.specs.Rules.{Valid}
 use Rattle.engine.specs.Answered.{acted, outcome, timesIn, todays, awaiting, Accounted, after}
-use Rattle.engine.specs.Promises.{Agree, Alike, Always, BalancesFollow, Closes, Covered, CoveredBy, Enough, Ledger, NonePasses, Numbered, OmittedByRule, Stranger, Tried, Unchanged, View, Written, answered, asking, chosen, history, ledgerAfter, ledgerIn, noLedger, numberedBy, then, triesBy, view, views, viewsBy}
+use Rattle.engine.specs.Promises.{Agree, Alike, Along, Always, BalancesFollow, Closes, Covered, CoveredBy, Enough, Ledger, NonePasses, Numbered, OmittedByRule, Stranger, Tried, Unchanged, View, Written, answered, asking, chosen, history, ledgerAfter, ledgerIn, noLedger, numberedBy, then, triesBy, view, views, viewsBy}
 use Rattle.engine.proofs.Agreement.{Faithful, call-faithful, cleared-faithful, tests-agree-all-days}
 use Rattle.engine.proofs.Refusals.{refusals-change-nothing, refused-openings-change-nothing}
 use Rattle.engine.proofs.Strangers.{a-stranger-is-a-tick}
@@ -295,3 +295,20 @@ total-stays cs = stands cs .total
 
 pub closing-book-reads-back : Always call Closes
 closing-book-reads-back cs c = call-closes (at cs) c (valid cs)
+
+-- ---- what is always so is so of each result of `run`
+
+after-last : (cs : List Call) (c : Call) (e : Engine) → after call e (cs ++ (c ∷ [])) ≡ call (after call e cs) c .engine
+unfolding after
+after-last [] c e = refl
+after-last (d ∷ cs) c e = after-last cs c (call e d .engine)
+
+run-along : (P : Engine → Call → Result → Type 0) → Always call P → (done cs : List Call) → Along P (at done) cs (run (at done) cs)
+unfolding run
+run-along P h done [] = refl
+run-along P h done (c ∷ cs) =
+    (h done c, subst (λ (e : Engine). Along P e cs (run e cs)) (after-last done c cleared) (run-along P h (done ++ (c ∷ [])) cs))
+
+pub along-run : (P : Engine → Call → Result → Type 0) → Always call P → (cs : List Call) → Along P cleared cs (run cleared cs)
+unfolding after
+along-run P h cs = run-along P h [] cs

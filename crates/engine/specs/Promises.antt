@@ -37,6 +37,12 @@ use Rattle.engine.specs.Answered.{acted, outcome, repliesBy, repliesOf, 
 abbrev pub Always : (Engine → Call → Result) → (Engine → Call → Result → Type 0) → Type 0
 Always f P = (cs : List Call) (c : Call) → P (after call cleared cs) c (f (after f cleared cs) c)
 
+-- and of each result of some calls from an engine on, as `run` gives them
+abbrev pub Along : (Engine → Call → Result → Type 0) → Engine → List Call → List Result → Type 0
+Along P e [] rs = rs ≡ []
+Along P e (c ∷ cs) [] = ⊥
+Along P e (c ∷ cs) (r ∷ rs) = P e c r × Along P (r .engine) cs rs
+
 -- ---- demand 1
 
 -- "nothing changed": 05 and 07, and an opening that is refused
