@@ -1,4 +1,7 @@
 // The lent tables and the day's scalars.
+mod memory;
+mod places;
+
 use engine::Phase;
 
 // The day's scalars, by value. Of the streams the first n are in use: code and administrator of each.
@@ -10,4 +13,10 @@ pub struct Desk {
     pub banks: usize,
     pub streams: [u64; 16],
     pub n: usize,
+}
+
+// What is looked for stands at a place, or nowhere.
+pub enum Sought {
+    Here(usize),
+    Nowhere,
 }
