@@ -1,2 +1,4 @@
 pub mod RowLaws
 pub mod MemoryLaws
+pub mod TestLaws
+pub mod HouseLaws

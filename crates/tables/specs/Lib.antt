@@ -2,3 +2,4 @@ pub mod Rows
 pub mod Words
 pub mod Lent
 pub mod Seeking
+pub mod House

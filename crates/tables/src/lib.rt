@@ -1,4 +1,5 @@
 // The lent tables and the day's scalars.
+mod house;
 mod memory;
 mod places;
 
