@@ -2,3 +2,4 @@ pub mod RowLaws
 pub mod MemoryLaws
 pub mod TestLaws
 pub mod HouseLaws
+pub mod MomentLaws

@@ -3,3 +3,4 @@ pub mod Words
 pub mod Lent
 pub mod Seeking
 pub mod House
+pub mod Moment
