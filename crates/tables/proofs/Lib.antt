@@ -3,3 +3,4 @@ pub mod MemoryLaws
 pub mod TestLaws
 pub mod HouseLaws
 pub mod MomentLaws
+pub mod MessageLaws

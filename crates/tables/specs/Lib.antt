@@ -4,3 +4,4 @@ pub mod Lent
 pub mod Seeking
 pub mod House
 pub mod Moment
+pub mod Arriving
