@@ -1,5 +1,5 @@
 -- One message more in a row: it is read behind the others, and they are as they were.
-use Prim.Native.Nat.{ℕ, zero, suc, _+_, _-_, _*_, _≤_, _<_}
+use Prim.Native.Nat.{ℕ, zero, suc, _+_, _*_, _≤_, _<_}
 use mathlib.Core.Path.{_≡_, refl, sym, ap, _∙_}
 use mathlib.Core.Logic.{_≢_}
 use mathlib.Core.List.{List, [], _∷_, _++_}
@@ -7,10 +7,9 @@ use native.Mathlib.Omega.{arith}
 use native.Mathlib.Numerals.{add-one}
 use lib.ListN.{length, getD, set, length-set, length-append}
 use lib.Seq.{getD-set-same, getD-set-other}
-use Rattle.codes.specs.declared.Code.{Code}
-use Rattle.settle.specs.Payments.{Payment, paymentAt, paymentsFrom}
-use Rattle.engine.specs.State.{Message, Batch, paymentsOf}
-use Rattle.tables.specs.Rows.{word, codeAt, activationIn, messageIn, messagesIn, batchIn}
+use Rattle.settle.specs.Payments.{paymentAt, paymentsFrom}
+use Rattle.engine.specs.State.{Message, paymentsOf}
+use Rattle.tables.specs.Rows.{word, messageIn, messagesIn, batchIn}
 use Rattle.tables.specs.Arriving.{withOne}
 
 -- the n words from a on are the same in both rows
@@ -55,7 +54,6 @@ messages-same : (l m : List ℕ) (n i j : ℕ) → Same l m (9 + 4 * i) (4 * n) 
 unfolding messagesIn counted
 messages-same l m zero i j h k = refl
 messages-same l m (suc n) i j h k =
-    let w : ℕ = word l (12 + 4 * i) in
     rw (
       h (9 + 4 * i) (omega arith) (omega arith),
       h (9 + 4 * i + 1) (omega arith) (omega arith),
@@ -70,7 +68,6 @@ messages-snoc : (l : List ℕ) (n i j : ℕ)
 unfolding messagesIn counted
 messages-snoc l zero i j = let e : i + 0 ≡ i = omega arith in let f : j + 3 * 0 ≡ j = omega arith in rw (e, f)
 messages-snoc l (suc n) i j =
-    let w : ℕ = word l (12 + 4 * i) in
     let e : i + 1 + n ≡ i + suc n = omega arith in
     let f : j + 3 * word l (12 + 4 * i) + 3 * counted l (i + 1) n ≡ j + 3 * (word l (12 + 4 * i) + counted l (i + 1) n) = omega arith in
     ap (λ (y : List Message). messageIn l i j ∷ y) (messages-snoc l n (i + 1) (j + 3 * word l (12 + 4 * i)) ∙ rw (e, f))

@@ -1,6 +1,6 @@
 -- Laws of the moment and the room of a call.
-use Prim.Native.Nat.{ℕ, zero, suc, _+_, _-_, _*_, _/_, _≤_, _<_}
-use mathlib.Core.Path.{_≡_, refl, sym, ap, _∙_}
+use Prim.Native.Nat.{ℕ, _+_, _-_, _*_, _/_, _≤_, _<_}
+use mathlib.Core.Path.{_≡_, refl, sym, _∙_}
 use mathlib.Core.Bool.{Bool, true, false, not, _&&_}
 use mathlib.Core.List.{List, []}
 use native.Mathlib.Omega.{arith}
@@ -12,21 +12,21 @@ use Rattle.chars.specs.Words.{Says}
 use Rattle.dates.specs.Dates.{dayOf}
 use Rattle.dates.specs.declared.Day.{Day as Date}
 use Rattle.dates.specs.declared.Day.the-variants.{Number, Untrue}
-use Rattle.book.specs.Accounts.{Stream, Bank}
+use Rattle.book.specs.Accounts.{Bank}
 use Rattle.book.proofs.Filling.{each-length}
 use Rattle.closing.specs.Closing.{bookBytes, blocksFor, bankOf, streamOf}
 use Rattle.reopening.proofs.Whole.{stream-long, banks-long}
 use Rattle.engine.specs.declared.Action.{Action}
-use Rattle.engine.specs.declared.Action.the-variants.{Opening, Message, SubLimit, Status, Tick, Close, ClosingBook}
+use Rattle.engine.specs.declared.Action.the-variants.{ClosingBook}
 use Rattle.engine.specs.declared.Answer.{Answer}
 use Rattle.engine.specs.declared.Answer.the-variants.{Done, Refused}
 use Rattle.engine.specs.Days.{rightDate, banksOf, closingText}
-use Rattle.engine.specs.Calls.{isOpening, isOpen, isClosed, rightClock, rightDay, roomNeeded, judge}
+use Rattle.engine.specs.Calls.{isOpening, rightClock, rightDay, judge}
 use Rattle.engine.specs.Rules.{RightHouse}
-use Rattle.engine.specs.State.{State, withClock}
+use Rattle.engine.specs.State.{withClock}
 use Rattle.tables.specs.declared.Desk.{Desk}
 use Rattle.tables.specs.Rows.{Tables, stateIn, streamsOn}
-use Rattle.tables.specs.Moment.{dayOn, movedTo, callFor, lentWith, Needs, Roomy, Judged, Entered}
+use Rattle.tables.specs.Moment.{dayOn, movedTo, lentWith, Needs, Roomy, Judged, Entered}
 use Rattle.tables.specs.House.{houseOn}
 use Rattle.tables.proofs.TestLaws.{says-no, says-yes, says-once}
 

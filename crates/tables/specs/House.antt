@@ -1,5 +1,5 @@
 -- The table rules of the house, in the groups in which they are tested.
-use Prim.Native.Nat.{ℕ, _+_, _*_, _/_, _^_, _≤_, _<_}
+use Prim.Native.Nat.{ℕ, _/_, _^_, _≤_, _<_}
 use mathlib.Core.Path.{_≡_}
 use mathlib.Core.Bool.{true}
 use mathlib.Core.List.{List}
@@ -7,7 +7,7 @@ use lib.ListN.{length, take, drop}
 use Rattle.book.specs.Accounts.{Stream}
 use Rattle.settle.specs.Rules.{sum}
 use Rattle.engine.specs.State.{House}
-use Rattle.engine.specs.Rules.{Each, isShort, Rising, streamCodes, RightHouse}
+use Rattle.engine.specs.Rules.{Each, isShort, Rising, streamCodes}
 use Rattle.tables.specs.declared.Desk.{Desk}
 use Rattle.tables.specs.Rows.{streamsOn}
 
