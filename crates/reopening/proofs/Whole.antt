@@ -24,13 +24,13 @@ use Rattle.reopening.proofs.Blocks.{after}
 use Rattle.reopening.proofs.Written.{right-streams, right-banks, rising-first, streams-count, day-read, streams-read, streams-hold, Banked, banked, take-most}
 
 -- the length of a book
-stream-long : (day : ℕ) (xs : List Stream) (blocks : ℕ) → length xs ≤ 8 → length (streamBlock day xs blocks) ≡ 512
+pub stream-long : (day : ℕ) (xs : List Stream) (blocks : ℕ) → length xs ≤ 8 → length (streamBlock day xs blocks) ≡ 512
 unfolding streamBlock
 stream-long day xs blocks few =
     sealed-length (((head 83 0 (length xs) blocks ++ digitsOf 6 (dateOf day)) ++ (0 ∷ 0 ∷ [])) ++ joined streamBytes xs)
     (simp (length-append, digits-length, joined-length streamBytes 8 stream-length xs) (omega arith))
 
-banks-long : (blocks n k : ℕ) (bs : List Bank) → length (bankBlocksOf blocks k n bs) ≡ 512 * n
+pub banks-long : (blocks n k : ℕ) (bs : List Bank) → length (bankBlocksOf blocks k n bs) ≡ 512 * n
 unfolding bankBlocksOf bankBlock
 banks-long blocks zero k bs = refl
 banks-long blocks (suc n) k bs =

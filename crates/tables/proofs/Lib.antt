@@ -7,3 +7,9 @@ pub mod Kept
 pub mod Reported
 pub mod Breaks
 pub mod Unbroken
+pub mod RowLaws
+pub mod MemoryLaws
+pub mod TestLaws
+pub mod HouseLaws
+pub mod MomentLaws
+pub mod MessageLaws

@@ -1,0 +1,8 @@
+-- A place that the code looked for, as the model says it.
+use Rattle.engine.specs.State.{Found, at, nowhere}
+use Rattle.tables.specs.declared.Sought.{Sought}
+use Rattle.tables.specs.declared.Sought.the-variants.{Here, Nowhere}
+
+abbrev pub foundBy : Sought → Found
+foundBy (Here p) = at p
+foundBy Nowhere = nowhere
