@@ -44,3 +44,4 @@ pub mod Promises
 pub mod ShutOut
 pub mod ClosingBook
 pub mod Omitting
+pub mod Leaving

@@ -22,6 +22,7 @@ use Rattle.engine.specs.Messages.{Acted}
 use Rattle.engine.specs.Days.{openingAnswer}
 use Rattle.engine.specs.Calls.{Call, Engine, Result, judge, begun, tested, woken, isClose, goesOn, closes, refused, stepped, openedBy, performed, judged, call, cleared, run}
 use Rattle.engine.specs.Rules.{Valid}
+use Rattle.engine.specs.LeftBehind.{LeftBehind}
 use Rattle.engine.specs.Answered.{acted, outcome, timesIn, todays, awaiting, Accounted, after}
 use Rattle.engine.specs.Promises.{Agree, Alike, Along, Always, BalancesFollow, Closes, Covered, CoveredBy, Enough, Ledger, NonePasses, Numbered, OmittedByRule, Stranger, Tried, Unchanged, View, Written, answered, asking, chosen, history, ledgerAfter, ledgerIn, noLedger, numberedBy, then, triesBy, view, views, viewsBy}
 use Rattle.engine.proofs.Agreement.{Faithful, call-faithful, cleared-faithful, tests-agree-all-days}
@@ -38,6 +39,7 @@ use Rattle.engine.proofs.Once.{after-valid}
 use Rattle.engine.proofs.Once as once
 use Rattle.engine.proofs.Reading.{readers}
 use Rattle.engine.proofs.Keeping.{acted-stood}
+use Rattle.engine.proofs.Leaving.{left-behind}
 use Rattle.engine.proofs.Omitting.{omitted-by-rule, memory-is-history, queue-below}
 
 -- ---- the engine after some calls
@@ -216,6 +218,11 @@ same-views e (c ∷ cs) = ap (λ (l : List View). view (call e c) ∷ l) (same-v
 
 pub refusals-leave-all : Always call Unchanged
 refusals-leave-all cs c = record { at-once = refusals-change-nothing (at cs) c; opening = refused-openings-change-nothing (at cs) c }
+
+-- the column "left behind": a call that is carried out leaves what the row of its number says; a number that ends no batch and answers no message
+-- leaves the clock and the queue test alone (`only-clock-and-test`, Leaving)
+pub rows-are-kept : (cs : List Call) (c : Call) → LeftBehind (begun (at cs .state) (c .clock)) (requestAt (c .input)) (acted (at cs) c)
+rows-are-kept cs c = left-behind (begun (at cs .state) (c .clock)) (c .action) (c .input)
 
 pub one-outcome : (e : Engine) (c : Call) (x y : Result) → x ≡ call e c → y ≡ call e c → x ≡ y
 one-outcome e c x y p q = p ∙ sym q

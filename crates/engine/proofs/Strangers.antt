@@ -12,13 +12,24 @@ use Rattle.request.specs.Request.{requestAt}
 use Rattle.request.specs.declared.Outcome.{Outcome as Read}
 use Rattle.request.specs.declared.Outcome.the-variants.{Settlement, Recall, Refused as Unread}
 use Rattle.request.specs.declared.Reading.{Reading}
-use Rattle.engine.specs.declared.Action.the-variants.{Message, Tick}
+use Rattle.engine.specs.declared.Action.{Action}
+use Rattle.engine.specs.declared.Action.the-variants.{Opening, Message, SubLimit, Status, Tick, Close, ClosingBook}
 use Rattle.engine.specs.declared.Answer.{Answer}
 use Rattle.engine.specs.declared.Answer.the-variants.{Done, Refused}
 use Rattle.engine.specs.State.{Found, at, nowhere, onFound, State}
 use Rattle.engine.specs.Messages.{Acted, streamCode, streamPlace, administrator, untouched, leaving, sent, received, message}
 use Rattle.engine.specs.Calls.{Call, Engine, Result, judge, begun, act, tested, replies, left, goesOn, stepped, judged, call}
 use Rattle.engine.specs.Promises.{Alike, Stranger, asking}
+
+-- a message, a sub-limit change or a status change
+abbrev pub Asks : Action → Type 0
+Asks Opening = ⊥
+Asks (Message n) = Unit {0}
+Asks (SubLimit k v) = Unit {0}
+Asks (Status k b l) = Unit {0}
+Asks Tick = ⊥
+Asks Close = ⊥
+Asks (ClosingBook d) = ⊥
 
 -- an action that touches nothing
 pub record Idle (s : State) (a : Acted) : Type 0 where
@@ -49,7 +60,7 @@ module _ (s : State) (sender : ℕ) (r : Reading) (h : Stranger s sender r) wher
   unfolding message
   strangers-touch-nothing = received-idle (r .outcome)
 
-module _ (e : Engine) (c : Call) (sender : ℕ) where
+module _ (e : Engine) (c : Call) where
   abbrev s : State
   s = begun (e .state) (c .clock)
 
@@ -63,11 +74,24 @@ module _ (e : Engine) (c : Call) (sender : ℕ) where
   stepped-alike : (a : Acted) → Idle s a → Alike (step a) (step (leaving s Done [] [] (s .batches) (s .known)))
   stepped-alike a i = rw (i .same) (idle-alike (i .fault))
 
-  judged-alike : (j : Answer) → Stranger s sender (requestAt (c .input)) → Alike (judged j e (asking (Message sender) c)) (judged j e (asking Tick c))
+  -- an action of a message or a change that touches nothing
+  judged-alike : (j : Answer) (x : Action) → Asks x → Idle s (act s x (c .input)) → Alike (judged j e (asking x c)) (judged j e (asking Tick c))
   unfolding stepped act
-  judged-alike Done h = stepped-alike (message s sender (requestAt (c .input))) (strangers-touch-nothing s sender (requestAt (c .input)) h)
-  judged-alike (Refused r) h = record { out = refl; tries = refl; engine = refl }
+  judged-alike Done (Message n) k h = stepped-alike (act s (Message n) (c .input)) h
+  judged-alike Done (SubLimit n v) k h = stepped-alike (act s (SubLimit n v) (c .input)) h
+  judged-alike Done (Status n b l) k h = stepped-alike (act s (Status n b l) (c .input)) h
+  judged-alike (Refused r) x k h = record { out = refl; tries = refl; engine = refl }
 
-  pub a-stranger-is-a-tick : Stranger s sender (requestAt (c .input)) → Alike (call e (asking (Message sender) c)) (call e (asking Tick c))
-  unfolding call judge
-  a-stranger-is-a-tick h = judged-alike (judge (e .state) (asking Tick c)) h
+  same-judge : (x : Action) → Asks x → judge (e .state) (asking x c) ≡ judge (e .state) (asking Tick c)
+  unfolding judge
+  same-judge (Message n) k = refl
+  same-judge (SubLimit n v) k = refl
+  same-judge (Status n b l) k = refl
+
+  pub idle-is-a-tick : (x : Action) → Asks x → Idle s (act s x (c .input)) → Alike (call e (asking x c)) (call e (asking Tick c))
+  unfolding call
+  idle-is-a-tick x k h = rw (same-judge x k) (judged-alike (judge (e .state) (asking Tick c)) x k h)
+
+  pub a-stranger-is-a-tick : (sender : ℕ) → Stranger s sender (requestAt (c .input)) → Alike (call e (asking (Message sender) c)) (call e (asking Tick c))
+  unfolding act
+  a-stranger-is-a-tick sender h = idle-is-a-tick (Message sender) tt (strangers-touch-nothing s sender (requestAt (c .input)) h)

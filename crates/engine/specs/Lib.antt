@@ -11,3 +11,4 @@ pub mod Calls
 pub mod Rules
 pub mod Answered
 pub mod Promises
+pub mod LeftBehind
