@@ -18,8 +18,8 @@ use Rattle.terms.specs.declared.Activation.{Activation}
 use Rattle.terms.specs.declared.Activation.the-variants.{AtOnce, Minute}
 use Rattle.request.specs.Request.{requestAt}
 use Rattle.request.specs.declared.Reading.{Reading}
-use Rattle.grammar.proofs.Payments.{noPayment}
-use Rattle.grammar.proofs.Values.{GivenReference, GivenBin, GivenSide, GivesSettlement, InDay, settlement-gives, recall-gives}
+use Rattle.grammar.specs.Values.{noPayment, GivenReference, GivenBin, GivenSide, GivesSettlement, InDay}
+use Rattle.grammar.proofs.Values.{settlement-gives, recall-gives}
 use Rattle.book.specs.Book.{bookCheck}
 use Rattle.book.specs.Accounts.{Bank, column, streamsIn, banksIn}
 use Rattle.book.specs.declared.Answer.the-variants.{Sound}

@@ -35,6 +35,7 @@ use Rattle.payments.specs.declared.Paid.the-variants.{One, Unpaid}
 use Rattle.payments.specs.declared.Ending.the-variants.{Done, Cut}
 use Rattle.payments.specs.declared.Payments.{Payments}
 use Rattle.grammar.proofs.Meanings.{number-is, LineRead, line-read}
+use Rattle.grammar.specs.Values.{noPayment}
 
 -- "127, 32B, 113, 102: one payment .. 113 stands after DR and never after CR": l is a payment, and then r
 pub data PaymentText : List ℕ → List ℕ → Type 0 where
@@ -57,9 +58,6 @@ pub record PaymentIs (side cents letters bank : ℕ) (p : Payment) : Type 0 wher
 abbrev pub PaymentSays : {l r : List ℕ} → PaymentText l r → Payment → Type 0
 PaymentSays (credit g₁ g₂ g₃) p = PaymentIs 0 (centsIn (g₂ .is)) 0 (packed 4 (g₃ .value)) p
 PaymentSays (debit g₁ g₂ g₃ g₄) p = PaymentIs 1 (centsIn (g₂ .is)) (packed 4 (g₃ .value)) (packed 4 (g₄ .value)) p
-
-abbrev pub noPayment : Payment
-noPayment = payment nothing nothing nothing nothing
 
 -- and so many of them, which stand in a list from a place on
 abbrev pub PaymentsSay : {k : ℕ} {l r : List ℕ} → ℕ → PaymentsText k l r → List Payment → Type 0

@@ -22,84 +22,18 @@ use Rattle.scan.specs.Scan.{ten}
 use Rattle.scan.proofs.Laws.{ten-mono}
 use Rattle.scan.proofs.Standing.{All, valueOf}
 use Rattle.values.specs.Letters.{isStatus, isFourth}
-use Rattle.values.proofs.Grammar.{IsReference, IsWord, IsBin, IsTime, IsAmount, IsLetters, hundredthsIn, centsIn}
+use Rattle.values.proofs.Grammar.{IsWord, IsBin, IsTime, IsAmount, IsLetters, hundredthsIn, centsIn}
 use Rattle.fields.proofs.Grammar.{Line}
 use Rattle.terms.specs.declared.Activation.{Activation}
-use Rattle.terms.specs.declared.Activation.the-variants.{AtOnce, Minute}
 use Rattle.payments.specs.declared.Payment.{Payment}
 use Rattle.request.specs.Request.{requestAt}
 use Rattle.request.specs.declared.Head.{Head}
 use Rattle.request.specs.declared.Outcome.the-variants.{Settlement, Recall}
 use Rattle.request.specs.declared.Reading.{Reading}
+use Rattle.grammar.specs.Values.{noPayment, Spells, SpellsFour, GivenFour, GivesHead, GivesPayment, InDay, GivesSettlement, GivesRecall}
 use Rattle.grammar.proofs.Meanings.{numbered-range}
-use Rattle.grammar.proofs.Payments.{PaymentText, credit, debit, PaymentsText, none-left, one-more, noPayment, PaymentSays, PaymentsSay}
+use Rattle.grammar.proofs.Payments.{PaymentText, credit, debit, PaymentsText, none-left, one-more, PaymentSays, PaymentsSay}
 use Rattle.grammar.proofs.Request.{ActivationSays, HeadSays, SettlementSays, settlement-says, recall-says}
-
--- the characters of a reference's or a BIN's code
-pub record Spells (v : List ℕ) (c : Code) : Type 0 where
-  pub code : c ≡ longOf v
-  pub text : longText c ≡ v
-
--- the four characters of a stream, a bank or of letters
-pub record SpellsFour (v : List ℕ) (n : ℕ) : Type 0 where
-  pub word : n ≡ packed 4 v
-  pub small : n < 4294967296
-  pub text : shortText n ≡ v
-
-pub record GivenReference (c : Code) : Type 0 where
-  pub value : List ℕ
-  pub is : IsReference value
-  pub spells : Spells value c
-
-pub record GivenFour (n : ℕ) : Type 0 where
-  pub value : List ℕ
-  pub is : IsWord 4 value
-  pub spells : SpellsFour value n
-
-pub record GivenBin (stream : List ℕ) (c : Code) : Type 0 where
-  pub value : List ℕ
-  pub is : IsBin stream value
-  pub spells : Spells value c
-
-pub record GivenLetters (n : ℕ) : Type 0 where
-  pub value : List ℕ
-  pub is : IsLetters value
-  pub spells : SpellsFour value n
-
-pub record GivesHead (h : Head) : Type 0 where
-  pub reference : GivenReference (h .reference .code)
-  pub stream : GivenFour (h .address .stream .number)
-  pub bin : GivenBin (stream .value) (h .address .bin .code)
-
--- "113 stands after DR and never after CR"
-abbrev pub GivenSide : ℕ → ℕ → Type 0
-GivenSide side letters = ((side ≡ 0) × (letters ≡ 0)) ⊎ ((side ≡ 1) × GivenLetters letters)
-
-pub record GivesPayment (p : Payment) : Type 0 where
-  pub side : GivenSide (p .side .number) (p .letters .number)
-  pub money : p .amount .number ≤ 999999999999
-  pub bank : GivenFour (p .bank .number)
-
-abbrev pub InDay : Activation → Type 0
-InDay AtOnce = Unit {0}
-InDay (Minute m) = m < 1440
-
-pub record GivesSettlement (r : Reading) : Type 0 where
-  pub head : GivesHead (r .head)
-  pub subtype : r .head .subtype .number ≡ 131
-  pub first : 1 ≤ r .terms .number
-  pub number : r .terms .number ≤ r .terms .count
-  pub count : r .terms .count ≤ 10
-  pub day : r .terms .date .number < 36525
-  pub minute : InDay (r .terms .activation)
-  pub some : 1 ≤ r .n
-  pub few : r .n ≤ 10
-  pub places : length (r .payments) ≡ 10
-  pub payments : (i : ℕ) → i < r .n → GivesPayment (getD (r .payments) i noPayment)
-
-pub record GivesRecall (r : Reading) : Type 0 where
-  pub head : GivesHead (r .head)
-  pub subtype : r .head .subtype .number ≡ 133
 
 -- ---- characters and their codes
 

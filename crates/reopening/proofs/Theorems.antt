@@ -10,16 +10,16 @@ use borrow.Author.Tests.{le-leb}
 use Rattle.codes.proofs.Laws.{Bytes}
 use Rattle.book.specs.declared.Answer.the-variants.{Sound}
 use Rattle.book.specs.declared.Book.{Book}
-use Rattle.book.specs.declared.Reading.{Reading}
 use Rattle.book.specs.declared.Reading.the-variants.{Held}
 use Rattle.book.specs.Book.{blocksIn, bankCount, bookRules, bookCheck}
 use Rattle.book.specs.Block.{entriesAt}
-use Rattle.book.specs.Accounts.{Stream, Bank, Rows, With, dayIn, streamsIn, banksIn, roomy, filled, bookIn, readBook}
+use Rattle.book.specs.Accounts.{Stream, Bank, Rows, dayIn, streamsIn, banksIn, roomy, filled, bookIn, readBook}
 use Rattle.book.specs.Range.{InRange}
 use Rattle.book.proofs.Accepted.{accepted, none-broken}
 use Rattle.book.proofs.Filling.{each-length}
 use Rattle.closing.specs.declared.Writing.the-variants.{Written}
 use Rattle.closing.specs.Closing.{blocksFor, bookBytes, streamOf, bankOf, streamsOf, banksOf, holds, writeBook}
+use Rattle.reopening.specs.Reopened.{sizeOf, again, Reopened}
 use Rattle.reopening.proofs.Again.{written-again}
 use Rattle.reopening.proofs.Kept.{kept, streams-kept, banks-kept}
 use Rattle.reopening.proofs.Whole.{all-hold, book-long, blocks-in, count, banks-counted, day-back, streams-back, banks-back}
@@ -46,16 +46,7 @@ module _ (out : List ℕ) (b : Book) (t into : Rows) where
   s = bookBytes (b .day) xs bs
 
   abbrev size : ℕ
-  size = 512 * blocksFor (b .banks)
-
-  abbrev again : With Reading
-  again = readBook (take size (writeBook out b t .out)) into
-
-  pub record Reopened : Type 0 where
-    pub written : writeBook out b t .answer ≡ Written size
-    pub book : again .answer ≡ Held b
-    pub streams : streamsOf (again .rows) (b .streams) ≡ xs
-    pub banks : banksOf (again .rows) (b .banks) ≡ bs
+  size = sizeOf b
 
   module _ (h : holds b t ≡ true) (g : InRange (b .day) xs bs) (room : size ≤ length out) (wide : roomy into ≡ true) where
     streams-many : length xs ≡ b .streams
@@ -92,11 +83,11 @@ module _ (out : List ℕ) (b : Book) (t into : Rows) where
     unfolding bookIn
     book-same = rw (day-back (b .day) xs bs g, counts .0, counts .1)
 
-    read-so : again ≡ record { rows = filled s into; answer = Held b }
+    read-so : again out b t into ≡ record { rows = filled s into; answer = Held b }
     unfolding readBook
     read-so = ap (λ (l : List ℕ). readBook l into) put-there ∙ rw (wide, sound, book-same)
 
-    pub write-then-read : Reopened
+    pub write-then-read : Reopened out b t into
     write-then-read = record {
       written = ap (λ w. w .answer) made;
       book = ap (λ w. w .answer) read-so;

@@ -23,14 +23,15 @@ use Rattle.request.specs.declared.Outcome.the-variants.{Settlement, Recall}
 use Rattle.request.specs.declared.Reading.{Reading}
 use Rattle.grammar.proofs.Payments.{PaymentText, credit, debit, PaymentsText, none-left, one-more}
 use Rattle.grammar.proofs.Request.{HeadText, BodyText, RecallText, SettlementText, settlement-complete, recall-complete}
-use Rattle.grammar.proofs.Values.{InDay, GivenSide, GivesHead, GivesPayment, GivesSettlement, GivesRecall, bin-codes, settlement-gives, recall-gives}
+use Rattle.grammar.specs.Values.{noPayment, InDay, GivenSide, GivesHead, GivesPayment, GivesSettlement, GivesRecall}
+use Rattle.grammar.proofs.Values.{bin-codes, settlement-gives, recall-gives}
 use Rattle.administrator.specs.Orders.{held, countText, lineText, headText, activationText, paymentOf, paymentText, noLine, messageText, orderText}
 use Rattle.administrator.specs.declared.Given.the-variants.{Nothing, Name, SubType, Numbers, Date, Time, Four, CreditSide, DebitSide, Amount, Count}
 use Rattle.administrator.specs.declared.Line.{Line as Payable}
 use Rattle.administrator.specs.declared.Order.{Order}
 use Rattle.administrator.specs.declared.Side.{Side}
 use Rattle.administrator.specs.declared.Side.the-variants.{Credit, Debit}
-use Rattle.rereading.specs.Values.{SameSide, SamePayment, SameLine, noPayment, SameHead, SameValues, Halves, Typed, lineOf, orderOf, SamePaid, SameNames, SameRequest}
+use Rattle.rereading.specs.Values.{SameSide, SamePayment, SameLine, SameHead, SameValues, Halves, Typed, lineOf, orderOf, SamePaid, SameNames, SameRequest}
 use Rattle.rereading.proofs.Written.{long-halves}
 use Rattle.rereading.proofs.Back.{head-opens, credit-opens, debit-opens}
 use Rattle.rereading.proofs.ReadsBack.{onward, places, message-opens, reads-back, recall-reads-back}

@@ -11,7 +11,7 @@ use Rattle.chars.specs.Words.{bytes}
 use Rattle.chars.specs.Chars.{isCode, isLetter, isDigit}
 use Rattle.codes.specs.Codes.{packed, longOf}
 use Rattle.put.specs.Digits.{digitsOf}
-use Rattle.reply.proofs.Digits.{all-append, cr-no-code}
+use Rattle.reply.proofs.Digits.{all-append, cr-no-code, digits-all}
 use Rattle.scan.proofs.Standing.{All, valueOf}
 use Rattle.values.specs.Letters.{isStatus, isFourth}
 use Rattle.values.proofs.Grammar.{IsNumbers, IsAmount, IsLetters}
@@ -26,7 +26,6 @@ use Rattle.administrator.specs.declared.Given.the-variants.{Nothing, Name, SubT
 use Rattle.administrator.specs.declared.Order.{Order}
 use Rattle.administrator.specs.declared.Side.{Side}
 use Rattle.administrator.specs.declared.Side.the-variants.{Credit, Debit}
-use Rattle.administrator.proofs.ReadBack.{digits-all}
 use Rattle.rereading.specs.Values.{SamePayment, SameHead, Typed}
 use Rattle.rereading.proofs.Lines.{Free, class-free, line-same, line-same-size}
 use Rattle.rereading.proofs.Written.{held-all, fixed-digits, fixed-value, name-codes, name-back, four-is, four-word, four-size, four-out, cr-no-digit, amount-back}

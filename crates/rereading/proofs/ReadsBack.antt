@@ -31,7 +31,8 @@ use Rattle.administrator.specs.declared.Line.{Line as Payable}
 use Rattle.administrator.specs.declared.Order.{Order}
 use Rattle.administrator.specs.declared.Side.{Side}
 use Rattle.administrator.specs.declared.Side.the-variants.{Credit, Debit}
-use Rattle.rereading.specs.Values.{SameLine, noPayment, SameHead, SameValues, Typed}
+use Rattle.grammar.specs.Values.{noPayment}
+use Rattle.rereading.specs.Values.{SameLine, SameHead, SameValues, Typed}
 use Rattle.rereading.proofs.Lines.{line-opens, line-same}
 use Rattle.rereading.proofs.Written.{fixed-digits, fixed-value, numbers-back, time-back, count-back}
 use Rattle.rereading.proofs.Back.{digits-free, numbers-free, time-free, count-free, is-numbers-free, head-back, credit-opens, debit-opens, payment-back}

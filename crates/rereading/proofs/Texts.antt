@@ -18,16 +18,17 @@ use Rattle.dates.specs.Dates.{dayOf, dateOf}
 use Rattle.dates.proofs.Laws.{date-back, date-small}
 use Rattle.put.specs.Digits.{digitsOf}
 use Rattle.put.proofs.Laws.{digits-length}
-use Rattle.reply.proofs.Digits.{code-bytes}
+use Rattle.reply.proofs.Digits.{code-bytes, digits-all, value-back}
 use Rattle.scan.specs.Scan.{begins, ten}
 use Rattle.scan.proofs.Standing.{All, valueOf}
 use Rattle.values.specs.Values.{numbered}
 use Rattle.values.proofs.Grammar.{IsReference, IsNumeral, IsWord, IsBin, IsNumbers, IsDate, IsTime, IsAmount, IsLetters, IsCount}
 use Rattle.fields.proofs.Grammar.{Line}
-use Rattle.grammar.proofs.Values.{Spells, SpellsFour, GivenReference, GivenFour, GivenBin, GivenLetters, bin-codes}
+use Rattle.grammar.specs.Values.{Spells, SpellsFour, GivenReference, GivenFour, GivenBin, GivenLetters}
+use Rattle.grammar.proofs.Values.{bin-codes}
 use Rattle.administrator.specs.Orders.{fixed, widthOn, widthOf, blank, proper, nameText, fourText, numbersText, timeText, amountText, countText, valueText, lineText}
 use Rattle.administrator.specs.declared.Given.{Given}
-use Rattle.administrator.proofs.ReadBack.{digits-all, digits-value, width-fits}
+use Rattle.administrator.proofs.Widths.{width-fits}
 use Rattle.rereading.proofs.Lines.{line-opens}
 use Rattle.rereading.proofs.Written.{zero-no-code, long-spelled, fixed-digits, fixed-is, fixed-value, four-is, time-is, hhmm-value, amount-is, count-is}
 
@@ -146,4 +147,4 @@ pub count-text : (n : ℕ) → 1 ≤ n → n ≤ 10 → IsCount n (countText n)
 count-text n a b =
     let k = width-fits n (omega arith) in
     let g = count-shape n a b in
-    subst (IsCount n) (sym (count-is n (omega arith))) (record { some = rw digits-length (k .1); most = g .0; digits = digits-all (widthOf n) n; lead = g .1; is = digits-value (widthOf n) n (k .0) })
+    subst (IsCount n) (sym (count-is n (omega arith))) (record { some = rw digits-length (k .1); most = g .0; digits = digits-all (widthOf n) n; lead = g .1; is = value-back (widthOf n) n (k .0) })

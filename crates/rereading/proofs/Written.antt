@@ -18,13 +18,13 @@ use Rattle.codes.specs.declared.Code.{Code}
 use Rattle.codes.proofs.Laws.{Bytes, filled, pack-unpack, unpack-pack, unpack-length, spelled-length, filled-split, bytes-drop}
 use Rattle.put.specs.Digits.{digitsOf}
 use Rattle.put.proofs.Laws.{digits-length}
-use Rattle.reply.proofs.Digits.{code-bytes}
+use Rattle.reply.proofs.Digits.{code-bytes, digits-all, value-back}
 use Rattle.scan.specs.Scan.{ten}
 use Rattle.scan.proofs.Standing.{All, valueOf}
 use Rattle.values.proofs.Grammar.{IsNumbers, IsTime, IsAmount, hundredthsIn, centsIn}
 use Rattle.grammar.proofs.Values.{pack-below}
 use Rattle.administrator.specs.Orders.{held, fixed, widthOf, blank, proper, nameText, fourText, numbersText, timeText, amountText, countText}
-use Rattle.administrator.proofs.ReadBack.{digits-all, digits-value, width-fits}
+use Rattle.administrator.proofs.Widths.{width-fits}
 use Rattle.rereading.specs.Values.{Halves}
 use Rattle.rereading.proofs.Lines.{class-free, split}
 
@@ -52,7 +52,7 @@ unfolding fixed
 fixed-is k v h = simp (lt-ltb v (ten k) h)
 
 pub fixed-value : (k v : ℕ) → 0 < length (fixed k v) → valueOf 0 (fixed k v) ≡ v
-fixed-value k v h = let b = fixed-fits k v h in ap (valueOf 0) (fixed-is k v b) ∙ digits-value k v b
+fixed-value k v h = let b = fixed-fits k v h in ap (valueOf 0) (fixed-is k v b) ∙ value-back k v b
 
 -- ---- a reference or a BIN
 
@@ -180,7 +180,7 @@ unfolding timeText
 time-is m h = simp (lt-ltb m 1440 h)
 
 pub hhmm-value : (m : ℕ) → m < 1440 → valueOf 0 (digitsOf 4 (hhmmOf m)) ≡ hhmmOf m
-hhmm-value m h = digits-value 4 (hhmmOf m) (omega (arith, hhmm-in m h))
+hhmm-value m h = value-back 4 (hhmmOf m) (omega (arith, hhmm-in m h))
 
 same-minute : {x y : ℕ} → Clocked x ≡ Clocked y → x ≡ y
 same-minute h = cc
@@ -202,7 +202,7 @@ unfolding amountText
 amount-is c h = simp (lt-ltb c 1000000000000 h)
 
 two-digits : (x : ℕ) → x < 100 → hundredthsIn (digitsOf 2 x) ≡ x
-two-digits x h = simp digits-length (digits-value 2 x h)
+two-digits x h = simp digits-length (value-back 2 x h)
 
 pub amount-back : (c : ℕ) {v : List ℕ} (g : IsAmount v) → v ≡ amountText c → centsIn g ≡ c
 amount-back c {v} g h =
@@ -211,7 +211,7 @@ amount-back c {v} g h =
     let n = c / 100 in
     let e : g .whole ++ (44 ∷ g .part) ≡ digitsOf (widthOf n) n ++ (44 ∷ digitsOf 2 (c % 100)) = ap (drop 3) (sym (g .is) ∙ h ∙ amount-is c b) in
     let i = split 44 (g .whole) (digitsOf (widthOf n) n) (g .part) (digitsOf 2 (c % 100)) (class-free isDigit 44 comma-no-digit (g .whole) (g .digits)) (class-free isDigit 44 comma-no-digit (digitsOf (widthOf n) n) (digits-all (widthOf n) n)) e in
-    let w : valueOf 0 (g .whole) ≡ n = ap (valueOf 0) (i .0) ∙ digits-value (widthOf n) n (width-fits n (omega arith) .0) in
+    let w : valueOf 0 (g .whole) ≡ n = ap (valueOf 0) (i .0) ∙ value-back (widthOf n) n (width-fits n (omega arith) .0) in
     let p : hundredthsIn (g .part) ≡ c % 100 = ap hundredthsIn (i .1) ∙ two-digits (c % 100) (omega arith) in
     omega (arith, w, p)
 
@@ -228,4 +228,4 @@ count-is n h = simp (lt-ltb n 100 h)
 pub count-back : (n : ℕ) → 0 < length (countText n) → valueOf 0 (countText n) ≡ n
 count-back n h =
     let b = count-fits n h in
-    ap (valueOf 0) (count-is n b) ∙ digits-value (widthOf n) n (width-fits n (omega arith) .0)
+    ap (valueOf 0) (count-is n b) ∙ value-back (widthOf n) n (width-fits n (omega arith) .0)

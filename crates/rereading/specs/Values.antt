@@ -8,10 +8,10 @@ use lib.ListN.{getD}
 use Rattle.codes.specs.declared.Code.{Code}
 use Rattle.dates.specs.Dates.{dayOf, dateOf}
 use Rattle.dates.specs.declared.Day.the-variants.{Number}
-use Rattle.payments.specs.Payments.{nothing, payment}
 use Rattle.payments.specs.declared.Payment.{Payment}
 use Rattle.request.specs.declared.Head.{Head}
 use Rattle.request.specs.declared.Reading.{Reading}
+use Rattle.grammar.specs.Values.{noPayment}
 use Rattle.administrator.specs.Orders.{noLine}
 use Rattle.administrator.specs.declared.Line.{Line}
 use Rattle.administrator.specs.declared.Order.{Order}
@@ -30,9 +30,6 @@ pub record SamePayment (side : Side) (cents bank : ℕ) (p : Payment) : Type 0 w
 
 abbrev pub SameLine : Line → Payment → Type 0
 SameLine l p = SamePayment (l .side) (l .cents) (l .bank) p
-
-abbrev pub noPayment : Payment
-noPayment = payment nothing nothing nothing nothing
 
 -- 20 to 119
 pub record SameHead (o : Order) (h : Head) : Type 0 where
