@@ -29,12 +29,12 @@ use Rattle.engine.specs.Days.{opened, openingAnswer}
 use Rattle.engine.specs.Calls.{Call, Engine, isOpen, rightDay, judge, begun, tested, isClose, left, goesOn, closes, stepped, openedBy, performed, judged, call, cleared}
 use Rattle.engine.specs.Answered.{acted, outcome}
 use Rattle.engine.specs.Promises.{Ledger, noLedger}
-use Rattle.engine.proofs.Agreement.{Faithful, true-acted, right-day, call-faithful, cleared-faithful}
+use Rattle.engine.proofs.Agreement.{Faithful, true-acted, right-day}
 use Rattle.engine.proofs.Counting.{times-once, off-none}
 use Rattle.engine.proofs.Standing.{at-most-once, emptied-off}
 use Rattle.engine.proofs.Settling.{gone-fair, house-books}
 use Rattle.engine.proofs.Doing.{Did, idle, limits, letters, alone, repeats, recalls, completes, grows, rejects, did}
-use Rattle.engine.proofs.Keeping.{Readers, Kept, acted-stood, acted-house, fresh-kept, call-kept}
+use Rattle.engine.proofs.Keeping.{Readers, Kept, acted-stood, acted-house}
 
 -- ---- the words
 
@@ -89,11 +89,6 @@ PaidBy Done (ClosingBook d) e c v = v ≡ e .state .books
 
 unfoldable pub Paid : Engine → Call → Type 0
 Paid e c = PaidBy (judge (e .state) c) (c .action) e c (call e c .engine .state .books)
-
--- all of it after each of some calls
-unfoldable pub Told : Engine → Ledger → List Call → Type 0
-Told e l [] = Unit {0}
-Told e l (c ∷ cs) = Paid e c × Stands (call e c .engine) (ledger e c l) × Told (call e c .engine) (ledger e c l) cs
 
 -- ---- the proofs
 
@@ -226,16 +221,6 @@ module _ (readers : Readers) (e : Engine) (c : Call) (k : Kept (e .state)) (f : 
   unfolding call ledger Paid
   call-stands = (judged-paid (judge (e .state) c), judged-stands (judge (e .state) c) refl)
 
-calls-told : (readers : Readers) (cs : List Call) (e : Engine) (l : Ledger) → Kept (e .state) → Faithful e → Stands e l → Told e l cs
-unfolding Told
-calls-told readers [] e l k f h = tt
-calls-told readers (c ∷ cs) e l k f h =
-    let i = call-stands readers e c k f l h in
-    (i .0, i .1, calls-told readers cs (call e c .engine) (ledger e c l) (call-kept readers e c k) (call-faithful e c f) (i .1))
-
 pub fresh-stands : Stands cleared noLedger
 unfolding broughtBy takenBy
 fresh-stands = record { stuck = tt; money = λ k b. refl; total = refl }
-
-pub demand-three : Readers → (cs : List Call) → Told cleared noLedger cs
-demand-three readers cs = calls-told readers cs cleared noLedger fresh-kept cleared-faithful fresh-stands

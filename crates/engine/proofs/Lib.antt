@@ -33,7 +33,6 @@ pub mod Validity
 pub mod Fitting
 pub mod Output
 pub mod Holding
-pub mod OnlyNoted
 pub mod Replying
 pub mod Awaiting
 pub mod Ending

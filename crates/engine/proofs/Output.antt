@@ -2,7 +2,7 @@
 use Prim.Native.Nat.{_+_, _≤_, _<_}
 use mathlib.Core.Path.{_≡_, refl}
 use mathlib.Core.Bool.{Bool, true, false, cond}
-use mathlib.Core.List.{List, [], _∷_, _++_}
+use mathlib.Core.List.{_++_}
 use native.Mathlib.Omega.{arith}
 use lib.ListN.{length, length-append}
 use Rattle.request.specs.Request.{requestAt}
@@ -16,14 +16,14 @@ use Rattle.engine.specs.State.{State}
 use Rattle.engine.specs.Messages.{Acted}
 use Rattle.engine.specs.Ending.{settledReplies}
 use Rattle.engine.specs.Days.{openingAnswer}
-use Rattle.engine.specs.Calls.{Call, Engine, rightDay, roomNeeded, judge, begun, act, tested, isClose, replies, left, lastReplies, goesOn, closes, stepped, openedBy, performed, judged, call, cleared}
+use Rattle.engine.specs.Calls.{Call, Engine, rightDay, roomNeeded, judge, begun, act, tested, isClose, replies, left, lastReplies, goesOn, closes, stepped, openedBy, performed, judged, call}
 use Rattle.engine.specs.Rules.{Opened, Valid}
 use Rattle.engine.proofs.Agreement.{right-day}
 use Rattle.engine.proofs.Doing.{did}
 use Rattle.engine.proofs.Settling.{each-append}
 use Rattle.engine.proofs.Keeping.{Readers, begun-stood, acted-stood, tested-stood}
 use Rattle.engine.proofs.Fitting.{Fits, texts-fit, acted-fit, settled-fit, close-fit, few-messages}
-use Rattle.engine.proofs.Validity.{k, right-clock, open-in, acted-counted, left-answered, close-answered, call-valid}
+use Rattle.engine.proofs.Validity.{k, right-clock, open-in, acted-counted, left-answered, close-answered}
 
 module _ (readers : Readers) (e : Engine) (c : Call) (v : Valid (e .state)) where
   abbrev s : State
@@ -94,16 +94,3 @@ module _ (readers : Readers) (e : Engine) (c : Call) (v : Valid (e .state)) wher
   pub call-out : length (call e c .out) ≤ roomNeeded (c .action) (e .state)
   unfolding call
   call-out = judged-out (judge (e .state) c) refl
-
--- after each of some calls
-unfoldable pub Fitting : Engine → List Call → Type 0
-Fitting e [] = Unit {0}
-Fitting e (c ∷ cs) = (length (call e c .out) ≤ roomNeeded (c .action) (e .state)) × Fitting (call e c .engine) cs
-
-runs-out : (readers : Readers) (cs : List Call) (e : Engine) → Valid (e .state) → Fitting e cs
-unfolding Fitting
-runs-out readers [] e v = tt
-runs-out readers (c ∷ cs) e v = (call-out readers e c v, runs-out readers cs (call e c .engine) (call-valid readers e c v))
-
-pub output-always-fits : Readers → (cs : List Call) → Fitting cleared cs
-output-always-fits readers cs = runs-out readers cs cleared refl

@@ -28,18 +28,17 @@ use Rattle.engine.specs.declared.Answer.the-variants.{Done, Refused}
 use Rattle.engine.specs.State.{sameCode, noCode, Entry, State}
 use Rattle.engine.specs.Replies.{Reply, settlement, recall, streamOf, textOf}
 use Rattle.engine.specs.Messages.{Acted, today}
-use Rattle.engine.specs.Calls.{Call, Engine, rightDay, judge, begun, isClose, replies, lastReplies, call, cleared}
+use Rattle.engine.specs.Calls.{Call, Engine, rightDay, judge, begun, isClose, replies, lastReplies}
 use Rattle.engine.specs.Rules.{isWhole, isReference, isBin, notedToday, Opened, Valid}
 use Rattle.engine.specs.Answered.{acted, outcome, steppedReplies, repliesBy, repliesOf}
-use Rattle.engine.specs.Promises.{ReadBack, outOf, responseOf}
+use Rattle.engine.specs.Promises.{ReadBack, responseOf}
 use Rattle.engine.proofs.Truth.{and-true}
 use Rattle.engine.proofs.Remembering.{same-code}
 use Rattle.engine.proofs.Agreement.{right-day}
 use Rattle.engine.proofs.Keeping.{Readers}
-use Rattle.engine.proofs.Validity.{right-clock, open-in, acted-known, left-answered, room-today, close-answered, call-valid}
+use Rattle.engine.proofs.Validity.{right-clock, open-in, acted-known, left-answered, room-today, close-answered}
 use Rattle.engine.proofs.Fitting.{Fits, long-most}
 use Rattle.engine.proofs.Output.{stepped-right}
-use Rattle.engine.proofs.Replying.{out-is}
 
 -- ---- references and BINs that a text can hold
 
@@ -180,16 +179,3 @@ module _ (readers : Readers) (e : Engine) (c : Call) (v : Valid (e .state)) wher
   call-read = judged-read (judge (e .state) c) refl
 
 -- ---- any calls
-
--- a call's bytes are its replies' texts, numbered on from those written today, or the closing book; and each text reads back as its reply
-unfoldable pub Texts : Engine → List Call → Type 0
-Texts e [] = Unit {0}
-Texts e (c ∷ cs) = (call e c .out ≡ outOf e c) × ReadBack (e .state .day .texts) (repliesOf e c) × Texts (call e c .engine) cs
-
-calls-read : (readers : Readers) (cs : List Call) (e : Engine) → Valid (e .state) → Texts e cs
-unfolding Texts
-calls-read readers [] e v = tt
-calls-read readers (c ∷ cs) e v = (out-is e c, call-read readers e c v, calls-read readers cs (call e c .engine) (call-valid readers e c v))
-
-pub texts-read-back : Readers → (cs : List Call) → Texts cleared cs
-texts-read-back readers cs = calls-read readers cs cleared refl

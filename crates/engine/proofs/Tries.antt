@@ -1,12 +1,10 @@
 -- The try row never needs more than 528 numbers.
 use Prim.Native.Nat.{_≤_}
 use mathlib.Core.Bool.{Bool, true, false, cond}
-use mathlib.Core.List.{List, [], _∷_}
 use native.Mathlib.Omega.{arith}
 use lib.ListN.{length}
 use Rattle.queue.specs.Tests.{Outcome}
 use Rattle.queue.proofs.Promises.{tries-fit}
-use Rattle.book.specs.Range.{Each}
 use Rattle.engine.specs.declared.Action.{Action}
 use Rattle.engine.specs.declared.Action.the-variants.{Opening, Message, SubLimit, Status, Tick, Close, ClosingBook}
 use Rattle.engine.specs.declared.Answer.{Answer}
@@ -14,9 +12,9 @@ use Rattle.engine.specs.declared.Answer.the-variants.{Done, Refused}
 use Rattle.engine.specs.State.{State, paymentsAt}
 use Rattle.engine.specs.Messages.{Acted}
 use Rattle.engine.specs.Days.{openingAnswer}
-use Rattle.engine.specs.Calls.{Call, Engine, judge, begun, act, woken, tested, isClose, goesOn, closes, stepped, openedBy, performed, judged, call, cleared, run}
+use Rattle.engine.specs.Calls.{Call, Engine, judge, begun, act, woken, tested, isClose, goesOn, closes, stepped, openedBy, performed, judged, call}
 use Rattle.engine.proofs.Standing.{few-queued}
-use Rattle.engine.proofs.Keeping.{Readers, Kept, acted-stood, fresh-kept, call-kept}
+use Rattle.engine.proofs.Keeping.{Readers, Kept, acted-stood}
 
 module _ (readers : Readers) (e : Engine) (c : Call) (k : Kept (e .state)) where
   abbrev s : State
@@ -61,12 +59,3 @@ module _ (readers : Readers) (e : Engine) (c : Call) (k : Kept (e .state)) where
   pub call-tries : length (call e c .tries) ≤ 528
   unfolding call
   call-tries = judged-few (judge (e .state) c)
-
-runs-few : (readers : Readers) (cs : List Call) (e : Engine) → Kept (e .state) → Each (λ r. length (r .tries) ≤ 528) (run e cs)
-unfolding run
-runs-few readers [] e k = tt
-runs-few readers (c ∷ cs) e k = (call-tries readers e c k, runs-few readers cs (call e c .engine) (call-kept readers e c k))
-
--- over any calls from a fresh start
-pub tries-never-over : Readers → (cs : List Call) → Each (λ r. length (r .tries) ≤ 528) (run cleared cs)
-tries-never-over readers cs = runs-few readers cs cleared fresh-kept

@@ -3,7 +3,6 @@ use Prim.Native.Nat.{ℕ, zero, suc, _+_, _≤_, _<_}
 use mathlib.Core.Path.{_≡_, refl, sym, ap, subst}
 use mathlib.Core.Logic.{inl}
 use mathlib.Core.Bool.{Bool, true, false, _||_, _&&_, cond, false≢true}
-use mathlib.Core.List.{List, [], _∷_}
 use native.Mathlib.Omega.{arith}
 use lib.Dec.{ltb, leb}
 use lib.ListN.{length, replicate, length-replicate, length-append}
@@ -28,7 +27,7 @@ use Rattle.engine.specs.Messages.{Acted, today}
 use Rattle.engine.specs.Joining.{join}
 use Rattle.engine.specs.Ending.{afterTest, settledReplies}
 use Rattle.engine.specs.Days.{isFresh, opened, isLater, checked, openingAnswer}
-use Rattle.engine.specs.Calls.{Call, Engine, isOpen, isClosed, isOpening, roomNeeded, rowsNeeded, rightDay, judge, begun, act, woken, tested, isClose, replies, left, lastReplies, goesOn, closes, stepped, openedBy, bookGiven, performed, judged, call, cleared, run}
+use Rattle.engine.specs.Calls.{Call, Engine, isOpen, isClosed, isOpening, roomNeeded, rowsNeeded, rightDay, judge, begun, act, woken, tested, isClose, replies, left, lastReplies, goesOn, closes, stepped, openedBy, bookGiven, performed, judged, call}
 use Rattle.engine.specs.Rules.{RightEntry, remembered, isReference, isBin, RightKnown, Opened, Idle, ValidIn, Valid, liveMessages, notedToday}
 use Rattle.engine.proofs.Truth.{and-true}
 use Rattle.engine.proofs.Agreement.{right-day}
@@ -282,12 +281,3 @@ module _ (readers : Readers) (e : Engine) (c : Call) (v : Valid (e .state)) wher
   call-valid = judged-valid (judge (e .state) c) refl
 
 -- ---- any calls
-
-runs-valid : (readers : Readers) (cs : List Call) (e : Engine) → Valid (e .state) → Each (λ r. Valid (r .engine .state)) (run e cs)
-unfolding run
-runs-valid readers [] e v = tt
-runs-valid readers (c ∷ cs) e v = let w = call-valid readers e c v in (w, runs-valid readers cs (call e c .engine) w)
-
--- from a fresh start the tables keep the table rules after each call
-pub always-valid : Readers → (cs : List Call) → Each (λ r. Valid (r .engine .state)) (run cleared cs)
-always-valid readers cs = runs-valid readers cs cleared refl
