@@ -1,4 +1,4 @@
--- Demand 3, over any calls from a fresh start. After each call no queued batch would pass; every payer of a settled batch covered its own
+-- Demand 3, kept by each call. After it no queued batch would pass; every payer of a settled batch covered its own
 -- payment on the balances just before that batch; each balance is the day's opening balance plus credits less debits of the batches settled
 -- since; the total never changes within a day.
 use Prim.Native.Nat.{ℕ, _+_, _<_}

@@ -1,4 +1,4 @@
--- The table rules hold from a fresh start on: 06 never comes from the engine's own tables.
+-- Each call keeps the table rules: 06 never comes from the engine's own tables.
 use Prim.Native.Nat.{ℕ, zero, suc, _+_, _≤_, _<_}
 use mathlib.Core.Path.{_≡_, refl, sym, ap, subst}
 use mathlib.Core.Logic.{inl}
