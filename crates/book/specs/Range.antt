@@ -8,6 +8,7 @@ use lib.ListN.{length}
 use Rattle.chars.specs.Chars.{isCode}
 use Rattle.codes.specs.Codes.{shortText}
 use Rattle.dates.specs.Dates.{sum}
+pub use Rattle.names.specs.Names.{allAre}
 use Rattle.book.specs.declared.Field.the-variants.{Code, Flags, Balance, Limit}
 use Rattle.book.specs.Book.{mostMoney}
 use Rattle.book.specs.Accounts.{Stream, Bank, column}
@@ -16,11 +17,6 @@ use Rattle.book.specs.Accounts.{Stream, Bank, column}
 abbrev pub Each : {A : Type 0} → (A → Type 0) → List A → Type 0
 Each P [] = Unit {0}
 Each P (x ∷ xs) = P x × Each P xs
-
--- every byte of a list is of a class
-abbrev pub allAre : (ℕ → Bool) → List ℕ → Bool
-allAre is [] = true
-allAre is (x ∷ xs) = is x && allAre is xs
 
 -- "4 of A-Z 0-9", as a number
 abbrev pub isShort : ℕ → Bool

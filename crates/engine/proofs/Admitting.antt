@@ -118,11 +118,11 @@ unfolding Distinct Apart
 distinct-last [] x d a = (tt, tt)
 distinct-last (p ∷ ps) x d a = (apart-last (bankOf p) ps x (d .0) (λ e. a .0 (sym e)), distinct-last ps x (d .1) (a .1))
 
-covers-banks : (s : State) (r : Reading) (ps : List Payment) → Covers (banksIn s r ps) ps
+covers-banks : (s : State) (r : Reading) (ps : List Payment) → Covers (banksIn ps) ps
 unfolding Covers Apart
 covers-banks s r [] k h = tt
 covers-banks s r (p ∷ ps) k h =
-    let g = or-false (eqb k (bankOf p)) (member k (banksIn s r ps)) h in
+    let g = or-false (eqb k (bankOf p)) (member k (banksIn ps)) h in
     ((λ e. eqb-false k (bankOf p) (g .0) (sym e)), covers-banks s r ps k (g .1))
 
 module _ (s : State) (r : Reading) (stream : ℕ) where
@@ -186,14 +186,14 @@ module _ (s : State) (r : Reading) (stream : ℕ) where
       let d′ : Distinct (ps ++ (x ∷ [])) = distinct-last ps x d (rw e (c k (g .new))) in
       subst (λ (z : List Payment). Distinct z) (append-assoc ps (x ∷ []) (linePayments s r ls)) (lines-distinct ls (k ∷ taken) (ps ++ (x ∷ [])) c′ d′ (g .rest))
 
-  no-number : (n : ℕ) (ms : List Message) → hasNumber s r n ms ≡ false → Off n (numbers ms)
+  no-number : (n : ℕ) (ms : List Message) → hasNumber n ms ≡ false → Off n (numbers ms)
   no-number n [] h = tt
-  no-number n (m ∷ ms) h = let g = or-false (eqb (m .number) n) (hasNumber s r n ms) h in (eqb-false (m .number) n (g .0), no-number n ms (g .1))
+  no-number n (m ∷ ms) h = let g = or-false (eqb (m .number) n) (hasNumber n ms) h in (eqb-false (m .number) n (g .0), no-number n ms (g .1))
 
   record MessageHolds (b : Batch) : Type 0 where
     count : r .terms .count ≡ b .count
-    new : hasNumber s r (r .terms .number) (b .messages) ≡ false
-    lines-hold : firstBroken (lineRules s r stream (banksIn s r (paymentsOf (b .messages))) (lines s r)) ≡ Done
+    new : hasNumber (r .terms .number) (b .messages) ≡ false
+    lines-hold : firstBroken (lineRules s r stream (banksIn (paymentsOf (b .messages))) (lines s r)) ≡ Done
 
   message-holds : (b : Batch) → firstBroken (messageRules s r stream b) ≡ Done → MessageHolds b
   unfolding messageRules
@@ -219,9 +219,9 @@ module _ (s : State) (r : Reading) (stream : ℕ) where
           number = (g .number .0, omega (arith, m .count, g .number .1));
           some = rw (lines-many (lines s r)) (g .some);
           few = rw (lines-many (lines s r)) (g .few);
-          priced = lines-priced (banksIn s r ps) (lines s r) (m .lines-hold) (g .money);
+          priced = lines-priced (banksIn ps) (lines s r) (m .lines-hold) (g .money);
           lettered = lines-lettered (lines s r) (g .letters);
         });
         apart = rw (numbers-last (b .messages) (arrived s r)) (once-last (r .terms .number) (numbers (b .messages)) (t .apart) (no-number (r .terms .number) (b .messages) (m .new)));
-        banks-differ = rw (payments-last (b .messages) (arrived s r)) (lines-distinct (lines s r) (banksIn s r ps) ps (covers-banks s r ps) (t .banks-differ) (m .lines-hold));
+        banks-differ = rw (payments-last (b .messages) (arrived s r)) (lines-distinct (lines s r) (banksIn ps) ps (covers-banks s r ps) (t .banks-differ) (m .lines-hold));
       }

@@ -11,22 +11,22 @@ use Rattle.chars.specs.declared.Refusal.{Refusal}
 use Rattle.settle.specs.Settlement.{Accounts}
 use Rattle.queue.specs.Promise.{True}
 use Rattle.queue.specs.Tests.{Outcome, Seen, seen, fuel}
-use Rattle.queue.specs.Day.{forgotten}
+use Rattle.queue.specs.Memory.{forgotten}
 use Rattle.queue.proofs.Agree.{tests-agree, true-test}
 use Rattle.queue.proofs.Promises.{fresh-none}
 use Rattle.settle.specs.Payments.{Payment}
 use Rattle.chars.specs.declared.Refusal.the-variants.{WrongMoment, ShortBuffer}
-use Rattle.engine.specs.declared.Action.{Action}
-use Rattle.engine.specs.declared.Action.the-variants.{Opening, Message, SubLimit, Status, Tick, Close, ClosingBook}
 use Rattle.engine.specs.declared.Answer.{Answer}
 use Rattle.engine.specs.declared.Answer.the-variants.{Done, Refused}
+use Rattle.engine.specs.Kinds.{Kind, opens, steps, gives, kindOf, isClose}
 use Rattle.engine.specs.State.{free, Batches, State, noMemory, paymentsAt, withPlace}
 use Rattle.engine.specs.Messages.{Acted}
 use Rattle.engine.specs.Ending.{emptied, afterTest}
 use Rattle.engine.specs.Joining.{join}
 use Rattle.engine.specs.Days.{openingAnswer, opened}
-use Rattle.engine.specs.Calls.{Call, Engine, isOpen, rightClock, rightDay, roomNeeded, rowsNeeded, judge, begun, act, woken, tested, isClose, replies, left, lastReplies, goesOn, closes, stepped, openedBy, performed, judged, call, cleared, run}
-use Rattle.engine.specs.Promises.{View, by, chosen, view, views}
+use Rattle.engine.specs.Calls.{Call, Engine, isOpen, rightClock, rightDay, dayFor, roomNeeded, rowsNeeded, judge, begun, act, woken, tested, replies, left, lastReplies, goesOn, closes, stepped, openedBy, performed, judged, call, cleared}
+use Rattle.engine.specs.Course.{start, Deed, clears, calls}
+use Rattle.engine.specs.Promises.{View, by, chosen, view, viewsBy, SameSeen}
 use Rattle.engine.proofs.Moved.{set-beside, moved, true-beside, true-moved}
 
 -- a memory that is true of the batches, and empty outside an open day
@@ -45,17 +45,17 @@ true-emptied (p ∷ done) b a m t =
 
 module _ (e : Engine) (c : Call) (t : True (paymentsAt (e .state .batches)) (e .state .books) (e .memory)) where
   abbrev s : State
-  s = begun (e .state) (c .clock)
+  s = begun (e .state) (c .asked .clock)
 
   abbrev a : Acted
-  a = act s (c .action) (c .input)
+  a = act s (c .asked .action) (c .asked .input)
 
   true-begun : True (paymentsAt (s .batches)) (s .books) (e .memory)
   unfolding begun join
   true-begun = t
 
   pub true-acted : True (paymentsAt (a .batches)) (a .books) (woken (a .wakes) (e .memory))
-  true-acted = true-moved s a (e .memory) (moved s (c .action) (c .input)) true-begun
+  true-acted = true-moved s a (e .memory) (moved s (c .asked .action) (c .asked .input)) true-begun
 
   pub true-tested : (q : Bool) → True (paymentsAt (a .batches)) (tested q a (e .memory) .books) (tested q a (e .memory) .memory)
   unfolding tested
@@ -89,30 +89,26 @@ module _ (s : State) (m n : List ℕ) (c : Call) (x y : Bool) where
   stepped-alike : True (paymentsAt (s .batches)) (s .books) m → True (paymentsAt (s .batches)) (s .books) n → view (stepped one (by x c)) ≡ view (stepped two (by y c))
   unfolding stepped tested
   stepped-alike g h =
-      let b : State = begun s (c .clock) in
-      let a : Acted = act b (c .action) (c .input) in
+      let b : State = begun s (c .asked .clock) in
+      let a : Acted = act b (c .asked .action) (c .asked .input) in
       ends-alike b a (tested x a m) (tested y a n)
       (tests-agree (paymentsAt (a .batches)) x y (fuel (a .batches .queue)) (a .books) (woken (a .wakes) m) (woken (a .wakes) n) (a .batches .queue)
       (λ e. true-acted one (by x c) g) (λ e. true-acted two (by y c) h))
-      (isClose (c .action))
+      (isClose (c .asked .action))
 
   opened-alike : (r : Answer) → view (openedBy r one (by x c)) ≡ view (openedBy r two (by y c))
   opened-alike Done = refl
   opened-alike (Refused r) = refl
 
-  performed-alike : (z : Action) → True (paymentsAt (s .batches)) (s .books) m → True (paymentsAt (s .batches)) (s .books) n
+  performed-alike : (z : Kind) → True (paymentsAt (s .batches)) (s .books) m → True (paymentsAt (s .batches)) (s .books) n
       → view (performed z one (by x c)) ≡ view (performed z two (by y c))
-  performed-alike Opening g h = opened-alike (openingAnswer (s .day) (c .input))
-  performed-alike (Message k) g h = stepped-alike g h
-  performed-alike (SubLimit k v) g h = stepped-alike g h
-  performed-alike (Status k b l) g h = stepped-alike g h
-  performed-alike Tick g h = stepped-alike g h
-  performed-alike Close g h = stepped-alike g h
-  performed-alike (ClosingBook d) g h = refl
+  performed-alike opens g h = opened-alike (openingAnswer (s .day) (c .asked .input))
+  performed-alike steps g h = stepped-alike g h
+  performed-alike (gives d) g h = refl
 
   judged-alike : (r : Answer) → True (paymentsAt (s .batches)) (s .books) m → True (paymentsAt (s .batches)) (s .books) n
       → view (judged r one (by x c)) ≡ view (judged r two (by y c))
-  judged-alike Done g h = performed-alike (c .action) g h
+  judged-alike Done g h = performed-alike (kindOf (c .asked .action)) g h
   judged-alike (Refused r) g h = refl
 
   pub call-alike : True (paymentsAt (s .batches)) (s .books) m → True (paymentsAt (s .batches)) (s .books) n
@@ -132,11 +128,11 @@ false-not-true : {X : Type 0} → _≡_ {A = Bool} false true → X
 false-not-true h = let z : _≡_ {A = ℕ} 0 1 = cc in absurd (omega arith)
 
 -- a call that is not refused at once came at the right moment
-pub right-day : (s : State) (c : Call) → judge s c ≡ Done → rightDay (c .action) (s .day) ≡ true
+pub right-day : (s : State) (c : Call) → judge s c ≡ Done → rightDay (c .asked .action) (s .day) ≡ true
 unfolding judge
-right-day s c h = go (rightClock (c .action) (s .day) (c .clock)) (rightDay (c .action) (s .day)) h
+right-day s c h = go (rightClock (c .asked .action) (s .day) (c .asked .clock)) (rightDay (c .asked .action) (s .day)) h
   where
-    go : (p q : Bool) → cond (p && q) (cond (leb (roomNeeded (c .action) s) (c .room) && leb rowsNeeded (c .rows)) Done (Refused ShortBuffer)) (Refused WrongMoment) ≡ Done → q ≡ true
+    go : (p q : Bool) → cond (p && q) (cond (leb (roomNeeded (c .asked .action) s) (c .room) && leb rowsNeeded (c .rows)) Done (Refused ShortBuffer)) (Refused WrongMoment) ≡ Done → q ≡ true
     go true true h = refl
     go true false h = done-not-refused h
     go false q h = done-not-refused h
@@ -147,18 +143,18 @@ not-open false h = refl
 
 module _ (e : Engine) (c : Call) (f : Faithful e) where
   abbrev s₁ : State
-  s₁ = begun (e .state) (c .clock)
+  s₁ = begun (e .state) (c .asked .clock)
 
   abbrev a₁ : Acted
-  a₁ = act s₁ (c .action) (c .input)
+  a₁ = act s₁ (c .asked .action) (c .asked .input)
 
   abbrev o₁ : Outcome
-  o₁ = tested (c .quick) a₁ (e .memory)
+  o₁ = tested (c .asked .quick) a₁ (e .memory)
 
   goes-faithful : isOpen (e .state .day .phase) ≡ true → Faithful (goesOn s₁ a₁ o₁ .engine)
   unfolding goesOn left afterTest begun
   goes-faithful h = record {
-    true = true-emptied (o₁ .done) (a₁ .batches) (o₁ .books) (o₁ .memory) (true-tested e c (f .true) (c .quick));
+    true = true-emptied (o₁ .done) (a₁ .batches) (o₁ .books) (o₁ .memory) (true-tested e c (f .true) (c .asked .quick));
     idle = λ g. false-not-true (sym g ∙ h);
   }
 
@@ -172,24 +168,20 @@ module _ (e : Engine) (c : Call) (f : Faithful e) where
 
   stepped-faithful : isOpen (e .state .day .phase) ≡ true → Faithful (stepped e c .engine)
   unfolding stepped
-  stepped-faithful h = ends-faithful (isClose (c .action)) h
+  stepped-faithful h = ends-faithful (isClose (c .asked .action)) h
 
   opened-faithful : (r : Answer) → isOpen (e .state .day .phase) ≡ false → Faithful (openedBy r e c .engine)
   unfolding opened
   opened-faithful Done h = record { true = zeros-true _ _ (e .memory) (f .idle h); idle = λ g. f .idle h }
   opened-faithful (Refused r) h = f
 
-  performed-faithful : (z : Action) → rightDay z (e .state .day) ≡ true → Faithful (performed z e c .engine)
-  performed-faithful Opening h = opened-faithful (openingAnswer (e .state .day) (c .input)) (not-open _ h)
-  performed-faithful (Message k) h = stepped-faithful h
-  performed-faithful (SubLimit k v) h = stepped-faithful h
-  performed-faithful (Status k b l) h = stepped-faithful h
-  performed-faithful Tick h = stepped-faithful h
-  performed-faithful Close h = stepped-faithful h
-  performed-faithful (ClosingBook d) h = record { true = f .true; idle = f .idle }
+  performed-faithful : (z : Kind) → dayFor z (e .state .day) ≡ true → Faithful (performed z e c .engine)
+  performed-faithful opens h = opened-faithful (openingAnswer (e .state .day) (c .asked .input)) (not-open _ h)
+  performed-faithful steps h = stepped-faithful h
+  performed-faithful (gives d) h = record { true = f .true; idle = f .idle }
 
   judged-faithful : (r : Answer) → judge (e .state) c ≡ r → Faithful (judged r e c .engine)
-  judged-faithful Done h = performed-faithful (c .action) (right-day (e .state) c h)
+  judged-faithful Done h = performed-faithful (kindOf (c .asked .action)) (right-day (e .state) c h)
   judged-faithful (Refused r) h = f
 
   pub call-faithful : Faithful (call e c .engine)
@@ -199,22 +191,23 @@ module _ (e : Engine) (c : Call) (f : Faithful e) where
 pub cleared-faithful : Faithful cleared
 cleared-faithful = record { true = zeros-true _ _ noMemory fresh-none; idle = λ g. fresh-none }
 
--- ---- over any sequence of calls
+-- ---- over any sequence of calls and clearings
 
-runs-alike : (cs : List Call) (x y : ℕ → Bool) (e f : Engine) → e .state ≡ f .state → Faithful e → Faithful f
-    → views (run e (chosen x cs)) ≡ views (run f (chosen y cs))
-unfolding run views chosen
+runs-alike : (ds : List Deed) (x y : ℕ → Bool) (e f : Engine) → e .state ≡ f .state → Faithful e → Faithful f
+    → viewsBy call e (chosen x ds) ≡ viewsBy call f (chosen y ds)
+unfolding viewsBy chosen
 runs-alike [] x y e f h p q = refl
-runs-alike (c ∷ cs) x y e f h p q =
+runs-alike (clears ∷ ds) x y e f h p q = runs-alike ds x y cleared cleared refl cleared-faithful cleared-faithful
+runs-alike (calls c ∷ ds) x y e f h p q =
     let t : True (paymentsAt (e .state .batches)) (e .state .books) (f .memory) = rw h (q .true) in
     let v : view (call e (by (x 0) c)) ≡ view (call f (by (y 0) c)) =
     call-alike (e .state) (e .memory) (f .memory) c (x 0) (y 0) (p .true) t
     ∙ ap (λ (z : State). view (call (record { state = z; memory = f .memory }) (by (y 0) c))) h in
-    ap (λ (z : View). z ∷ views (run (call e (by (x 0) c) .engine) (chosen (λ i. x (suc i)) cs))) v
+    ap (λ (z : View). z ∷ viewsBy call (call e (by (x 0) c) .engine) (chosen (λ i. x (suc i)) ds)) v
     ∙ ap (λ (l : List View). view (call f (by (y 0) c)) ∷ l)
-    (runs-alike cs (λ i. x (suc i)) (λ i. y (suc i)) (call e (by (x 0) c) .engine) (call f (by (y 0) c) .engine)
+    (runs-alike ds (λ i. x (suc i)) (λ i. y (suc i)) (call e (by (x 0) c) .engine) (call f (by (y 0) c) .engine)
     (ap (λ (z : View). z .state) v) (call-faithful e (by (x 0) c) p) (call-faithful f (by (y 0) c) q))
 
 -- "From a fresh start, over any sequence of calls, both give the same answers, response bytes, balances and waiting batches"
-pub tests-agree-all-days : (cs : List Call) (x y : ℕ → Bool) → views (run cleared (chosen x cs)) ≡ views (run cleared (chosen y cs))
-tests-agree-all-days cs x y = runs-alike cs x y cleared cleared refl cleared-faithful cleared-faithful
+pub tests-agree-all-days : SameSeen call
+tests-agree-all-days ds x y = runs-alike ds x y start start refl cleared-faithful cleared-faithful

@@ -19,7 +19,7 @@ use Rattle.response.specs.declared.Outcome.the-variants.{Settled, Rejected}
 use Rattle.queue.proofs.MemoryLaws.{byBool}
 use Rattle.engine.specs.State.{at, onFound, sameCode, noCode, isFree, hasBin, Day, Message, Batch, Place, free, live, Batches, Known, Entry, State, placeAt, placeMessages, placeBin, batchOf}
 use Rattle.engine.specs.Replies.{Reply, repliesTo}
-use Rattle.engine.specs.Messages.{Acted, today, bin, arrived, noted, withMessage, ended, firstBatch}
+use Rattle.engine.specs.Messages.{Acted, today, bin, arrived, withReference, withMessage, ended, firstBatch}
 use Rattle.engine.specs.Changes.{withLetter}
 use Rattle.engine.specs.Ending.{emptied, settledReplies, closeReplies}
 use Rattle.engine.specs.Rules.{isBin, remembered, AllUnlike, has, notedToday, liveMessages}
@@ -30,7 +30,7 @@ use Rattle.engine.proofs.Admitting.{Gives}
 use Rattle.engine.proofs.Lettering.{relettered-length}
 use Rattle.engine.proofs.Noting.{same-self}
 use Rattle.engine.proofs.Remembering.{reference-noted, same-code, bin-code, unlike-none}
-use Rattle.engine.proofs.Doing.{New, Start, going, begun, Did, idle, limits, letters, alone, repeats, recalls, completes, grows, rejects}
+use Rattle.engine.proofs.Doing.{New, Start, going, begun, Did, sent, idle, limits, letters, alone, repeats, recalls, completes, grows, rejects}
 
 -- ---- live messages
 
@@ -63,7 +63,7 @@ module _ (s : State) (r : Reading) (g : Gives r) where
   abbrev before : ℕ
   before = liveMessages (s .batches .places)
 
-  one-more : New s r → notedToday (today s) (noted s r .references) ≡ notedToday (today s) (s .known .references) + 1
+  one-more : New s r → notedToday (today s) (withReference s r .references) ≡ notedToday (today s) (s .known .references) + 1
   one-more n = reference-noted s r g n .one-more
 
   record Begins (b : Batches) (k : Known) (p : ℕ) (x : Batch) : Type 0 where
@@ -98,7 +98,7 @@ module _ (s : State) (r : Reading) (g : Gives r) where
 
   pub counted : {a : Acted} → Did s r a → Counted s a
   unfolding ended
-  counted (idle n) = record { new = 0; few = omega arith; answered = omega arith; noted-today = omega arith }
+  counted (sent (idle n)) = record { new = 0; few = omega arith; answered = omega arith; noted-today = omega arith }
   counted (limits k x b l) = record { new = 0; few = omega arith; answered = omega arith; noted-today = omega arith }
   counted (letters k x p c m w) = record {
     new = 0;
@@ -106,24 +106,24 @@ module _ (s : State) (r : Reading) (g : Gives r) where
     answered = omega (arith, live-set (s .batches .places) p (withLetter k x (placeAt (s .batches) p)) (w .there .inside), letter-messages k x (placeAt (s .batches) p));
     noted-today = omega arith;
   }
-  counted (alone n y q w) = record { new = 1; few = omega arith; answered = omega arith; noted-today = one-more w }
-  counted (repeats p c f i) = record {
+  counted (sent (alone n y q w)) = record { new = 1; few = omega arith; answered = omega arith; noted-today = one-more w }
+  counted (sent (repeats p c f i)) = record {
     new = 0;
     few = omega arith;
     answered = omega (arith, live-freed (s .batches .places) p, replies-length (placeMessages (placeAt (s .batches) p)) c (Rejected (numberOf f)));
     noted-today = omega arith;
   }
-  counted (recalls p f n w) = record {
+  counted (sent (recalls p f n w)) = record {
     new = 1;
     few = omega arith;
     answered = omega (arith, live-freed (s .batches .places) p, replies-length (placeMessages (placeAt (s .batches) p)) (bin s r) (Rejected (numberOf f)));
     noted-today = one-more n;
   }
-  counted (completes stream b k p x j d e f) =
+  counted (sent (completes stream b k p x j d e f)) =
       let i = begins (j .new) (j .start) in record { new = 1; few = omega arith; answered = omega (arith, lives i); noted-today = i .one }
-  counted (grows stream b k p x j d e) =
+  counted (sent (grows stream b k p x j d e)) =
       let i = begins (j .new) (j .start) in record { new = 1; few = omega arith; answered = omega (arith, lives i); noted-today = i .one }
-  counted (rejects f b k p x j) =
+  counted (sent (rejects f b k p x j)) =
       let i = begins (j .new) (j .start) in
       record {
         new = 1;

@@ -13,12 +13,12 @@ use Rattle.response.specs.declared.Outcome.{Outcome}
 use Rattle.response.specs.declared.Outcome.the-variants.{Rejected}
 use Rattle.engine.specs.State.{isFree, Message, Batch, Place, free, live, Batches, Known, State, placeAt, placeMessages}
 use Rattle.engine.specs.Replies.{Reply, repliesTo}
-use Rattle.engine.specs.Messages.{Acted, today, reference, bin, arrived, firstBatch, noted, ended, withMessage}
+use Rattle.engine.specs.Messages.{Acted, today, reference, bin, arrived, firstBatch, withReference, ended, withMessage}
 use Rattle.engine.specs.Changes.{relettered, withLetter}
 use Rattle.engine.specs.Answered.{replyTo, repliedTo, timesIn, notedOn, referencesOf, awaitingAt}
 use Rattle.engine.proofs.Admitting.{Gives}
 use Rattle.engine.proofs.Remembering.{reference-noted}
-use Rattle.engine.proofs.Doing.{New, Alone, refuses, answers, Start, going, begun, Did, idle, limits, letters, alone, repeats, recalls, completes, grows, rejects}
+use Rattle.engine.proofs.Doing.{New, Alone, refuses, answers, Start, going, begun, Did, sent, idle, limits, letters, alone, repeats, recalls, completes, grows, rejects}
 
 -- ---- references, counted
 
@@ -94,7 +94,7 @@ module _ (s : State) (r : Reading) (g : Gives r) (x : Code) where
   abbrev pub Balanced : Acted → Type 0
   Balanced a = noting (a .known) + waits x (s .batches .places) ≡ noting (s .known) + (told x (a .replies) + waits x (a .batches .places))
 
-  this-more : New s r → noting (noted s r) ≡ noting (s .known) + timesIn x (reference s r ∷ [])
+  this-more : New s r → noting (withReference s r) ≡ noting (s .known) + timesIn x (reference s r ∷ [])
   this-more n = reference-noted s r g n .this-more x
 
   record Begins (b : Batches) (k : Known) (p : ℕ) (y : Batch) : Type 0 where
@@ -145,18 +145,18 @@ module _ (s : State) (r : Reading) (g : Gives r) (x : Code) where
 
   pub balanced : {a : Acted} → Did s r a → Balanced a
   unfolding ended repliedTo timesIn
-  balanced (idle n) = omega arith
+  balanced (sent (idle n)) = omega arith
   balanced (limits k v b l) = omega arith
   balanced (letters k l p c m w) =
       omega (arith, waits-set x (s .batches .places) p (withLetter k l (placeAt (s .batches) p)) (w .there .inside), letter-among k l (placeAt (s .batches) p))
-  balanced (alone n y q w) = omega (arith, this-more w, alone-told q)
-  balanced (repeats p c f i) =
+  balanced (sent (alone n y q w)) = omega (arith, this-more w, alone-told q)
+  balanced (sent (repeats p c f i)) =
       omega (arith, waits-freed x (s .batches .places) p, told-batch x (placeMessages (placeAt (s .batches) p)) c (Rejected (numberOf f)))
-  balanced (recalls p f n w) =
+  balanced (sent (recalls p f n w)) =
       omega (arith, this-more n, waits-freed x (s .batches .places) p, told-batch x (placeMessages (placeAt (s .batches) p)) (bin s r) (Rejected (numberOf f)))
-  balanced (completes stream b k p y j d e f) = let i = begins (j .new) (j .start) in omega (arith, lives i, i .one)
-  balanced (grows stream b k p y j d e) = let i = begins (j .new) (j .start) in omega (arith, lives i, i .one)
-  balanced (rejects f b k p y j) =
+  balanced (sent (completes stream b k p y j d e f)) = let i = begins (j .new) (j .start) in omega (arith, lives i, i .one)
+  balanced (sent (grows stream b k p y j d e)) = let i = begins (j .new) (j .start) in omega (arith, lives i, i .one)
+  balanced (sent (rejects f b k p y j)) =
       let i = begins (j .new) (j .start) in
       omega (
         arith,

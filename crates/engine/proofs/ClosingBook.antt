@@ -29,6 +29,7 @@ use Rattle.engine.specs.declared.Answer.{Answer}
 use Rattle.engine.specs.declared.Answer.the-variants.{Done, Refused}
 use Rattle.engine.specs.State.{Day, House, State}
 use Rattle.engine.specs.Days.{columnOf, opened, onDate, rightDate, banksOf, closingText}
+use Rattle.engine.specs.Kinds.{kindOf}
 use Rattle.engine.specs.Calls.{Call, Engine, isClosed, rightDay, judge, performed, judged, call}
 use Rattle.engine.specs.Rules.{RightHouse, Opened, Valid}
 use Rattle.engine.specs.Promises.{Closes, Tells}
@@ -195,7 +196,7 @@ module _ (e : Engine) (c : Call) (v : Valid (e .state)) where
       let r : rightDay (ClosingBook date) (e .state .day) ≡ true = rw x at (right-day (e .state) c i) in
       let g = and-true (isClosed (e .state .day .phase)) (rightDate (e .state .day) (dayOf date)) r in
       let d = true-date (e .state .day) (dayOf date) (g .1) in
-      subst (λ (z : Action). Tells (e .state) date (performed z e c .out)) (sym x)
+      subst (λ (z : Action). Tells (e .state) date (performed (kindOf z) e c .out)) (sym x)
       (tells (e .state) (closed-in (e .state) (e .state .day .phase) v (g .0) .0) date (d .day) (d .is))
   judged-closes (Refused q) i date x h = not-done (sym h)
 

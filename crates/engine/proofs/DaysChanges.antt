@@ -9,7 +9,7 @@ use Rattle.engine.specs.Calls.{Call}
 use Rattle.engine.proofs.Stories.{asked, says, code, longCode, bank, book, request, begins-at, alone, pays, dr, reply132, line, quiet, plays}
 
 -- the letters of a status change
-abbrev P : ℕ
+abbrev pub P : ℕ
 P = 80
 
 abbrev X : ℕ
@@ -18,7 +18,7 @@ X = 88
 abbrev space : ℕ
 space = 32
 
-abbrev status : (bank bin : String) → ℕ → Action
+abbrev pub status : (bank bin : String) → ℕ → Action
 status b bin letter = Status (code b) (longCode bin) letter
 
 -- "not A, D or P 80; unknown bank 76; no pending or queued batch of that BIN with a debit of that bank 02": a pending batch by P; a queued batch by a

@@ -18,53 +18,46 @@ use Rattle.queue.specs.Promise.{Trail, All, Stuck, Off, Fair, limited, broughtB
 use Rattle.queue.specs.Tests.{Outcome, fuel}
 use Rattle.queue.proofs.Trail.{All-zip, test-trail, test-stuck, test-parted}
 use Rattle.queue.proofs.Balances.{trail-sum, trail-total}
-use Rattle.engine.specs.declared.Action.{Action}
-use Rattle.engine.specs.declared.Action.the-variants.{Opening, Message, SubLimit, Status, Tick, Close, ClosingBook}
+use Rattle.book.specs.Accounts.{banksIn}
+use Rattle.book.specs.declared.Field.the-variants.{Balance}
 use Rattle.engine.specs.declared.Answer.{Answer}
 use Rattle.engine.specs.declared.Answer.the-variants.{Done, Refused}
+use Rattle.engine.specs.Kinds.{Kind, opens, steps, gives, kindOf, isClose}
 use Rattle.engine.specs.State.{Place, State, placePayments, paymentsAt}
 use Rattle.engine.specs.Messages.{Acted}
 use Rattle.engine.specs.Ending.{afterTest}
-use Rattle.engine.specs.Days.{opened, openingAnswer}
-use Rattle.engine.specs.Calls.{Call, Engine, isOpen, rightDay, judge, begun, tested, isClose, left, goesOn, closes, stepped, openedBy, performed, judged, call, cleared}
+use Rattle.engine.specs.Days.{opened, openingAnswer, columnOf}
+use Rattle.engine.specs.Calls.{Call, Engine, isOpen, judge, begun, tested, left, goesOn, closes, stepped, openedBy, performed, judged, call, cleared, dayFor}
 use Rattle.engine.specs.Answered.{acted, outcome}
 use Rattle.engine.specs.Promises.{Ledger, noLedger}
 use Rattle.engine.proofs.Agreement.{Faithful, true-acted, right-day}
 use Rattle.engine.proofs.Counting.{times-once, off-none}
 use Rattle.engine.proofs.Standing.{at-most-once, emptied-off}
 use Rattle.engine.proofs.Settling.{gone-fair, house-books}
-use Rattle.engine.proofs.Doing.{Did, idle, limits, letters, alone, repeats, recalls, completes, grows, rejects, did}
+use Rattle.engine.proofs.Doing.{Did, sent, idle, limits, letters, alone, repeats, recalls, completes, grows, rejects, did}
 use Rattle.engine.proofs.Keeping.{Readers, Kept, acted-stood, acted-house}
 
 -- ---- the words
 
 -- the batches that a call settles, in their order: only a call with a test settles any
-abbrev pub settledBy : Answer → Action → Engine → Call → List (List Payment)
+abbrev pub settledBy : Answer → Kind → Engine → Call → List (List Payment)
 settledBy (Refused r) x e c = []
-settledBy Done Opening e c = []
-settledBy Done (Message n) e c = map (paymentsAt (acted e c .batches)) (outcome e c .done)
-settledBy Done (SubLimit k v) e c = map (paymentsAt (acted e c .batches)) (outcome e c .done)
-settledBy Done (Status k b l) e c = map (paymentsAt (acted e c .batches)) (outcome e c .done)
-settledBy Done Tick e c = map (paymentsAt (acted e c .batches)) (outcome e c .done)
-settledBy Done Close e c = map (paymentsAt (acted e c .batches)) (outcome e c .done)
-settledBy Done (ClosingBook d) e c = []
+settledBy Done opens e c = []
+settledBy Done steps e c = map (paymentsAt (acted e c .batches)) (outcome e c .done)
+settledBy Done (gives d) e c = []
 
 abbrev pub anew : Answer → Engine → Call → Ledger → Ledger
-anew Done e c l = record { opening = opened (e .state) (c .clock) (c .input) .books .balances; gone = [] }
+anew Done e c l = record { opening = columnOf Balance (banksIn (c .asked .input)); gone = [] }
 anew (Refused r) e c l = l
 
-abbrev pub ledgerBy : Answer → Action → Engine → Call → Ledger → Ledger
+abbrev pub ledgerBy : Answer → Kind → Engine → Call → Ledger → Ledger
 ledgerBy (Refused r) x e c l = l
-ledgerBy Done Opening e c l = anew (openingAnswer (e .state .day) (c .input)) e c l
-ledgerBy Done (Message n) e c l = record { opening = l .opening; gone = l .gone ++ settledBy Done (Message n) e c }
-ledgerBy Done (SubLimit k v) e c l = record { opening = l .opening; gone = l .gone ++ settledBy Done (SubLimit k v) e c }
-ledgerBy Done (Status k b x) e c l = record { opening = l .opening; gone = l .gone ++ settledBy Done (Status k b x) e c }
-ledgerBy Done Tick e c l = record { opening = l .opening; gone = l .gone ++ settledBy Done Tick e c }
-ledgerBy Done Close e c l = record { opening = l .opening; gone = l .gone ++ settledBy Done Close e c }
-ledgerBy Done (ClosingBook d) e c l = l
+ledgerBy Done opens e c l = anew (openingAnswer (e .state .day) (c .asked .input)) e c l
+ledgerBy Done steps e c l = record { opening = l .opening; gone = l .gone ++ settledBy Done steps e c }
+ledgerBy Done (gives d) e c l = l
 
 unfoldable pub ledger : Engine → Call → Ledger → Ledger
-ledger e c l = ledgerBy (judge (e .state) c) (c .action) e c l
+ledger e c l = ledgerBy (judge (e .state) c) (kindOf (c .asked .action)) e c l
 
 -- what stands after a call
 pub record Stands (e : Engine) (l : Ledger) : Type 0 where
@@ -77,18 +70,14 @@ pub record Stands (e : Engine) (l : Ledger) : Type 0 where
 
 -- "every payer of a settled batch covered its own payment on the balances just before that batch": from the accounts that the action left to
 -- those that the call leaves, v. A call without a test leaves the accounts, but for an opening
-abbrev pub PaidBy : Answer → Action → Engine → Call → Accounts → Type 0
+abbrev pub PaidBy : Answer → Kind → Engine → Call → Accounts → Type 0
 PaidBy (Refused r) x e c v = v ≡ e .state .books
-PaidBy Done Opening e c v = Unit {0}
-PaidBy Done (Message n) e c v = Trail (paymentsAt (acted e c .batches)) (acted e c .books) (outcome e c .done) v
-PaidBy Done (SubLimit k x) e c v = Trail (paymentsAt (acted e c .batches)) (acted e c .books) (outcome e c .done) v
-PaidBy Done (Status k b l) e c v = Trail (paymentsAt (acted e c .batches)) (acted e c .books) (outcome e c .done) v
-PaidBy Done Tick e c v = Trail (paymentsAt (acted e c .batches)) (acted e c .books) (outcome e c .done) v
-PaidBy Done Close e c v = Trail (paymentsAt (acted e c .batches)) (acted e c .books) (outcome e c .done) v
-PaidBy Done (ClosingBook d) e c v = v ≡ e .state .books
+PaidBy Done opens e c v = Unit {0}
+PaidBy Done steps e c v = Trail (paymentsAt (acted e c .batches)) (acted e c .books) (outcome e c .done) v
+PaidBy Done (gives d) e c v = v ≡ e .state .books
 
 unfoldable pub Paid : Engine → Call → Type 0
-Paid e c = PaidBy (judge (e .state) c) (c .action) e c (call e c .engine .state .books)
+Paid e c = PaidBy (judge (e .state) c) (kindOf (c .asked .action)) e c (call e c .engine .state .books)
 
 -- ---- the proofs
 
@@ -105,19 +94,19 @@ taken-append k (x ∷ a) b = omega (arith, taken-append k a b)
 -- no action moves money
 same-money : (s : State) (r : Reading) {a : Acted} → Did s r a → a .books .balances ≡ s .books .balances
 unfolding limited
-same-money s r (idle n) = refl
+same-money s r (sent (idle n)) = refl
 same-money s r (limits k x b l) = refl
 same-money s r (letters k x p c m w) = refl
-same-money s r (alone n y q w) = refl
-same-money s r (repeats p c f i) = refl
-same-money s r (recalls p f n w) = refl
-same-money s r (completes stream b k p x j d e f) = refl
-same-money s r (grows stream b k p x j d e) = refl
-same-money s r (rejects f b k p x j) = refl
+same-money s r (sent (alone n y q w)) = refl
+same-money s r (sent (repeats p c f i)) = refl
+same-money s r (sent (recalls p f n w)) = refl
+same-money s r (sent (completes stream b k p x j d e f)) = refl
+same-money s r (sent (grows stream b k p x j d e)) = refl
+same-money s r (sent (rejects f b k p x j)) = refl
 
 module _ (readers : Readers) (e : Engine) (c : Call) (k : Kept (e .state)) (f : Faithful e) (l : Ledger) (h : Stands e l) where
   abbrev s : State
-  s = begun (e .state) (c .clock)
+  s = begun (e .state) (c .asked .clock)
 
   abbrev a : Acted
   a = acted e c
@@ -130,15 +119,15 @@ module _ (readers : Readers) (e : Engine) (c : Call) (k : Kept (e .state)) (f : 
 
   same : a .books .balances ≡ e .state .books .balances
   unfolding begun
-  same = same-money s (requestAt (c .input)) (did s (c .action) (c .input))
+  same = same-money s (requestAt (c .asked .input)) (did s (c .asked .action) (c .asked .input))
 
   paid : Trail (paymentsAt (a .batches)) (a .books) (o .done) (o .books)
   unfolding tested
-  paid = test-trail (c .quick) (paymentsAt (a .batches)) (fuel (a .batches .queue)) (a .books) _ (a .batches .queue)
+  paid = test-trail (c .asked .quick) (paymentsAt (a .batches)) (fuel (a .batches .queue)) (a .books) _ (a .batches .queue)
 
   fair : All (λ p. Fair (paymentsAt (a .batches) p)) (o .done)
   unfolding tested
-  fair = gone-fair (s .house) (a .batches) (a .books) (c .quick) _ (acted-house readers e c k) (acted-stood readers e c k)
+  fair = gone-fair (s .house) (a .batches) (a .books) (c .asked .quick) _ (acted-house readers e c k) (acted-stood readers e c k)
 
   tested-money : (i : ℕ) → i < 64 → getD (o .books .balances) i 0 + takenBy i (on .gone) ≡ getD (l .opening) i 0 + broughtBy i (on .gone)
   tested-money i b =
@@ -158,8 +147,8 @@ module _ (readers : Readers) (e : Engine) (c : Call) (k : Kept (e .state)) (f : 
       let once = times-once q (λ p. omega (arith, at-most-once (s .house .banks) (acted-stood readers e c k .each p))) in
       All-zip (λ x. Off x (o .done)) (λ x. verdict (o .books) (b x) ≡ Passes → ⊥) (λ x. verdict (o .books) (paymentsAt (left s a o) x) ≡ Passes → ⊥) (o .queue)
       (λ x d n v. n (ap (λ (z : Place). verdict (o .books) (placePayments z)) (sym (emptied-off (s .house .banks) (o .done) (a .batches .places) x (off-none x (o .done) d))) ∙ v))
-      (test-parted (c .quick) b (fuel q) (a .books) _ q once .apart)
-      (test-stuck (c .quick) b (fuel q) (a .books) _ q (λ y. true-acted e c (f .true)) (omega arith))
+      (test-parted (c .asked .quick) b (fuel q) (a .books) _ q once .apart)
+      (test-stuck (c .asked .quick) b (fuel q) (a .books) _ q (λ y. true-acted e c (f .true)) (omega arith))
 
   goes-stands : Stands (goesOn s a o .engine) on
   unfolding goesOn left afterTest
@@ -175,24 +164,20 @@ module _ (readers : Readers) (e : Engine) (c : Call) (k : Kept (e .state)) (f : 
 
   stepped-stands : Stands (stepped e c .engine) on
   unfolding stepped
-  stepped-stands = ends-stands (isClose (c .action))
+  stepped-stands = ends-stands (isClose (c .asked .action))
 
   opened-stands : (r : Answer) → isOpen (e .state .day .phase) ≡ false → Stands (openedBy r e c .engine) (anew r e c l)
   unfolding opened broughtBy takenBy
   opened-stands Done i = record { stuck = rw (k .idle i) tt; money = λ n b. refl; total = refl }
   opened-stands (Refused r) i = h
 
-  performed-stands : (z : Action) → rightDay z (e .state .day) ≡ true → Stands (performed z e c .engine) (ledgerBy Done z e c l)
-  performed-stands Opening i = opened-stands (openingAnswer (e .state .day) (c .input)) (not-true _ i)
-  performed-stands (Message n) i = stepped-stands
-  performed-stands (SubLimit n v) i = stepped-stands
-  performed-stands (Status n b x) i = stepped-stands
-  performed-stands Tick i = stepped-stands
-  performed-stands Close i = stepped-stands
-  performed-stands (ClosingBook d) i = record { stuck = h .stuck; money = h .money; total = h .total }
+  performed-stands : (z : Kind) → dayFor z (e .state .day) ≡ true → Stands (performed z e c .engine) (ledgerBy Done z e c l)
+  performed-stands opens i = opened-stands (openingAnswer (e .state .day) (c .asked .input)) (not-true _ i)
+  performed-stands steps i = stepped-stands
+  performed-stands (gives d) i = record { stuck = h .stuck; money = h .money; total = h .total }
 
-  judged-stands : (r : Answer) → judge (e .state) c ≡ r → Stands (judged r e c .engine) (ledgerBy r (c .action) e c l)
-  judged-stands Done i = performed-stands (c .action) (right-day (e .state) c i)
+  judged-stands : (r : Answer) → judge (e .state) c ≡ r → Stands (judged r e c .engine) (ledgerBy r (kindOf (c .asked .action)) e c l)
+  judged-stands Done i = performed-stands (kindOf (c .asked .action)) (right-day (e .state) c i)
   judged-stands (Refused r) i = h
 
   ends-paid : (t : Bool) → Trail (paymentsAt (a .batches)) (a .books) (o .done) (cond t (closes s a o) (goesOn s a o) .engine .state .books)
@@ -202,19 +187,15 @@ module _ (readers : Readers) (e : Engine) (c : Call) (k : Kept (e .state)) (f : 
 
   stepped-paid : Trail (paymentsAt (a .batches)) (a .books) (o .done) (stepped e c .engine .state .books)
   unfolding stepped
-  stepped-paid = ends-paid (isClose (c .action))
+  stepped-paid = ends-paid (isClose (c .asked .action))
 
-  performed-paid : (z : Action) → PaidBy Done z e c (performed z e c .engine .state .books)
-  performed-paid Opening = tt
-  performed-paid (Message n) = stepped-paid
-  performed-paid (SubLimit n v) = stepped-paid
-  performed-paid (Status n b x) = stepped-paid
-  performed-paid Tick = stepped-paid
-  performed-paid Close = stepped-paid
-  performed-paid (ClosingBook d) = refl
+  performed-paid : (z : Kind) → PaidBy Done z e c (performed z e c .engine .state .books)
+  performed-paid opens = tt
+  performed-paid steps = stepped-paid
+  performed-paid (gives d) = refl
 
-  judged-paid : (r : Answer) → PaidBy r (c .action) e c (judged r e c .engine .state .books)
-  judged-paid Done = performed-paid (c .action)
+  judged-paid : (r : Answer) → PaidBy r (kindOf (c .asked .action)) e c (judged r e c .engine .state .books)
+  judged-paid Done = performed-paid (kindOf (c .asked .action))
   judged-paid (Refused r) = refl
 
   pub call-stands : Paid e c × Stands (call e c .engine) (ledger e c l)

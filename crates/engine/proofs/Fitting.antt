@@ -1,68 +1,46 @@
 -- The texts of a call fit: at most 321 of them, each of at most 105 bytes.
 use Prim.Native.Nat.{ℕ, suc, _+_, _*_, _≤_, _<_}
 use mathlib.Core.Path.{_≡_, refl, sym, ap, _∙_}
-use mathlib.Core.Bool.{true, _&&_, false≢true}
+use mathlib.Core.Bool.{true, false≢true}
 use mathlib.Core.List.{List, [], _∷_}
 use native.Mathlib.Omega.{arith}
-use lib.Dec.{eqb}
-use lib.ListN.{length, getD, take, drop, length-append}
-use borrow.Author.Tests.{eqb-true}
-use Rattle.chars.specs.Chars.{isCode, isDigit}
+use lib.ListN.{length, getD, length-append}
+use borrow.Author.Tests.{lt-ltb}
 use Rattle.chars.specs.Refusals.{numberOf}
 use Rattle.chars.specs.declared.Refusal.{Refusal}
 use Rattle.chars.specs.declared.Refusal.the-variants.{Unequal, NothingThere, Recalled as WasRecalled, NoRoom, WrongMoment, BrokenTables, ShortBuffer, BookLength, BookCheck, BookHeader, OutOfRange, BookTotal, WrongSender, UsedReference, UnknownBank, SuspendedBank, PastDate, WrongEsa, WrongLetter, FutureDate, Unsettled, Malformed, OtherSubType}
-use Rattle.codes.specs.Codes.{named, spelled, longText}
 use Rattle.codes.specs.declared.Code.{Code}
-use Rattle.codes.proofs.Laws.{spelled-length}
 use Rattle.dates.specs.Dates.{isRemembered}
 use Rattle.request.specs.declared.Reading.{Reading}
-use Rattle.response.specs.Texts.{outcomeText, answerText}
+use Rattle.names.proofs.Laws.{long-most, bin-eight}
+use Rattle.response.specs.Texts.{answerText}
+use Rattle.response.specs.Values.{isOutcome, isAnswer}
 use Rattle.response.specs.declared.Outcome.{Outcome}
 use Rattle.response.specs.declared.Outcome.the-variants.{Settled, Rejected}
 use Rattle.response.specs.declared.Answer.{Answer as Told}
 use Rattle.response.specs.declared.Answer.the-variants.{Recalled, Kept as Stays}
-use Rattle.response.proofs.Laws.{settled-length, rejected-length, settlement-length, recall-length}
-use Rattle.reply.proofs.Sound.{SoundOutcome, SoundAnswer}
+use Rattle.response.proofs.Laws.{rejected-length, settlement-length, recall-length, outcome-most}
 use Rattle.queue.proofs.MemoryLaws.{byBool}
-use Rattle.book.specs.Range.{Each, allAre}
+use Rattle.book.specs.Range.{Each}
 use Rattle.engine.specs.State.{hasBin, Day, Message, Place, free, Batches, Entry, State, placeAt, placeMessages, placeBin, batchOf}
-use Rattle.engine.specs.Replies.{Reply, settlement, recall, streamOf, repliesTo, textOf, textsFrom}
+use Rattle.engine.specs.Replies.{Reply, settlement, recall, binStream, repliesTo, textOf, textsFrom}
 use Rattle.engine.specs.Messages.{Acted, arrived, withMessage, bin}
 use Rattle.engine.specs.Ending.{settledReplies, closeReplies}
-use Rattle.engine.specs.Rules.{isWhole, isReference, isBin, RightMessage, liveMessages}
-use Rattle.engine.proofs.Truth.{and-true}
+use Rattle.engine.specs.Rules.{isReference, isBin, RightMessage, liveMessages}
 use Rattle.engine.proofs.Seeking.{Answers, seek-answers, byFound}
 use Rattle.engine.proofs.Standing.{Standing, vacant, building, awaits, stands, Stood}
 use Rattle.engine.proofs.Settling.{each-append}
 use Rattle.engine.proofs.Admitting.{Gives, each-last}
 use Rattle.engine.proofs.Remembering.{same-code, named-reference}
 use Rattle.engine.proofs.Placing.{starts}
-use Rattle.engine.proofs.Doing.{New, Alone, refuses, answers, Did, idle, limits, letters, alone, repeats, recalls, completes, grows, rejects}
+use Rattle.engine.proofs.Doing.{New, Alone, refuses, answers, Did, sent, idle, limits, letters, alone, repeats, recalls, completes, grows, rejects}
 
 -- ---- one text
 
-named-most : (l : List ℕ) → length (named l) ≤ length l
-unfolding named
-named-most [] = omega arith
-named-most (x ∷ l) = byBool (eqb x 0) (λ e. rw e (omega arith)) (λ e. rw e (omega (arith, named-most l)))
-
-pub long-most : (c : Code) → length (longText c) ≤ 16
-unfolding longText
-long-most c = omega (arith, named-most (spelled c), spelled-length c)
-
-bin-eight : (c : Code) → isBin c ≡ true → length (longText c) ≡ 8
-bin-eight c h =
-    let g = and-true (isWhole c) (eqb (length (longText c)) 8 && (allAre isCode (take 4 (longText c)) && allAre isDigit (drop 4 (longText c)))) h in
-    eqb-true (length (longText c)) 8 (and-true (eqb (length (longText c)) 8) (allAre isCode (take 4 (longText c)) && allAre isDigit (drop 4 (longText c))) (g .1) .0)
-
 -- a reply has values that a text can hold
 abbrev pub Fits : Reply → Type 0
-Fits (settlement r b o) = (isReference r ≡ true) × (isBin b ≡ true) × SoundOutcome o
-Fits (recall r a) = (isReference r ≡ true) × SoundAnswer a
-
-outcome-most : (o : Outcome) → length (outcomeText o) ≤ 27
-outcome-most (Settled d t) = omega (arith, settled-length d t)
-outcome-most (Rejected n) = omega (arith, rejected-length n)
+Fits (settlement r b o) = (isReference r ≡ true) × (isBin b ≡ true) × (isOutcome o ≡ true)
+Fits (recall r a) = (isReference r ≡ true) × (isAnswer a ≡ true)
 
 answer-most : (a : Told) → length (answerText a) ≤ 17
 answer-most Recalled = omega arith
@@ -71,7 +49,7 @@ answer-most (Stays n) = omega (arith, rejected-length n)
 text-fits : (n : ℕ) (y : Reply) → Fits y → length (textOf n y) ≤ 105
 unfolding textOf
 text-fits n (settlement r b o) h =
-    omega (arith, settlement-length (record { number = n; reference = r; stream = streamOf b; bin = b; outcome = o }) refl refl refl, long-most r, bin-eight b (h .1), outcome-most o)
+    omega (arith, settlement-length (record { number = n; reference = r; stream = binStream b; bin = b; outcome = o }) refl refl refl, long-most r, bin-eight b (h .1), outcome-most o)
 text-fits n (recall r a) h = omega (arith, recall-length (record { number = n; reference = r; answer = a }) refl refl, long-most r, answer-most a)
 
 pub texts-fit : (n : ℕ) (ys : List Reply) → Each (λ y. Fits y) ys → length (textsFrom n ys) ≤ 105 * length ys
@@ -82,10 +60,10 @@ texts-fit n (y ∷ ys) h = omega (arith, length-append (textOf (n + 1) y) (texts
 -- ---- the replies of an action, of the test, of the close
 
 -- messages with references
-abbrev Referring : List Message → Type 0
+abbrev pub Referring : List Message → Type 0
 Referring ms = Each (λ m. isReference (m .reference) ≡ true) ms
 
-replies-fit : (ms : List Message) (c : Code) (o : Outcome) → Referring ms → isBin c ≡ true → SoundOutcome o → Each (λ y. Fits y) (repliesTo ms c o)
+pub replies-fit : (ms : List Message) (c : Code) (o : Outcome) → Referring ms → isBin c ≡ true → isOutcome o ≡ true → Each (λ y. Fits y) (repliesTo ms c o)
 unfolding repliesTo
 replies-fit [] c o r h i = tt
 replies-fit (m ∷ ms) c o r h i = ((r .0, h, i), replies-fit ms c o (r .1) h i)
@@ -116,7 +94,24 @@ two-digits Unsettled = omega arith
 two-digits Malformed = omega arith
 two-digits OtherSubType = omega arith
 
-right-referring : (banks n : ℕ) (ms : List Message) → Each (RightMessage banks n) ms → Referring ms
+-- so a text can hold each
+refused-told : (f : Refusal) → isOutcome (Rejected (numberOf f)) ≡ true
+unfolding isOutcome
+refused-told f = lt-ltb (numberOf f) 100 (two-digits f)
+
+kept-told : (f : Refusal) → isAnswer (Stays (numberOf f)) ≡ true
+unfolding isAnswer
+kept-told f = lt-ltb (numberOf f) 100 (two-digits f)
+
+recalled-told : isAnswer Recalled ≡ true
+unfolding isAnswer
+recalled-told = refl
+
+settled-told : (d t : ℕ) → d < 36525 → t < 86400 → isOutcome (Settled d t) ≡ true
+unfolding isOutcome
+settled-told d t h k = rw (lt-ltb d 36525 h, lt-ltb t 86400 k) refl
+
+pub right-referring : (banks n : ℕ) (ms : List Message) → Each (RightMessage banks n) ms → Referring ms
 right-referring banks n [] h = tt
 right-referring banks n (m ∷ ms) h = (h .0 .reference, right-referring banks n ms (h .1))
 
@@ -134,7 +129,7 @@ live-bin banks c (building {b = b} r l) h = ap (λ (z : Code). isBin z) (sym (sa
 live-bin banks c (awaits {b = b} r d g) h = ap (λ (z : Code). isBin z) (sym (same-code (b .bin) c h)) ∙ r .bin
 live-bin banks c (stands {b = b} r d) h = ap (λ (z : Code). isBin z) (sym (same-code (b .bin) c h)) ∙ r .bin
 
-place-fits : (banks : ℕ) (o : Outcome) → SoundOutcome o → {x : Place} {m n : ℕ} → Standing banks x m n → Each (λ y. Fits y) (repliesTo (placeMessages x) (placeBin x) o)
+place-fits : (banks : ℕ) (o : Outcome) → isOutcome o ≡ true → {x : Place} {m n : ℕ} → Standing banks x m n → Each (λ y. Fits y) (repliesTo (placeMessages x) (placeBin x) o)
 unfolding repliesTo
 place-fits banks o i vacant = tt
 place-fits banks o i (building {b = b} r l) = replies-fit (b .messages) (b .bin) o (right-referring banks (b .count) (b .messages) (r .messages)) (r .bin) i
@@ -143,35 +138,35 @@ place-fits banks o i (stands {b = b} r d) = replies-fit (b .messages) (b .bin) o
 
 module _ (s : State) (h : Stood (s .house .banks) (s .batches)) (r : Reading) (g : Gives r) where
   alone-fits : {y : Reply} → New s r → Alone s r y → Fits y
-  alone-fits n (refuses f i) = (named-reference s r g n, g .settlement i .bin, two-digits f)
-  alone-fits n (answers f) = (named-reference s r g n, two-digits f)
+  alone-fits n (refuses f i) = (named-reference s r g n, g .settlement i .bin, refused-told f)
+  alone-fits n (answers f) = (named-reference s r g n, kept-told f)
 
   found-bin : (c : Code) (p : ℕ) → Answers (hasBin c) (s .batches .places) free p → isBin c ≡ true
   found-bin c p a = live-bin (s .house .banks) c (h .each p) (a .yes)
 
   pub acted-fit : {a : Acted} → Did s r a → Each (λ y. Fits y) (a .replies)
-  acted-fit (idle n) = tt
+  acted-fit (sent (idle n)) = tt
   acted-fit (limits k x b l) = tt
   acted-fit (letters k x p c m w) = tt
-  acted-fit (alone n y q w) = (alone-fits w q, tt)
-  acted-fit (repeats p c f i) = replies-fit (placeMessages (placeAt (s .batches) p)) c _ (place-referring (s .house .banks) (h .each p)) (found-bin c p (i .there)) (two-digits f)
-  acted-fit (recalls p f n w) = (
-    (named-reference s r g n, tt),
-    replies-fit (placeMessages (placeAt (s .batches) p)) (bin s r) (Rejected (numberOf f)) (place-referring (s .house .banks) (h .each p)) (found-bin (bin s r) p (w .there)) (two-digits f),
+  acted-fit (sent (alone n y q w)) = (alone-fits w q, tt)
+  acted-fit (sent (repeats p c f i)) = replies-fit (placeMessages (placeAt (s .batches) p)) c _ (place-referring (s .house .banks) (h .each p)) (found-bin c p (i .there)) (refused-told f)
+  acted-fit (sent (recalls p f n w)) = (
+    (named-reference s r g n, recalled-told),
+    replies-fit (placeMessages (placeAt (s .batches) p)) (bin s r) (Rejected (numberOf f)) (place-referring (s .house .banks) (h .each p)) (found-bin (bin s r) p (w .there)) (refused-told f),
   )
-  acted-fit (completes stream b k p x j d e f) = tt
-  acted-fit (grows stream b k p x j d e) = tt
-  acted-fit (rejects f b k p x j) =
+  acted-fit (sent (completes stream b k p x j d e f)) = tt
+  acted-fit (sent (grows stream b k p x j d e)) = tt
+  acted-fit (sent (rejects f b k p x j)) =
       let t = starts s h r (g .settlement (j .settlement)) (j .start) in
       replies-fit (withMessage s r x .messages) (x .bin) (Rejected (numberOf f))
       (each-last (λ m. isReference (m .reference) ≡ true) (x .messages) (arrived s r) (right-referring (s .house .banks) (x .count) (x .messages) (t .messages)) (named-reference s r g (j .new)))
-      (t .bin) (two-digits f)
+      (t .bin) (refused-told f)
 
 module _ (banks : ℕ) (b : Batches) (h : Stood banks b) where
   pub settled-fit : (d : Day) → d .date < 36525 → d .clock < 86400 → (done : List ℕ) → Each (λ y. Fits y) (settledReplies d b done)
   unfolding settledReplies
   settled-fit d i t [] = tt
-  settled-fit d i t (p ∷ done) = each-append banks (λ y. Fits y) (repliesTo (placeMessages (placeAt b p)) (placeBin (placeAt b p)) (Settled (d .date) (d .clock))) (settledReplies d b done) (place-fits banks (Settled (d .date) (d .clock)) (i, t) (h .each p)) (settled-fit d i t done)
+  settled-fit d i t (p ∷ done) = each-append banks (λ y. Fits y) (repliesTo (placeMessages (placeAt b p)) (placeBin (placeAt b p)) (Settled (d .date) (d .clock))) (settledReplies d b done) (place-fits banks (Settled (d .date) (d .clock)) (settled-told (d .date) (d .clock) i t) (h .each p)) (settled-fit d i t done)
 
   pub close-fit : (now : ℕ) (es : List Entry) → Each (λ y. Fits y) (closeReplies now b es)
   unfolding closeReplies
@@ -182,12 +177,12 @@ module _ (banks : ℕ) (b : Batches) (h : Stood banks b) where
       byFound (batchOf b (e .code))
       (λ p f.
       rw (t, f) (each-append banks (λ y. Fits y) (repliesTo (placeMessages (placeAt b p)) (e .code) (Rejected (numberOf Unsettled))) (closeReplies now b es)
-      (replies-fit (placeMessages (placeAt b p)) (e .code) _ (place-referring banks (h .each p)) (live-bin banks (e .code) (h .each p) (seek-answers (hasBin (e .code)) free (b .places) p f .yes)) (two-digits Unsettled)) (close-fit now es)))
+      (replies-fit (placeMessages (placeAt b p)) (e .code) _ (place-referring banks (h .each p)) (live-bin banks (e .code) (h .each p) (seek-answers (hasBin (e .code)) free (b .places) p f .yes)) (refused-told Unsettled)) (close-fit now es)))
       (λ f. rw (t, f) (close-fit now es)))
       (λ t. rw t (close-fit now es))
 
   -- "32 live batches, 1 to 10 messages in a batch"
-  ten : {x : Place} {m n : ℕ} → Standing banks x m n → length (placeMessages x) ≤ 10
+  pub ten : {x : Place} {m n : ℕ} → Standing banks x m n → length (placeMessages x) ≤ 10
   ten vacant = omega arith
   ten (building r l) = omega (arith, r .count .1)
   ten (awaits r c g) = omega (arith, r .count .1, c .whole)

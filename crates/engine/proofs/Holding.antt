@@ -14,9 +14,8 @@ use Rattle.request.specs.declared.Reading.{Reading}
 use Rattle.settle.specs.Payments.{Payment, credit, debit, needsOf}
 use Rattle.settle.specs.Settlement.{Accounts, isCovered, firstUncovered}
 use Rattle.settle.specs.declared.Verdict.the-variants.{Stops}
-use Rattle.queue.specs.Memory.{wake}
+use Rattle.queue.specs.Memory.{wake, forgotten}
 use Rattle.queue.specs.Promise.{All}
-use Rattle.queue.specs.Day.{forgotten}
 use Rattle.queue.specs.Tests.{Outcome, some, remember, settle, walk, test, fuel}
 use Rattle.queue.proofs.MemoryLaws.{byBool, wake-yes, wake-no}
 use Rattle.queue.proofs.Steps.{byTurn, walk-memory, test-stop, test-more}
@@ -24,24 +23,23 @@ use Rattle.queue.proofs.Trail.{walk-each}
 use Rattle.queue.proofs.Agree.{forgets}
 use Rattle.queue.proofs.Promises.{fresh-none}
 use Rattle.book.specs.Range.{Each}
-use Rattle.engine.specs.declared.Action.{Action}
-use Rattle.engine.specs.declared.Action.the-variants.{Opening, Message, SubLimit, Status, Tick, Close, ClosingBook}
 use Rattle.engine.specs.declared.Answer.{Answer}
 use Rattle.engine.specs.declared.Answer.the-variants.{Done, Refused}
+use Rattle.engine.specs.Kinds.{Kind, opens, steps, gives, kindOf, isClose}
 use Rattle.engine.specs.State.{Place, free, Batches, Known, Batch, State, noBatches, noMemory, placePayments, paymentsAt}
 use Rattle.engine.specs.Joining.{keep, byTime, time, isDue, join}
 use Rattle.engine.specs.Messages.{Acted, Waking, bank, place, ended, toTail, mayQueue, withMessage}
 use Rattle.engine.specs.Changes.{hasDebit}
 use Rattle.engine.specs.Ending.{emptied, afterTest}
 use Rattle.engine.specs.Days.{openingAnswer, opened}
-use Rattle.engine.specs.Calls.{Call, Engine, judge, begun, act, woken, tested, isClose, left, goesOn, closes, stepped, openedBy, performed, judged, call, cleared, run}
+use Rattle.engine.specs.Calls.{Call, Engine, judge, begun, act, woken, tested, left, goesOn, closes, stepped, openedBy, performed, judged, call, cleared, run}
 use Rattle.engine.specs.Rules.{RightMemory}
 use Rattle.engine.proofs.Truth.{or-right}
 use Rattle.engine.proofs.Moved.{Moved, still, one, sub, moved}
 use Rattle.engine.proofs.Counting.{times, times-append, times-kept, no-member, a-member, times-all}
 use Rattle.engine.proofs.Standing.{emptied-off}
 use Rattle.engine.proofs.Settling.{test-times}
-use Rattle.engine.proofs.Doing.{Start, going, begun as begins, Did, idle, limits, letters, alone, repeats, recalls, completes, grows, rejects, did}
+use Rattle.engine.proofs.Doing.{Start, going, begun as begins, Did, sent, idle, limits, letters, alone, repeats, recalls, completes, grows, rejects, did}
 
 -- what is held: of a place in q, a bank with a debit there
 abbrev pub Holds : List ℕ → (ℕ → List Payment) → List ℕ → Type 0
@@ -120,7 +118,7 @@ module _ (quick : Bool) (batch : ℕ → List Payment) (all : List ℕ) where
 
 -- ---- places that are forgotten
 
-forgotten-off : (done m : List ℕ) (p : ℕ) → times p done ≡ 0 → getD (forgotten done m) p 0 ≡ getD m p 0
+pub forgotten-off : (done m : List ℕ) (p : ℕ) → times p done ≡ 0 → getD (forgotten done m) p 0 ≡ getD m p 0
 unfolding forgotten times
 forgotten-off [] m p e = refl
 forgotten-off (q ∷ done) m p e =
@@ -135,7 +133,7 @@ stays-none (q ∷ done) m p e =
     stays-none done (set m q 0) p
     (byBool (eqb p q) (λ f. rw (eqb-true p q f, forgets)) (λ f. getD-set-other m q p 0 0 (eqb-false p q f) ∙ e))
 
-forgotten-on : (done m : List ℕ) (p : ℕ) → 0 < times p done → getD (forgotten done m) p 0 ≡ 0
+pub forgotten-on : (done m : List ℕ) (p : ℕ) → 0 < times p done → getD (forgotten done m) p 0 ≡ 0
 unfolding forgotten times
 forgotten-on [] m p h = absurd (omega arith)
 forgotten-on (q ∷ done) m p h =
@@ -143,7 +141,7 @@ forgotten-on (q ∷ done) m p h =
     (λ f. stays-none done (set m q 0) p (rw (eqb-true q p f, forgets)))
     (λ f. let g : 0 < 0 + times p done = rw f at h in forgotten-on done (set m q 0) p (omega arith))
 
-forgotten-long : (done m : List ℕ) → length (forgotten done m) ≡ length m
+pub forgotten-long : (done m : List ℕ) → length (forgotten done m) ≡ length m
 unfolding forgotten
 forgotten-long [] m = refl
 forgotten-long (q ∷ done) m = forgotten-long done (set m q 0) ∙ length-set m q 0
@@ -167,15 +165,15 @@ module _ (s : State) (r : Reading) where
 
   -- a queued place that the action does not name stays queued
   still-queued : {a : Acted} → Did s r a → (q : ℕ) → ((p : ℕ) → a .wakes ≡ place p ∷ [] → q ≡ p → ⊥) → times q (s .batches .queue) ≤ times q (a .batches .queue)
-  still-queued (idle n) q h = omega arith
+  still-queued (sent (idle n)) q h = omega arith
   still-queued (limits k x b l) q h = omega arith
   still-queued (letters k x p c m w) q h = omega arith
-  still-queued (alone n y i w) q h = omega arith
-  still-queued (repeats p c f i) q h = omega (arith, ended-queue (s .batches) p q (h p refl))
-  still-queued (recalls p f n w) q h = omega (arith, ended-queue (s .batches) p q (h p refl))
-  still-queued (completes stream b k p x j d e f) q h = omega (arith, ap (times q) (start-queue (j .start)), tail-queue b (withMessage s r x) p q)
-  still-queued (grows stream b k p x j d e) q h = omega (arith, ap (times q) (start-queue (j .start)))
-  still-queued (rejects f b k p x j) q h = omega (arith, ap (times q) (start-queue (j .start)), ended-queue b p q (h p refl))
+  still-queued (sent (alone n y i w)) q h = omega arith
+  still-queued (sent (repeats p c f i)) q h = omega (arith, ended-queue (s .batches) p q (h p refl))
+  still-queued (sent (recalls p f n w)) q h = omega (arith, ended-queue (s .batches) p q (h p refl))
+  still-queued (sent (completes stream b k p x j d e f)) q h = omega (arith, ap (times q) (start-queue (j .start)), tail-queue b (withMessage s r x) p q)
+  still-queued (sent (grows stream b k p x j d e)) q h = omega (arith, ap (times q) (start-queue (j .start)))
+  still-queued (sent (rejects f b k p x j)) q h = omega (arith, ap (times q) (start-queue (j .start)), ended-queue b p q (h p refl))
 
   acted-held : (a : Acted) (m : List ℕ) → Moved s a → ((q : ℕ) → ((p : ℕ) → a .wakes ≡ place p ∷ [] → q ≡ p → ⊥) → times q (s .batches .queue) ≤ times q (a .batches .queue))
       → Holds (s .batches .queue) (paymentsAt (s .batches)) m → Holds (a .batches .queue) (paymentsAt (a .batches)) (woken (a .wakes) m)
@@ -213,32 +211,32 @@ right-holds b m r p k e = let i = r .held p k e in (some-times (times p (b .queu
 
 module _ (e : Engine) (c : Call) (h : RightMemory (e .state .batches) (e .memory)) where
   abbrev s₁ : State
-  s₁ = begun (e .state) (c .clock)
+  s₁ = begun (e .state) (c .asked .clock)
 
   abbrev a₁ : Acted
-  a₁ = act s₁ (c .action) (c .input)
+  a₁ = act s₁ (c .asked .action) (c .asked .input)
 
   abbrev o₁ : Outcome
-  o₁ = tested (c .quick) a₁ (e .memory)
+  o₁ = tested (c .asked .quick) a₁ (e .memory)
 
-  begun-held : Holds (s₁ .batches .queue) (paymentsAt (s₁ .batches)) (e .memory)
+  pub begun-held : Holds (s₁ .batches .queue) (paymentsAt (s₁ .batches)) (e .memory)
   unfolding begun join
   begun-held p k f =
       let i = right-holds (e .state .batches) (e .memory) h p k f in
-      (omega (arith, i .0, times-append p (e .state .batches .queue) (byTime (time (c .clock) (e .state .batches)) [] (keep (isDue (c .clock) (e .state .batches)) (e .state .batches .pending)))), i .1)
+      (omega (arith, i .0, times-append p (e .state .batches .queue) (byTime (time (c .asked .clock) (e .state .batches)) [] (keep (isDue (c .asked .clock) (e .state .batches)) (e .state .batches .pending)))), i .1)
 
   acted-holds : Holds (a₁ .batches .queue) (paymentsAt (a₁ .batches)) (woken (a₁ .wakes) (e .memory))
-  acted-holds = acted-held s₁ (requestAt (c .input)) a₁ (e .memory) (moved s₁ (c .action) (c .input)) (still-queued s₁ (requestAt (c .input)) (did s₁ (c .action) (c .input))) begun-held
+  acted-holds = acted-held s₁ (requestAt (c .asked .input)) a₁ (e .memory) (moved s₁ (c .asked .action) (c .asked .input)) (still-queued s₁ (requestAt (c .asked .input)) (did s₁ (c .asked .action) (c .asked .input))) begun-held
 
-  tested-holds : Holds (a₁ .batches .queue) (paymentsAt (a₁ .batches)) (o₁ .memory)
+  pub tested-holds : Holds (a₁ .batches .queue) (paymentsAt (a₁ .batches)) (o₁ .memory)
   unfolding tested
   tested-holds =
-      test-held (c .quick) (paymentsAt (a₁ .batches)) (a₁ .batches .queue) (fuel (a₁ .batches .queue)) (a₁ .books) (woken (a₁ .wakes) (e .memory)) (a₁ .batches .queue) acted-holds
+      test-held (c .asked .quick) (paymentsAt (a₁ .batches)) (a₁ .batches .queue) (fuel (a₁ .batches .queue)) (a₁ .books) (woken (a₁ .wakes) (e .memory)) (a₁ .batches .queue) acted-holds
       (times-all (λ p. 0 < times p (a₁ .batches .queue)) (a₁ .batches .queue) (λ p l. l))
 
-  tested-counts : (p : ℕ) → times p (o₁ .queue) + times p (o₁ .done) ≡ times p (a₁ .batches .queue)
+  pub tested-counts : (p : ℕ) → times p (o₁ .queue) + times p (o₁ .done) ≡ times p (a₁ .batches .queue)
   unfolding tested
-  tested-counts p = test-times (c .quick) (paymentsAt (a₁ .batches)) (fuel (a₁ .batches .queue)) p (a₁ .books) (woken (a₁ .wakes) (e .memory)) (a₁ .batches .queue)
+  tested-counts p = test-times (c .asked .quick) (paymentsAt (a₁ .batches)) (fuel (a₁ .batches .queue)) p (a₁ .books) (woken (a₁ .wakes) (e .memory)) (a₁ .batches .queue)
 
   left-holds : Holds (left s₁ a₁ o₁ .queue) (paymentsAt (left s₁ a₁ o₁)) (forgotten (o₁ .done) (o₁ .memory))
   unfolding left afterTest
@@ -250,13 +248,15 @@ module _ (e : Engine) (c : Call) (h : RightMemory (e .state .batches) (e .memory
           (omega (arith, tested-counts p, i .0), ap (λ (y : Place). hasDebit k (placePayments y)) (emptied-off (s₁ .house .banks) (o₁ .done) (a₁ .batches .places) p d) ∙ i .1)
       go (suc n) d = zero-held (sym (forgotten-on (o₁ .done) (o₁ .memory) p (omega arith)) ∙ f)
 
-  left-long : length (forgotten (o₁ .done) (o₁ .memory)) ≡ 32
+  pub tested-long : length (o₁ .memory) ≡ 32
   unfolding tested
-  left-long =
-      forgotten-long (o₁ .done) (o₁ .memory)
-      ∙ test-long (c .quick) (paymentsAt (a₁ .batches)) [] (fuel (a₁ .batches .queue)) (a₁ .books) (woken (a₁ .wakes) (e .memory)) (a₁ .batches .queue)
+  tested-long =
+      test-long (c .asked .quick) (paymentsAt (a₁ .batches)) [] (fuel (a₁ .batches .queue)) (a₁ .books) (woken (a₁ .wakes) (e .memory)) (a₁ .batches .queue)
       ∙ woken-long (a₁ .wakes) (e .memory)
       ∙ h .long
+
+  left-long : length (forgotten (o₁ .done) (o₁ .memory)) ≡ 32
+  left-long = forgotten-long (o₁ .done) (o₁ .memory) ∙ tested-long
 
   abbrev Right : Engine → Type 0
   Right x = RightMemory (x .state .batches) (x .memory)
@@ -268,24 +268,20 @@ module _ (e : Engine) (c : Call) (h : RightMemory (e .state .batches) (e .memory
 
   stepped-right : Right (stepped e c .engine)
   unfolding stepped
-  stepped-right = ends-right (isClose (c .action))
+  stepped-right = ends-right (isClose (c .asked .action))
 
   opened-right : (r : Answer) → Right (openedBy r e c .engine)
   unfolding opened
   opened-right Done = h
   opened-right (Refused r) = h
 
-  performed-right : (z : Action) → Right (performed z e c .engine)
-  performed-right Opening = opened-right (openingAnswer (e .state .day) (c .input))
-  performed-right (Message n) = stepped-right
-  performed-right (SubLimit n x) = stepped-right
-  performed-right (Status n b l) = stepped-right
-  performed-right Tick = stepped-right
-  performed-right Close = stepped-right
-  performed-right (ClosingBook d) = h
+  performed-right : (z : Kind) → Right (performed z e c .engine)
+  performed-right opens = opened-right (openingAnswer (e .state .day) (c .asked .input))
+  performed-right steps = stepped-right
+  performed-right (gives d) = h
 
   judged-right : (r : Answer) → Right (judged r e c .engine)
-  judged-right Done = performed-right (c .action)
+  judged-right Done = performed-right (kindOf (c .asked .action))
   judged-right (Refused r) = h
 
   pub call-memory : RightMemory (call e c .engine .state .batches) (call e c .engine .memory)

@@ -14,14 +14,13 @@ use Rattle.book.specs.declared.Answer.the-variants.{Sound, Fault}
 use Rattle.book.specs.declared.Field.the-variants.{Code, Flags, Balance, Limit}
 use Rattle.queue.specs.Tests.{Outcome, fuel}
 use Rattle.book.specs.Range.{Each}
-use Rattle.engine.specs.declared.Action.{Action}
-use Rattle.engine.specs.declared.Action.the-variants.{Opening, Message, SubLimit, Status, Tick, Close, ClosingBook}
 use Rattle.engine.specs.declared.Answer.{Answer}
 use Rattle.engine.specs.declared.Answer.the-variants.{Done, Refused}
+use Rattle.engine.specs.Kinds.{Kind, opens, steps, gives, kindOf, isClose}
 use Rattle.engine.specs.State.{State, fresh, noBatches, paymentsAt}
 use Rattle.engine.specs.Messages.{Acted}
 use Rattle.engine.specs.Days.{columnOf, opened, checked, openingAnswer}
-use Rattle.engine.specs.Calls.{Call, Engine, isOpen, rightDay, judge, begun, act, tested, isClose, left, goesOn, closes, stepped, openedBy, performed, judged, call}
+use Rattle.engine.specs.Calls.{Call, Engine, isOpen, judge, begun, act, tested, left, goesOn, closes, stepped, openedBy, performed, judged, call, dayFor}
 use Rattle.engine.specs.Rules.{RightHouse}
 use Rattle.engine.proofs.Agreement.{right-day}
 use Rattle.engine.proofs.Admitting.{Gives}
@@ -96,18 +95,18 @@ sound-book s book h = is-sound (bookCheck book) _ h
 
 module _ (readers : Readers) (e : Engine) (c : Call) (k : Kept (e .state)) where
   abbrev s : State
-  s = begun (e .state) (c .clock)
+  s = begun (e .state) (c .asked .clock)
 
   abbrev a : Acted
-  a = act s (c .action) (c .input)
+  a = act s (c .asked .action) (c .asked .input)
 
   abbrev o : Outcome
-  o = tested (c .quick) a (e .memory)
+  o = tested (c .asked .quick) a (e .memory)
 
   -- after (a) and (b)
   pub begun-stood : Stood (s .house .banks) (s .batches)
   unfolding begun
-  begun-stood = join-stood (e .state .house .banks) (c .clock) (e .state .batches) (k .batches)
+  begun-stood = join-stood (e .state .house .banks) (c .asked .clock) (e .state .batches) (k .batches)
 
   pub begun-house : RightHouse (s .house) (s .books .balances) (s .books .limits)
   unfolding begun
@@ -115,19 +114,19 @@ module _ (readers : Readers) (e : Engine) (c : Call) (k : Kept (e .state)) where
 
   -- after (c)
   pub acted-stood : Stood (s .house .banks) (a .batches)
-  acted-stood = places-kept s begun-stood (requestAt (c .input)) (did s (c .action) (c .input)) (readers .texts (c .input) .settlement)
+  acted-stood = places-kept s begun-stood (requestAt (c .asked .input)) (did s (c .asked .action) (c .asked .input)) (readers .texts (c .asked .input) .settlement)
 
   pub acted-house : RightHouse (s .house) (a .books .balances) (a .books .limits)
-  acted-house = house-kept s (requestAt (c .input)) (did s (c .action) (c .input)) begun-house
+  acted-house = house-kept s (requestAt (c .asked .input)) (did s (c .asked .action) (c .asked .input)) begun-house
 
   -- after (d)
   pub tested-stood : Stood (s .house .banks) (left s a o)
   unfolding left tested
-  tested-stood = test-stood (s .house .banks) (a .batches) (o .queue) (o .done) acted-stood (λ p. test-times (c .quick) (paymentsAt (a .batches)) (fuel (a .batches .queue)) p (a .books) _ (a .batches .queue))
+  tested-stood = test-stood (s .house .banks) (a .batches) (o .queue) (o .done) acted-stood (λ p. test-times (c .asked .quick) (paymentsAt (a .batches)) (fuel (a .batches .queue)) p (a .books) _ (a .batches .queue))
 
   pub tested-house : RightHouse (s .house) (o .books .balances) (o .books .limits)
   unfolding tested
-  tested-house = house-tested (s .house) (a .batches) (a .books) (c .quick) _ acted-house acted-stood
+  tested-house = house-tested (s .house) (a .batches) (a .books) (c .asked .quick) _ acted-house acted-stood
 
   goes-kept : isOpen (e .state .day .phase) ≡ true → Kept (goesOn s a o .engine .state)
   unfolding goesOn begun
@@ -143,28 +142,24 @@ module _ (readers : Readers) (e : Engine) (c : Call) (k : Kept (e .state)) where
 
   stepped-kept : isOpen (e .state .day .phase) ≡ true → Kept (stepped e c .engine .state)
   unfolding stepped
-  stepped-kept h = ends-kept (isClose (c .action)) h
+  stepped-kept h = ends-kept (isClose (c .asked .action)) h
 
-  opened-kept : (r : Answer) → openingAnswer (e .state .day) (c .input) ≡ r → isOpen (e .state .day .phase) ≡ false → Kept (openedBy r e c .engine .state)
+  opened-kept : (r : Answer) → openingAnswer (e .state .day) (c .asked .input) ≡ r → isOpen (e .state .day .phase) ≡ false → Kept (openedBy r e c .engine .state)
   unfolding opened
   opened-kept Done d h = record {
-    house = readers .books (c .input) (sound-book (e .state) (c .input) d) .house;
-    batches = rw (k .idle h) (free-stood (length (banksIn (c .input))));
+    house = readers .books (c .asked .input) (sound-book (e .state) (c .asked .input) d) .house;
+    batches = rw (k .idle h) (free-stood (length (banksIn (c .asked .input))));
     idle = λ g. absurd (false≢true (sym g));
   }
   opened-kept (Refused r) d h = k
 
-  performed-kept : (z : Action) → rightDay z (e .state .day) ≡ true → Kept (performed z e c .engine .state)
-  performed-kept Opening h = opened-kept (openingAnswer (e .state .day) (c .input)) refl (not-true _ h)
-  performed-kept (Message n) h = stepped-kept h
-  performed-kept (SubLimit n v) h = stepped-kept h
-  performed-kept (Status n b l) h = stepped-kept h
-  performed-kept Tick h = stepped-kept h
-  performed-kept Close h = stepped-kept h
-  performed-kept (ClosingBook d) h = record { house = k .house; batches = k .batches; idle = k .idle }
+  performed-kept : (z : Kind) → dayFor z (e .state .day) ≡ true → Kept (performed z e c .engine .state)
+  performed-kept opens h = opened-kept (openingAnswer (e .state .day) (c .asked .input)) refl (not-true _ h)
+  performed-kept steps h = stepped-kept h
+  performed-kept (gives d) h = record { house = k .house; batches = k .batches; idle = k .idle }
 
   judged-kept : (r : Answer) → judge (e .state) c ≡ r → Kept (judged r e c .engine .state)
-  judged-kept Done h = performed-kept (c .action) (right-day (e .state) c h)
+  judged-kept Done h = performed-kept (kindOf (c .asked .action)) (right-day (e .state) c h)
   judged-kept (Refused r) h = k
 
   pub call-kept : Kept (call e c .engine .state)

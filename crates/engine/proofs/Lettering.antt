@@ -12,12 +12,10 @@ use Rattle.codes.specs.Codes.{unpacked, shortText}
 use Rattle.values.specs.Letters.{isStatus, isFourth}
 use Rattle.settle.specs.Payments.{Payment, credit, debit}
 use Rattle.settle.specs.Rules.{Apart, Distinct, credits, debits}
-use Rattle.queue.specs.Day.{relabel}
-use Rattle.queue.specs.Day.{relettered as newLetters}
 use Rattle.queue.proofs.MemoryLaws.{byBool}
 use Rattle.book.specs.Range.{Each}
 use Rattle.engine.specs.State.{Message, Batch, Place, paymentsOf}
-use Rattle.engine.specs.Changes.{relettered, withLetter}
+use Rattle.engine.specs.Changes.{withEsa, relabel, relettered, withLetter}
 use Rattle.engine.specs.Rules.{areLetters, Priced, Lettered, numbers, RightMessage, RightBatch, Complete}
 use Rattle.engine.proofs.Truth.{or-right}
 use Rattle.engine.proofs.Standing.{Standing, vacant, building, awaits, stands}
@@ -48,8 +46,8 @@ spelled-four : (l : ℕ) → shortText l ≡ (l / 256 / 256 / 256 % 256) ∷ (l 
 unfolding shortText unpacked
 spelled-four l = refl
 
-new-letters : (x l : ℕ) → x < 256 → isStatus x ≡ true → areLetters (shortText l) ≡ true → areLetters (shortText (newLetters x l)) ≡ true
-unfolding newLetters
+new-letters : (x l : ℕ) → x < 256 → isStatus x ≡ true → areLetters (shortText l) ≡ true → areLetters (shortText (withEsa x l)) ≡ true
+unfolding withEsa
 new-letters x l b s h =
     let v : ℕ = x * 16777216 + l % 16777216 in
     let e₁ : v / 256 / 256 / 256 % 256 ≡ x = omega arith in
@@ -60,8 +58,8 @@ new-letters x l b s h =
     let four : shortText v ≡ x ∷ (l / 256 / 256 % 256) ∷ (l / 256 % 256) ∷ (l % 256) ∷ [] = spelled-four v ∙ rw (e₁, e₂, e₃, e₄) in
     ap (λ (z : List ℕ). areLetters z) four ∙ first-letter x (l / 256 / 256 / 256 % 256) (l / 256 / 256 % 256) (l / 256 % 256) (l % 256) s g
 
-small-letters : (x l : ℕ) → x < 256 → newLetters x l < 4294967296
-unfolding newLetters
+small-letters : (x l : ℕ) → x < 256 → withEsa x l < 4294967296
+unfolding withEsa
 small-letters x l b = omega arith
 
 -- ---- the payments
@@ -71,7 +69,7 @@ module _ (k x : ℕ) where
   unfolding relabel
   relabel-append [] b = refl
   relabel-append (credit j c ∷ a) b = ap (λ (l : List Payment). credit j c ∷ l) (relabel-append a b)
-  relabel-append (debit l j c ∷ a) b = ap (λ (m : List Payment). debit (cond (eqb j k) (newLetters x l) l) j c ∷ m) (relabel-append a b)
+  relabel-append (debit l j c ∷ a) b = ap (λ (m : List Payment). debit (cond (eqb j k) (withEsa x l) l) j c ∷ m) (relabel-append a b)
 
   relabel-length : (ps : List Payment) → length (relabel k x ps) ≡ length ps
   unfolding relabel
@@ -101,7 +99,7 @@ module _ (k x : ℕ) where
   relabel-apart j (debit l i c ∷ ps) d = (d .0, relabel-apart j ps (d .1))
 
   relabel-distinct : (ps : List Payment) → Distinct ps → Distinct (relabel k x ps)
-  unfolding relabel Distinct
+  unfolding relabel Distinct Apart
   relabel-distinct [] d = tt
   relabel-distinct (credit j c ∷ ps) d = (relabel-apart j ps (d .0), relabel-distinct ps (d .1))
   relabel-distinct (debit l j c ∷ ps) d = (relabel-apart j ps (d .0), relabel-distinct ps (d .1))

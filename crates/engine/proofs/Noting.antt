@@ -10,11 +10,11 @@ use lib.ListN.{length, getD, set, length-set}
 use borrow.Author.Tests.{eqb-true, eqb-false, eq-eqb, ne-eqb, leb-true, le-leb}
 use Rattle.codes.specs.declared.Code.{Code}
 use Rattle.dates.specs.Dates.{isRemembered}
+pub use Rattle.names.proofs.Laws.{same-self}
 use Rattle.queue.proofs.MemoryLaws.{byBool}
-use Rattle.engine.specs.State.{at, sameCode, noCode, noEntry, Entry, State}
+use Rattle.engine.specs.State.{at, sameCode, noCode, noEntry, Entry}
 use Rattle.engine.specs.Memory.{holds, isUsed, isVacant, vacant, note}
 use Rattle.engine.specs.Messages.{isThere}
-use Rattle.request.specs.declared.Reading.{Reading}
 use Rattle.book.specs.Range.{Each}
 use Rattle.engine.specs.Rules.{RightEntry, remembered, Unlike, AllUnlike, has, notedToday}
 use Rattle.engine.specs.Answered.{timesIn, notedOn}
@@ -28,9 +28,6 @@ eqb-sym a b = byBool (eqb a b) (λ e. e ∙ sym (eq-eqb b a (sym (eqb-true a b e
 
 pub same-sym : (c d : Code) → sameCode c d ≡ sameCode d c
 same-sym c d = rw (eqb-sym (c .high) (d .high), eqb-sym (c .low) (d .low))
-
-pub same-self : (c : Code) → sameCode c c ≡ true
-same-self c = rw (eq-eqb (c .high) (c .high) refl, eq-eqb (c .low) (c .low) refl)
 
 -- ---- an entry is remembered, or its place is free
 
@@ -185,8 +182,8 @@ module _ (today : ℕ) (code : Code) (named : sameCode code noCode ≡ false) wh
   unfolding note
   note-is es p e = rw e
 
-  pub noted : (s : State) (r : Reading) (es : List Entry) → isThere s r (vacant today es) ≡ true → Noted today code es (note today code es)
-  noted s r es h =
+  pub noted : (es : List Entry) → isThere (vacant today es) ≡ true → Noted today code es (note today code es)
+  noted es h =
       byFound (vacant today es)
       (λ p e. subst (λ (l : List Entry). Noted today code es l) (sym (note-is es p e)) (noted-at es p e))
       (λ e. let z : false ≡ true = rw e at h in absurd (false≢true z))

@@ -1,7 +1,7 @@
 -- "Only a noted message is answered by a text, once", over any calls from a fresh start: each reference noted on a day is noted once, and has
 -- been answered or awaits its answer. After the close none awaits.
 use Prim.Native.Nat.{ℕ, zero, suc, _+_, _≤_, _<_}
-use mathlib.Core.Path.{_≡_, refl, sym, ap, _∙_}
+use mathlib.Core.Path.{_≡_, refl, sym, ap, subst, _∙_}
 use mathlib.Core.Logic.{inl, inr}
 use mathlib.Core.Bool.{Bool, true, false, _&&_, _||_, not, cond}
 use mathlib.Core.List.{List, [], _∷_, _++_}
@@ -18,18 +18,20 @@ use Rattle.queue.proofs.MemoryLaws.{byBool}
 use Rattle.book.specs.Range.{Each}
 use Rattle.engine.specs.declared.Phase.{Phase}
 use Rattle.engine.specs.declared.Phase.the-variants.{Fresh, Open, Closed}
-use Rattle.engine.specs.declared.Action.{Action}
-use Rattle.engine.specs.declared.Action.the-variants.{Opening, Message, SubLimit, Status, Tick, Close, ClosingBook}
+use Rattle.engine.specs.declared.Action.the-variants.{Close}
 use Rattle.engine.specs.declared.Answer.{Answer}
 use Rattle.engine.specs.declared.Answer.the-variants.{Done, Refused}
+use Rattle.engine.specs.Kinds.{Kind, opens, steps, gives, kindOf, isClose}
 use Rattle.engine.specs.State.{sameCode, noCode, noEntry, Place, Entry, State, noBatches}
 use Rattle.engine.specs.Joining.{join}
 use Rattle.engine.specs.Messages.{Acted, today}
 use Rattle.engine.specs.Ending.{afterTest, settledReplies}
 use Rattle.engine.specs.Days.{isFresh, opened, openingAnswer}
-use Rattle.engine.specs.Calls.{Call, Engine, isOpen, rightDay, judge, begun, isClose, replies, left, lastReplies, goesOn, closes, stepped, openedBy, performed, judged, call, cleared}
+use Rattle.engine.specs.Calls.{Call, Engine, isOpen, judge, begun, replies, left, lastReplies, goesOn, closes, stepped, openedBy, performed, judged, call, cleared, dayFor}
 use Rattle.engine.specs.Rules.{RightEntry, isReference, remembered, Unlike, AllUnlike, Opened, ValidIn, Valid}
-use Rattle.engine.specs.Answered.{acted, outcome, steppedReplies, repliedTo, timesIn, notedOn, referencesOf, awaitingAt, todays, awaiting, Accounted, startsAnew, answersBy, answers, after, answeredAfter}
+use Rattle.engine.specs.Answered.{acted, outcome, steppedReplies, repliedTo, timesIn, notedOn, referencesOf, awaitingAt, todays, awaiting, Accounted, startsAnew, answersBy, answers, answeredAfter}
+use Rattle.engine.specs.Course.{start, Deed, after, since}
+use Rattle.engine.proofs.Course.{since-course}
 use Rattle.engine.specs.Promises.{answered, then}
 use Rattle.engine.proofs.Noting.{same-sym, today-remembered}
 use Rattle.engine.proofs.Remembering.{same-code}
@@ -112,7 +114,7 @@ Owed x s l = timesIn x (todays s) ≡ timesIn x l + timesIn x (awaiting s)
 
 module _ (readers : Readers) (e : Engine) (c : Call) (v : Valid (e .state)) (x : Code) (l : List Code) (h : Owed x (e .state) l) where
   abbrev s : State
-  s = begun (e .state) (c .clock)
+  s = begun (e .state) (c .asked .clock)
 
   abbrev a : Acted
   a = acted e c
@@ -123,7 +125,7 @@ module _ (readers : Readers) (e : Engine) (c : Call) (v : Valid (e .state)) (x :
   module _ (i : Opened (e .state)) where
     acted-owed : timesIn x (notedOn (today s) (a .known .references)) ≡ timesIn x l + (told x (a .replies) + waits x (a .batches .places))
     unfolding begun join
-    acted-owed = omega (arith, h, balanced s (requestAt (c .input)) (readers .texts (c .input)) x (did s (c .action) (c .input)))
+    acted-owed = omega (arith, h, balanced s (requestAt (c .asked .input)) (readers .texts (c .asked .input)) x (did s (c .asked .action) (c .asked .input)))
 
     replies-told : told x (replies s a o) + waits x (left s a o .places) ≡ told x (a .replies) + waits x (a .batches .places)
     unfolding replies left afterTest
@@ -157,25 +159,21 @@ module _ (readers : Readers) (e : Engine) (c : Call) (v : Valid (e .state)) (x :
 
     stepped-owed : Owed x (stepped e c .engine .state) (l ++ repliedTo (steppedReplies e c))
     unfolding stepped
-    stepped-owed = ends-owed (isClose (c .action))
+    stepped-owed = ends-owed (isClose (c .asked .action))
 
-  opened-owed : (r : Answer) → openingAnswer (e .state .day) (c .input) ≡ r → isOpen (e .state .day .phase) ≡ false → Owed x (openedBy r e c .engine .state) (startsAnew r l)
+  opened-owed : (r : Answer) → openingAnswer (e .state .day) (c .asked .input) ≡ r → isOpen (e .state .day .phase) ≡ false → Owed x (openedBy r e c .engine .state) (startsAnew r l)
   unfolding opened timesIn
   opened-owed Done d i =
-      omega (arith, none-in x (e .state) (e .state .day .phase) (dayIn (c .input)) v (later readers e c v d), ap (λ (b : List Place). waits x b) (ap (λ y. y .places) (k readers e c v .idle i)), none-wait x)
+      omega (arith, none-in x (e .state) (e .state .day .phase) (dayIn (c .asked .input)) v (later readers e c v d), ap (λ (b : List Place). waits x b) (ap (λ y. y .places) (k readers e c v .idle i)), none-wait x)
   opened-owed (Refused r) d i = h
 
-  performed-owed : (z : Action) → rightDay z (e .state .day) ≡ true → Owed x (performed z e c .engine .state) (answersBy Done z e c l)
-  performed-owed Opening i = opened-owed (openingAnswer (e .state .day) (c .input)) refl (not-true _ i)
-  performed-owed (Message n) i = stepped-owed (open-in (e .state) (e .state .day .phase) v i)
-  performed-owed (SubLimit n y) i = stepped-owed (open-in (e .state) (e .state .day .phase) v i)
-  performed-owed (Status n b y) i = stepped-owed (open-in (e .state) (e .state .day .phase) v i)
-  performed-owed Tick i = stepped-owed (open-in (e .state) (e .state .day .phase) v i)
-  performed-owed Close i = stepped-owed (open-in (e .state) (e .state .day .phase) v i)
-  performed-owed (ClosingBook d) i = h
+  performed-owed : (z : Kind) → dayFor z (e .state .day) ≡ true → Owed x (performed z e c .engine .state) (answersBy Done z e c l)
+  performed-owed opens i = opened-owed (openingAnswer (e .state .day) (c .asked .input)) refl (not-true _ i)
+  performed-owed steps i = stepped-owed (open-in (e .state) (e .state .day .phase) v i)
+  performed-owed (gives d) i = h
 
-  judged-owed : (r : Answer) → judge (e .state) c ≡ r → Owed x (judged r e c .engine .state) (answersBy r (c .action) e c l)
-  judged-owed Done i = performed-owed (c .action) (right-day (e .state) c i)
+  judged-owed : (r : Answer) → judge (e .state) c ≡ r → Owed x (judged r e c .engine .state) (answersBy r (kindOf (c .asked .action)) e c l)
+  judged-owed Done i = performed-owed (kindOf (c .asked .action)) (right-day (e .state) c i)
   judged-owed (Refused r) i = h
 
   call-owed : Owed x (call e c .engine .state) (answers e c l)
@@ -199,19 +197,19 @@ fresh-owed : (x : Code) → Owed x (cleared .state) []
 unfolding timesIn
 fresh-owed x = omega (arith, none-fresh x 0 2048, none-wait x)
 
-pub accounted : Readers → (cs : List Call) → Accounted (then cs) (answered cs)
-accounted readers cs = record {
-  each = λ x. after-owed readers cs cleared refl x [] (fresh-owed x);
-  once = λ x. noted-once (then cs) (after-valid readers cs cleared refl) x;
-}
+pub accounted : Readers → (ds : List Deed) → Accounted (then ds) (answered ds)
+accounted readers ds = subst (λ (e : Engine). Accounted (e .state) (answered ds)) (sym (since-course call ds)) (record {
+  each = λ x. after-owed readers (since ds) start refl x [] (fresh-owed x);
+  once = λ x. noted-once (after call start (since ds) .state) (after-valid readers (since ds) start refl) x;
+})
 
 -- "Only a noted message is answered by a text": a reference that was not noted that day has not been answered
-pub only-noted : Readers → (cs : List Call) (r : Code) → timesIn r (todays (then cs)) ≡ 0 → timesIn r (answered cs) ≡ 0
-only-noted readers cs r h = omega (arith, accounted readers cs .each r)
+pub only-noted : Readers → (ds : List Deed) (r : Code) → timesIn r (todays (then ds)) ≡ 0 → timesIn r (answered ds) ≡ 0
+only-noted readers ds r h = omega (arith, accounted readers ds .each r)
 
 -- ", once": never twice, on no day
-pub never-twice : Readers → (cs : List Call) (r : Code) → timesIn r (answered cs) ≤ 1
-never-twice readers cs r = let i = accounted readers cs in omega (arith, i .each r, i .once r)
+pub never-twice : Readers → (ds : List Deed) (r : Code) → timesIn r (answered ds) ≤ 1
+never-twice readers ds r = let i = accounted readers ds in omega (arith, i .each r, i .once r)
 
 -- after the close no message awaits its answer
 none-in-closed : (s : State) (p : Phase) → ValidIn p s → p ≡ Closed → awaiting s ≡ []
@@ -220,23 +218,26 @@ none-in-closed s Fresh v h = let z : _≡_ {A = ℕ} 0 1 = cc in absurd (omega a
 none-in-closed s Open v h = let z : _≡_ {A = ℕ} 0 1 = cc in absurd (omega arith)
 none-in-closed s Closed v h = rw (v .1) refl
 
-pub none-left-at-close : Readers → (cs : List Call) → then cs .day .phase ≡ Closed → awaiting (then cs) ≡ []
-none-left-at-close readers cs h = none-in-closed (then cs) (then cs .day .phase) (after-valid readers cs cleared refl) h
+pub course-valid : Readers → (ds : List Deed) → Valid (then ds)
+course-valid readers ds = subst (λ (e : Engine). Valid (e .state)) (sym (since-course call ds)) (after-valid readers (since ds) start refl)
+
+pub none-left-at-close : Readers → (ds : List Deed) → then ds .day .phase ≡ Closed → awaiting (then ds) ≡ []
+none-left-at-close readers ds h = none-in-closed (then ds) (then ds .day .phase) (course-valid readers ds) h
 
 -- and each reference that was noted that day has been answered exactly once
-pub answered-once : Readers → (cs : List Call) → then cs .day .phase ≡ Closed → (r : Code) → 0 < timesIn r (todays (then cs)) → timesIn r (answered cs) ≡ 1
+pub answered-once : Readers → (ds : List Deed) → then ds .day .phase ≡ Closed → (r : Code) → 0 < timesIn r (todays (then ds)) → timesIn r (answered ds) ≡ 1
 unfolding timesIn
-answered-once readers cs h r n =
-    let i = accounted readers cs in
-    let z : timesIn r (awaiting (then cs)) ≡ 0 = ap (timesIn r) (none-left-at-close readers cs h) in
+answered-once readers ds h r n =
+    let i = accounted readers ds in
+    let z : timesIn r (awaiting (then ds)) ≡ 0 = ap (timesIn r) (none-left-at-close readers ds h) in
     omega (arith, i .each r, i .once r)
 
 -- a close that is not refused closes the day
-closed-judged : (r : Answer) (e : Engine) (c : Call) → r ≡ Done → c .action ≡ Close → judged r e c .engine .state .day .phase ≡ Closed
+closed-judged : (r : Answer) (e : Engine) (c : Call) → r ≡ Done → c .asked .action ≡ Close → judged r e c .engine .state .day .phase ≡ Closed
 unfolding stepped closes
 closed-judged Done e c d h = rw h refl
 closed-judged (Refused r) e c d h = let z : _≡_ {A = ℕ} 0 1 = cc in absurd (omega arith)
 
-pub closed-by-close : (e : Engine) (c : Call) → judge (e .state) c ≡ Done → c .action ≡ Close → call e c .engine .state .day .phase ≡ Closed
+pub closed-by-close : (e : Engine) (c : Call) → judge (e .state) c ≡ Done → c .asked .action ≡ Close → call e c .engine .state .day .phase ≡ Closed
 unfolding call
 closed-by-close e c d h = closed-judged (judge (e .state) c) e c d h

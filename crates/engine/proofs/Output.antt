@@ -8,15 +8,14 @@ use lib.ListN.{length, length-append}
 use Rattle.request.specs.Request.{requestAt}
 use Rattle.queue.specs.Tests.{Outcome}
 use Rattle.book.specs.Range.{Each}
-use Rattle.engine.specs.declared.Action.{Action}
-use Rattle.engine.specs.declared.Action.the-variants.{Opening, Message, SubLimit, Status, Tick, Close, ClosingBook}
 use Rattle.engine.specs.declared.Answer.{Answer}
 use Rattle.engine.specs.declared.Answer.the-variants.{Done, Refused}
+use Rattle.engine.specs.Kinds.{Kind, opens, steps, gives, kindOf, isClose}
 use Rattle.engine.specs.State.{State}
 use Rattle.engine.specs.Messages.{Acted}
 use Rattle.engine.specs.Ending.{settledReplies}
 use Rattle.engine.specs.Days.{openingAnswer}
-use Rattle.engine.specs.Calls.{Call, Engine, rightDay, roomNeeded, judge, begun, act, tested, isClose, replies, left, lastReplies, goesOn, closes, stepped, openedBy, performed, judged, call}
+use Rattle.engine.specs.Calls.{Call, Engine, roomNeeded, judge, begun, act, tested, replies, left, lastReplies, goesOn, closes, stepped, openedBy, performed, judged, call, dayFor, roomFor}
 use Rattle.engine.specs.Rules.{Opened, Valid}
 use Rattle.engine.proofs.Agreement.{right-day}
 use Rattle.engine.proofs.Doing.{did}
@@ -27,24 +26,24 @@ use Rattle.engine.proofs.Validity.{k, right-clock, open-in, acted-count
 
 module _ (readers : Readers) (e : Engine) (c : Call) (v : Valid (e .state)) where
   abbrev s : State
-  s = begun (e .state) (c .clock)
+  s = begun (e .state) (c .asked .clock)
 
   abbrev a : Acted
-  a = act s (c .action) (c .input)
+  a = act s (c .asked .action) (c .asked .input)
 
   abbrev o : Outcome
-  o = tested (c .quick) a (e .memory)
+  o = tested (c .asked .quick) a (e .memory)
 
   last-right : Each (λ y. Fits y) (lastReplies s a o)
   unfolding lastReplies
   last-right = close-fit (s .house .banks) (left s a o) (tested-stood readers e c (k readers e c v)) _ (a .known .bins)
 
-  module _ (h : Opened (e .state)) (t : c .clock < 86400) where
+  module _ (h : Opened (e .state)) (t : c .asked .clock < 86400) where
     replies-right : Each (λ y. Fits y) (replies s a o)
     unfolding replies begun
     replies-right =
         each-append (s .house .banks) (λ y. Fits y) (a .replies) (settledReplies (s .day) (a .batches) (o .done))
-        (acted-fit s (begun-stood readers e c (k readers e c v)) (requestAt (c .input)) (readers .texts (c .input)) (did s (c .action) (c .input)))
+        (acted-fit s (begun-stood readers e c (k readers e c v)) (requestAt (c .asked .input)) (readers .texts (c .asked .input)) (did s (c .asked .action) (c .asked .input)))
         (settled-fit (s .house .banks) (a .batches) (acted-stood readers e c (k readers e c v)) (s .day) (h .date) t (o .done))
 
     -- all replies of a call with a test have values that a text can hold
@@ -53,7 +52,7 @@ module _ (readers : Readers) (e : Engine) (c : Call) (v : Valid (e .state)) wher
     stepped-right false = replies-right
 
     -- "at most 321 texts"
-    few-texts : length (replies s a o) + length (lastReplies s a o) ≤ 321
+    pub few-texts : length (replies s a o) + length (lastReplies s a o) ≤ 321
     few-texts =
         let n = acted-counted readers e c v h in
         omega (arith, left-answered readers e c v h, close-answered readers e c v h, n .few, few-messages (s .house .banks) (s .batches) (begun-stood readers e c (k readers e c v)))
@@ -71,26 +70,22 @@ module _ (readers : Readers) (e : Engine) (c : Call) (v : Valid (e .state)) wher
 
     stepped-out : length (stepped e c .out) ≤ 33705
     unfolding stepped
-    stepped-out = ends-out (isClose (c .action))
+    stepped-out = ends-out (isClose (c .asked .action))
 
   opened-out : (r : Answer) → length (openedBy r e c .out) ≤ 33705
   opened-out Done = omega arith
   opened-out (Refused r) = omega arith
 
-  performed-out : (z : Action) → c .clock < 86400 → rightDay z (e .state .day) ≡ true → length (performed z e c .out) ≤ roomNeeded z (e .state)
-  performed-out Opening t i = opened-out (openingAnswer (e .state .day) (c .input))
-  performed-out (Message n) t i = stepped-out (open-in (e .state) (e .state .day .phase) v i) t
-  performed-out (SubLimit n x) t i = stepped-out (open-in (e .state) (e .state .day .phase) v i) t
-  performed-out (Status n b l) t i = stepped-out (open-in (e .state) (e .state .day .phase) v i) t
-  performed-out Tick t i = stepped-out (open-in (e .state) (e .state .day .phase) v i) t
-  performed-out Close t i = stepped-out (open-in (e .state) (e .state .day .phase) v i) t
-  performed-out (ClosingBook d) t i = omega arith
+  performed-out : (z : Kind) → c .asked .clock < 86400 → dayFor z (e .state .day) ≡ true → length (performed z e c .out) ≤ roomFor z (e .state)
+  performed-out opens t i = opened-out (openingAnswer (e .state .day) (c .asked .input))
+  performed-out steps t i = stepped-out (open-in (e .state) (e .state .day .phase) v i) t
+  performed-out (gives d) t i = omega arith
 
-  judged-out : (r : Answer) → judge (e .state) c ≡ r → length (judged r e c .out) ≤ roomNeeded (c .action) (e .state)
-  judged-out Done i = performed-out (c .action) (right-clock (e .state) c i) (right-day (e .state) c i)
+  judged-out : (r : Answer) → judge (e .state) c ≡ r → length (judged r e c .out) ≤ roomNeeded (c .asked .action) (e .state)
+  judged-out Done i = performed-out (kindOf (c .asked .action)) (right-clock (e .state) c i) (right-day (e .state) c i)
   judged-out (Refused r) i = omega arith
 
   -- what a call writes is no more than what it asked room for
-  pub call-out : length (call e c .out) ≤ roomNeeded (c .action) (e .state)
+  pub call-out : length (call e c .out) ≤ roomNeeded (c .asked .action) (e .state)
   unfolding call
   call-out = judged-out (judge (e .state) c) refl

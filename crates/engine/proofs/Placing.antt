@@ -24,7 +24,7 @@ use Rattle.engine.proofs.Standing.{Standing, vacant, building, awaits, 
 use Rattle.engine.proofs.Admitting.{TextGives, Takes, takes, message-right}
 use Rattle.engine.proofs.Lettering.{a-status, a-byte, lettered-standing}
 use Rattle.engine.proofs.Settling.{house-limited}
-use Rattle.engine.proofs.Doing.{Start, going, begun, Did, idle, limits, letters, alone, repeats, recalls, completes, grows, rejects}
+use Rattle.engine.proofs.Doing.{Start, going, begun, Did, sent, idle, limits, letters, alone, repeats, recalls, completes, grows, rejects}
 
 module _ (s : State) (h : Stood (s .house .banks) (s .batches)) where
   ends : (p : ℕ) → Stood (s .house .banks) (ended (s .batches) p)
@@ -91,31 +91,31 @@ module _ (s : State) (h : Stood (s .house .banks) (s .batches)) where
 
   -- the batches, where a settlement request that is read gives right values
   pub places-kept : (r : Reading) {a : Acted} → Did s r a → (r .outcome ≡ Settlement → TextGives r) → Stood (s .house .banks) (a .batches)
-  places-kept r (idle n) v = h
+  places-kept r (sent (idle n)) v = h
   places-kept r (limits k x b l) v = h
   places-kept r (letters k x p c m w) v = put-letter k x p m (w .there .inside)
-  places-kept r (alone n y q w) v = h
-  places-kept r (repeats p c f i) v = ends p
-  places-kept r (recalls p f n w) v = ends p
-  places-kept r (completes stream b k p x j d e f) v =
+  places-kept r (sent (alone n y q w)) v = h
+  places-kept r (sent (repeats p c f i)) v = ends p
+  places-kept r (sent (recalls p f n w)) v = ends p
+  places-kept r (sent (completes stream b k p x j d e f)) v =
       let g = v (j .settlement) in
       tail-stood (s .house .banks) b p (around r (j .start)) (withMessage s r x) (message-right s r stream x (starts r g (j .start)) g d) s r
       (record { whole = eqb-true _ _ e; even = eqb-true _ _ f })
-  places-kept r (grows stream b k p x j d e) v =
+  places-kept r (sent (grows stream b k p x j d e)) v =
       let g = v (j .settlement) in
       let t = starts r g (j .start) in
       put-stood (s .house .banks) b p (around r (j .start)) (withMessage s r x) (message-right s r stream x t g d)
       (omega (arith, length-append (x .messages) (arrived s r ∷ []), t .room, eqb-false (length (withMessage s r x .messages)) (x .count) e))
-  places-kept r (rejects f b k p x j) v = let a = around r (j .start) in ended-stood (s .house .banks) b p (a .long) (a .beside)
+  places-kept r (sent (rejects f b k p x j)) v = let a = around r (j .start) in ended-stood (s .house .banks) b p (a .long) (a .beside)
 
 -- the house: only a sub-limit changes
 pub house-kept : (s : State) (r : Reading) {a : Acted} → Did s r a → RightHouse (s .house) (s .books .balances) (s .books .limits) → RightHouse (s .house) (a .books .balances) (a .books .limits)
-house-kept s r (idle n) h = h
+house-kept s r (sent (idle n)) h = h
 house-kept s r (limits k x b l) h = house-limited (s .house) (s .books) k x h b l
 house-kept s r (letters k x p c m w) h = h
-house-kept s r (alone n y q w) h = h
-house-kept s r (repeats p c f i) h = h
-house-kept s r (recalls p f n w) h = h
-house-kept s r (completes stream b k p x j d e f) h = h
-house-kept s r (grows stream b k p x j d e) h = h
-house-kept s r (rejects f b k p x j) h = h
+house-kept s r (sent (alone n y q w)) h = h
+house-kept s r (sent (repeats p c f i)) h = h
+house-kept s r (sent (recalls p f n w)) h = h
+house-kept s r (sent (completes stream b k p x j d e f)) h = h
+house-kept s r (sent (grows stream b k p x j d e)) h = h
+house-kept s r (sent (rejects f b k p x j)) h = h

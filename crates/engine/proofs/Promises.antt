@@ -1,4 +1,4 @@
--- What is promised of the engine, over any calls from a fresh start. Each promise is a word about what a call leaves, f, so that it can be held
+-- What is promised of the engine, over any calls and clearings from a start. Each promise is a word about what a call leaves, f, so that it can be held
 -- against any engine; `call` keeps them all.
 use Prim.Native.Nat.{ℕ, _+_, _≤_, _<_}
 use mathlib.Core.Path.{_≡_, refl, sym, ap, subst, _∙_}
@@ -11,20 +11,24 @@ use Rattle.settle.specs.Payments.{Payment}
 use Rattle.settle.specs.Rules.{sum}
 use Rattle.queue.specs.Tests.{Outcome, passedOf}
 use Rattle.queue.specs.Promise.{Trail}
+use Rattle.queue.specs.History.{replay}
 use Rattle.queue.proofs.Promises.{settled-are-passes}
 use Rattle.engine.specs.declared.Phase.the-variants.{Closed}
-use Rattle.engine.specs.declared.Action.{Action}
-use Rattle.engine.specs.declared.Action.the-variants.{Opening, Message, SubLimit, Status, Tick, Close, ClosingBook}
+use Rattle.engine.specs.declared.Action.the-variants.{Message, Tick}
 use Rattle.engine.specs.declared.Answer.{Answer}
 use Rattle.engine.specs.declared.Answer.the-variants.{Done, Refused}
-use Rattle.engine.specs.State.{State, paymentsAt}
+use Rattle.engine.specs.Kinds.{Kind, opens, steps, gives, kindOf, isClose}
+use Rattle.engine.specs.State.{State, noMemory, paymentsAt}
 use Rattle.engine.specs.Messages.{Acted}
 use Rattle.engine.specs.Days.{openingAnswer}
-use Rattle.engine.specs.Calls.{Call, Engine, Result, judge, begun, tested, woken, isClose, goesOn, closes, refused, stepped, openedBy, performed, judged, call, cleared, run}
-use Rattle.engine.specs.Rules.{Valid}
+use Rattle.engine.specs.Calls.{Call, Engine, Result, judge, begun, tested, woken, goesOn, closes, refused, stepped, openedBy, performed, judged, call, run}
+use Rattle.engine.specs.Rules.{Valid, RightMemory}
 use Rattle.engine.specs.LeftBehind.{LeftBehind}
-use Rattle.engine.specs.Answered.{acted, outcome, timesIn, todays, awaiting, Accounted, after}
-use Rattle.engine.specs.Promises.{Agree, Alike, Along, Always, BalancesFollow, Closes, Covered, CoveredBy, Enough, Ledger, NonePasses, Numbered, OmittedByRule, Stranger, Tried, Unchanged, View, Written, answered, asking, chosen, history, ledgerAfter, ledgerIn, noLedger, numberedBy, then, triesBy, view, views, viewsBy}
+use Rattle.engine.specs.Answered.{acted, outcome, timesIn, todays, awaiting, Accounted}
+use Rattle.engine.specs.Course.{start, Deed, calls, after, course, since}
+use Rattle.engine.specs.Happened.{history}
+use Rattle.engine.proofs.Course.{since-course, course-last}
+use Rattle.engine.specs.Promises.{Agree, Alike, Along, Always, BalancesFollow, Closes, Covered, CoveredBy, Enough, Ledger, NonePasses, Numbered, OpensRight, Stranger, TestsByRule, Tried, Unchanged, Written, answered, asking, ledgerAfter, ledgerIn, noLedger, numberedBy, then, triesBy}
 use Rattle.engine.proofs.Agreement.{Faithful, call-faithful, cleared-faithful, tests-agree-all-days}
 use Rattle.engine.proofs.Refusals.{refusals-change-nothing, refused-openings-change-nothing}
 use Rattle.engine.proofs.Strangers.{a-stranger-is-a-tick}
@@ -35,28 +39,31 @@ use Rattle.engine.proofs.Tries.{call-tries}
 use Rattle.engine.proofs.Replying.{out-is}
 use Rattle.engine.proofs.ReadBack.{call-read}
 use Rattle.engine.proofs.ClosingBook.{call-closes}
-use Rattle.engine.proofs.Once.{after-valid}
+use Rattle.engine.proofs.OpeningBook.{call-opens}
+use Rattle.engine.proofs.Once.{course-valid}
 use Rattle.engine.proofs.Once as once
 use Rattle.engine.proofs.Reading.{readers}
-use Rattle.engine.proofs.Keeping.{acted-stood}
-use Rattle.engine.proofs.Leaving.{left-behind}
-use Rattle.engine.proofs.Omitting.{omitted-by-rule, memory-is-history, queue-below}
+use Rattle.engine.proofs.Leaving.{call-left}
+use Rattle.engine.specs.Waiting.{Ordered}
+use Rattle.engine.proofs.Ordering.{Started, call-ordered, call-started, cleared-started}
+use Rattle.engine.proofs.Omitting.{call-by-rule, after-memory}
+use Rattle.engine.proofs.Holding.{call-memory, cleared-memory}
 
--- ---- the engine after some calls
+-- ---- the engine after some calls and clearings
 
-abbrev at : List Call → Engine
-at cs = after call cleared cs
+abbrev at : List Deed → Engine
+at ds = course call start ds
 
-valid : (cs : List Call) → Valid (at cs .state)
-valid cs = after-valid readers cs cleared refl
+valid : (ds : List Deed) → Valid (at ds .state)
+valid ds = course-valid readers ds
 
 after-faithful : (cs : List Call) (e : Engine) → Faithful e → Faithful (after call e cs)
 unfolding after
 after-faithful [] e f = f
 after-faithful (c ∷ cs) e f = after-faithful cs (call e c .engine) (call-faithful e c f)
 
-faithful : (cs : List Call) → Faithful (at cs)
-faithful cs = after-faithful cs cleared cleared-faithful
+faithful : (ds : List Deed) → Faithful (at ds)
+faithful ds = rw (since-course call ds) (after-faithful (since ds) start cleared-faithful)
 
 -- ---- answers and tries of a call
 
@@ -68,23 +75,19 @@ module _ (e : Engine) (c : Call) where
 
   stepped-number : stepped e c .answer ≡ acted e c .answer
   unfolding stepped
-  stepped-number = ends-number (isClose (c .action)) (begun (e .state) (c .clock)) (acted e c) (outcome e c)
+  stepped-number = ends-number (isClose (c .asked .action)) (begun (e .state) (c .asked .clock)) (acted e c) (outcome e c)
 
   opened-number : (r : Answer) → openedBy r e c .answer ≡ r
   opened-number Done = refl
   opened-number (Refused r) = refl
 
-  performed-number : (z : Action) → performed z e c .answer ≡ numberedBy Done z e c
-  performed-number Opening = opened-number (openingAnswer (e .state .day) (c .input))
-  performed-number (Message n) = stepped-number
-  performed-number (SubLimit k v) = stepped-number
-  performed-number (Status k b l) = stepped-number
-  performed-number Tick = stepped-number
-  performed-number Close = stepped-number
-  performed-number (ClosingBook d) = refl
+  performed-number : (z : Kind) → performed z e c .answer ≡ numberedBy Done z e c
+  performed-number opens = opened-number (openingAnswer (e .state .day) (c .asked .input))
+  performed-number steps = stepped-number
+  performed-number (gives d) = refl
 
-  judged-number : (j : Answer) → judged j e c .answer ≡ numberedBy j (c .action) e c
-  judged-number Done = performed-number (c .action)
+  judged-number : (j : Answer) → judged j e c .answer ≡ numberedBy j (kindOf (c .asked .action)) e c
+  judged-number Done = performed-number (kindOf (c .asked .action))
   judged-number (Refused r) = refl
 
   pub call-number : Numbered e c (call e c)
@@ -98,23 +101,19 @@ module _ (e : Engine) (c : Call) where
 
   stepped-tries : stepped e c .tries ≡ outcome e c .tries
   unfolding stepped
-  stepped-tries = ends-tries (isClose (c .action)) (begun (e .state) (c .clock)) (acted e c) (outcome e c)
+  stepped-tries = ends-tries (isClose (c .asked .action)) (begun (e .state) (c .asked .clock)) (acted e c) (outcome e c)
 
   opened-tries : (r : Answer) → openedBy r e c .tries ≡ []
   opened-tries Done = refl
   opened-tries (Refused r) = refl
 
-  performed-tries : (z : Action) → performed z e c .tries ≡ triesBy Done z e c
-  performed-tries Opening = opened-tries (openingAnswer (e .state .day) (c .input))
-  performed-tries (Message n) = stepped-tries
-  performed-tries (SubLimit k v) = stepped-tries
-  performed-tries (Status k b l) = stepped-tries
-  performed-tries Tick = stepped-tries
-  performed-tries Close = stepped-tries
-  performed-tries (ClosingBook d) = refl
+  performed-tries : (z : Kind) → performed z e c .tries ≡ triesBy Done z e c
+  performed-tries opens = opened-tries (openingAnswer (e .state .day) (c .asked .input))
+  performed-tries steps = stepped-tries
+  performed-tries (gives d) = refl
 
-  judged-tries : (j : Answer) → judged j e c .tries ≡ triesBy j (c .action) e c
-  judged-tries Done = performed-tries (c .action)
+  judged-tries : (j : Answer) → judged j e c .tries ≡ triesBy j (kindOf (c .asked .action)) e c
+  judged-tries Done = performed-tries (kindOf (c .asked .action))
   judged-tries (Refused r) = refl
 
   call-tried : Tried e c (call e c)
@@ -124,7 +123,7 @@ module _ (e : Engine) (c : Call) where
   -- the settled batches are those whose tries passed
   passed : passedOf (outcome e c .tries) ≡ outcome e c .done
   unfolding tested
-  passed = settled-are-passes (c .quick) (paymentsAt (acted e c .batches)) (acted e c .books) (woken (acted e c .wakes) (e .memory)) (acted e c .batches .queue)
+  passed = settled-are-passes (c .asked .quick) (paymentsAt (acted e c .batches)) (acted e c .books) (woken (acted e c .wakes) (e .memory)) (acted e c .batches .queue)
 
   stepped-passed : passedOf (stepped e c .tries) ≡ outcome e c .done
   stepped-passed = ap passedOf stepped-tries ∙ passed
@@ -135,17 +134,13 @@ module _ (e : Engine) (c : Call) where
   stepped-covered : Trail (paymentsAt (acted e c .batches)) (acted e c .books) (outcome e c .done) (stepped e c .engine .state .books) → Settling (stepped e c)
   stepped-covered h = rw stepped-passed h
 
-  performed-covered : (z : Action) → PaidBy Done z e c (performed z e c .engine .state .books) → CoveredBy Done z e c (performed z e c)
-  performed-covered Opening h = tt
-  performed-covered (Message n) h = stepped-covered h
-  performed-covered (SubLimit k v) h = stepped-covered h
-  performed-covered (Status k b l) h = stepped-covered h
-  performed-covered Tick h = stepped-covered h
-  performed-covered Close h = stepped-covered h
-  performed-covered (ClosingBook d) h = h
+  performed-covered : (z : Kind) → PaidBy Done z e c (performed z e c .engine .state .books) → CoveredBy Done z e c (performed z e c)
+  performed-covered opens h = tt
+  performed-covered steps h = stepped-covered h
+  performed-covered (gives d) h = h
 
-  judged-covered : (j : Answer) → PaidBy j (c .action) e c (judged j e c .engine .state .books) → CoveredBy j (c .action) e c (judged j e c)
-  judged-covered Done h = performed-covered (c .action) h
+  judged-covered : (j : Answer) → PaidBy j (kindOf (c .asked .action)) e c (judged j e c .engine .state .books) → CoveredBy j (kindOf (c .asked .action)) e c (judged j e c)
+  judged-covered Done h = performed-covered (kindOf (c .asked .action)) h
   judged-covered (Refused r) h = h
 
   call-covered : Paid e c → Covered e c (call e c)
@@ -162,36 +157,28 @@ module _ (e : Engine) (c : Call) where
         (record { opening = l .opening; gone = l .gone ++ map (paymentsAt (acted e c .batches)) (passedOf (stepped e c .tries)) })
     stepped-ledger = ap (λ (d : List ℕ). record { opening = l .opening; gone = l .gone ++ map (paymentsAt (acted e c .batches)) d }) (sym stepped-passed)
 
-    opened-ledger : (r : Answer) → anew r e c l ≡ ledgerIn Opening (acted e c) (openedBy r e c) l
+    opened-ledger : (r : Answer) → anew r e c l ≡ ledgerIn opens (c .asked .input) (acted e c) (openedBy r e c) l
     unfolding passedOf
     opened-ledger Done = refl
     opened-ledger (Refused r) = nothing-gone
 
-    performed-ledger : (z : Action) → ledgerBy Done z e c l ≡ ledgerIn z (acted e c) (performed z e c) l
+    performed-ledger : (z : Kind) → ledgerBy Done z e c l ≡ ledgerIn z (c .asked .input) (acted e c) (performed z e c) l
     unfolding passedOf
-    performed-ledger Opening = opened-ledger (openingAnswer (e .state .day) (c .input))
-    performed-ledger (Message n) = stepped-ledger
-    performed-ledger (SubLimit k v) = stepped-ledger
-    performed-ledger (Status k b x) = stepped-ledger
-    performed-ledger Tick = stepped-ledger
-    performed-ledger Close = stepped-ledger
-    performed-ledger (ClosingBook d) = nothing-gone
+    performed-ledger opens = opened-ledger (openingAnswer (e .state .day) (c .asked .input))
+    performed-ledger steps = stepped-ledger
+    performed-ledger (gives d) = nothing-gone
 
-    refused-ledger : (z : Action) (r : Refusal) → l ≡ ledgerIn z (acted e c) (refused e r) l
+    refused-ledger : (z : Kind) (r : Refusal) → l ≡ ledgerIn z (c .asked .input) (acted e c) (refused e r) l
     unfolding passedOf
-    refused-ledger Opening r = nothing-gone
-    refused-ledger (Message n) r = nothing-gone
-    refused-ledger (SubLimit k v) r = nothing-gone
-    refused-ledger (Status k b x) r = nothing-gone
-    refused-ledger Tick r = nothing-gone
-    refused-ledger Close r = nothing-gone
-    refused-ledger (ClosingBook d) r = nothing-gone
+    refused-ledger opens r = nothing-gone
+    refused-ledger steps r = nothing-gone
+    refused-ledger (gives d) r = nothing-gone
 
-    judged-ledger : (j : Answer) → ledgerBy j (c .action) e c l ≡ ledgerIn (c .action) (acted e c) (judged j e c) l
-    judged-ledger Done = performed-ledger (c .action)
-    judged-ledger (Refused r) = refused-ledger (c .action) r
+    judged-ledger : (j : Answer) → ledgerBy j (kindOf (c .asked .action)) e c l ≡ ledgerIn (kindOf (c .asked .action)) (c .asked .input) (acted e c) (judged j e c) l
+    judged-ledger Done = performed-ledger (kindOf (c .asked .action))
+    judged-ledger (Refused r) = refused-ledger (kindOf (c .asked .action)) r
 
-    call-ledger : ledger e c l ≡ ledgerIn (c .action) (acted e c) (call e c) l
+    call-ledger : ledger e c l ≡ ledgerIn (kindOf (c .asked .action)) (c .asked .input) (acted e c) (call e c) l
     unfolding ledger call
     call-ledger = judged-ledger (judge (e .state) c)
 
@@ -200,29 +187,45 @@ after-stands : (cs : List Call) (e : Engine) (l : Ledger) → Valid (e .state) �
 unfolding after ledgerAfter
 after-stands [] e l v f h = h
 after-stands (c ∷ cs) e l v f h =
-    after-stands cs (call e c .engine) (ledgerIn (c .action) (acted e c) (call e c) l) (call-valid readers e c v) (call-faithful e c f)
+    after-stands cs (call e c .engine) (ledgerIn (kindOf (c .asked .action)) (c .asked .input) (acted e c) (call e c) l) (call-valid readers e c v) (call-faithful e c f)
     (subst (λ (z : Ledger). Stands (call e c .engine) z) (call-ledger e c l) (call-stands readers e c (valid-kept (e .state) v) f l h .1))
 
-stands : (cs : List Call) → Stands (at cs) (ledgerAfter call cleared noLedger cs)
-stands cs = after-stands cs cleared noLedger refl cleared-faithful fresh-stands
+stands : (ds : List Deed) → Stands (at ds) (ledgerAfter call start noLedger (since ds))
+stands ds = rw (since-course call ds) (after-stands (since ds) start noLedger refl cleared-faithful fresh-stands)
 
-told : (cs : List Call) (c : Call) → Paid (at cs) c × Stands (call (at cs) c .engine) (ledger (at cs) c (ledgerAfter call cleared noLedger cs))
-told cs c = call-stands readers (at cs) c (valid-kept (at cs .state) (valid cs)) (faithful cs) (ledgerAfter call cleared noLedger cs) (stands cs)
+told : (ds : List Deed) (c : Call) → Paid (at ds) c × Stands (call (at ds) c .engine) (ledger (at ds) c (ledgerAfter call start noLedger (since ds)))
+told ds c = call-stands readers (at ds) c (valid-kept (at ds .state) (valid ds)) (faithful ds) (ledgerAfter call start noLedger (since ds)) (stands ds)
 
-same-views : (e : Engine) (cs : List Call) → viewsBy call e cs ≡ views (run e cs)
-unfolding viewsBy views run
-same-views e [] = refl
-same-views e (c ∷ cs) = ap (λ (l : List View). view (call e c) ∷ l) (same-views (call e c .engine) cs)
+after-right : (cs : List Call) (e : Engine) → RightMemory (e .state .batches) (e .memory) → RightMemory (after call e cs .state .batches) (after call e cs .memory)
+unfolding after
+after-right [] e h = h
+after-right (c ∷ cs) e h = after-right cs (call e c .engine) (call-memory e c h)
+
+memory-right : (ds : List Deed) → RightMemory (at ds .state .batches) (at ds .memory)
+memory-right ds = rw (since-course call ds) (after-right (since ds) start cleared-memory)
+
+-- the memory after any calls is what their history has left of a fresh one
+remembered : (ds : List Deed) → at ds .memory ≡ replay (history start [] (since ds)) noMemory
+unfolding replay
+remembered ds = rw (since-course call ds) (after-memory readers (since ds) start [] refl cleared-memory refl)
+
+after-started : (cs : List Call) (e : Engine) → Valid (e .state) → Started (e .state .day .clock) (e .state .batches)
+    → Started (after call e cs .state .day .clock) (after call e cs .state .batches)
+unfolding after
+after-started [] e v h = h
+after-started (c ∷ cs) e v h = after-started cs (call e c .engine) (call-valid readers e c v) (call-started readers e c v h)
+
+started : (ds : List Deed) → Started (at ds .state .day .clock) (at ds .state .batches)
+started ds = subst (λ (e : Engine). Started (e .state .day .clock) (e .state .batches)) (sym (since-course call ds)) (after-started (since ds) start refl cleared-started)
 
 -- ---- demand 1: a refusal at once changes nothing; a call has one outcome
 
 pub refusals-leave-all : Always call Unchanged
-refusals-leave-all cs c = record { at-once = refusals-change-nothing (at cs) c; opening = refused-openings-change-nothing (at cs) c }
+refusals-leave-all ds c = record { at-once = refusals-change-nothing (at ds) c; opening = refused-openings-change-nothing (at ds) c }
 
--- the column "left behind": a call that is carried out leaves what the row of its number says; a number that ends no batch and answers no message
--- leaves the clock and the queue test alone (`only-clock-and-test`, Leaving)
-pub rows-are-kept : (cs : List Call) (c : Call) → LeftBehind (begun (at cs .state) (c .clock)) (requestAt (c .input)) (acted (at cs) c)
-rows-are-kept cs c = left-behind (begun (at cs .state) (c .clock)) (c .action) (c .input)
+-- the column "left behind"
+pub rows-are-kept : Always call LeftBehind
+rows-are-kept ds c = call-left readers (at ds) c (valid ds)
 
 pub one-outcome : (e : Engine) (c : Call) (x y : Result) → x ≡ call e c → y ≡ call e c → x ≡ y
 one-outcome e c x y p q = p ∙ sym q
@@ -230,92 +233,94 @@ one-outcome e c x y p q = p ∙ sym q
 -- ---- the table rules hold from a fresh start on: 06 never comes from the engine's own tables
 
 pub tables-keep-the-rules : Always call (λ e c r. Valid (r .engine .state))
-tables-keep-the-rules cs c = call-valid readers (at cs) c (valid cs)
+tables-keep-the-rules ds c = call-valid readers (at ds) c (valid ds)
 
 -- ---- 33,705 bytes and 528 tries are enough
 
 pub room-is-enough : Always call Enough
-room-is-enough cs c = (call-out readers (at cs) c (valid cs), call-tries readers (at cs) c (valid-kept (at cs .state) (valid cs)))
+room-is-enough ds c = (call-out readers (at ds) c (valid ds), call-tries readers (at ds) c (valid-kept (at ds .state) (valid ds)))
 
 -- ---- demand 2: numbers, texts, and each noted message answered exactly once
 
 pub numbers-are-right : Always call Numbered
-numbers-are-right cs c = call-number (at cs) c
+numbers-are-right ds c = call-number (at ds) c
 
 pub texts-read-back : Always call Written
-texts-read-back cs c = (out-is (at cs) c, call-read readers (at cs) c (valid cs))
+texts-read-back ds c = (out-is (at ds) c, call-read readers (at ds) c (valid ds))
 
-pub accounted : (cs : List Call) → Accounted (then cs) (answered cs)
-accounted cs = once.accounted readers cs
+pub accounted : (ds : List Deed) → Accounted (then ds) (answered ds)
+accounted ds = once.accounted readers ds
 
-pub only-noted : (cs : List Call) (r : Code) → timesIn r (todays (then cs)) ≡ 0 → timesIn r (answered cs) ≡ 0
-only-noted cs r h = once.only-noted readers cs r h
+pub only-noted : (ds : List Deed) (r : Code) → timesIn r (todays (then ds)) ≡ 0 → timesIn r (answered ds) ≡ 0
+only-noted ds r h = once.only-noted readers ds r h
 
-pub never-twice : (cs : List Call) (r : Code) → timesIn r (answered cs) ≤ 1
-never-twice cs r = once.never-twice readers cs r
+pub never-twice : (ds : List Deed) (r : Code) → timesIn r (answered ds) ≤ 1
+never-twice ds r = once.never-twice readers ds r
 
-pub none-left-at-close : (cs : List Call) → then cs .day .phase ≡ Closed → awaiting (then cs) ≡ []
-none-left-at-close cs h = once.none-left-at-close readers cs h
+pub none-left-at-close : (ds : List Deed) → then ds .day .phase ≡ Closed → awaiting (then ds) ≡ []
+none-left-at-close ds h = once.none-left-at-close readers ds h
 
-pub answered-once : (cs : List Call) → then cs .day .phase ≡ Closed → (r : Code) → 0 < timesIn r (todays (then cs)) → timesIn r (answered cs) ≡ 1
-answered-once cs h r n = once.answered-once readers cs h r n
+pub answered-once : (ds : List Deed) → then ds .day .phase ≡ Closed → (r : Code) → 0 < timesIn r (todays (then ds)) → timesIn r (answered ds) ≡ 1
+answered-once ds h r n = once.answered-once readers ds h r n
+
+-- ---- an opening leaves its book, and what was remembered
+
+pub openings-are-right : Always call OpensRight
+openings-are-right ds c = call-opens (at ds) c
 
 -- ---- demand 3: the two tests agree; balances follow the settled batches; payers were covered; none that is left would pass
 
 pub tries-are-right : Always call Tried
-tries-are-right cs c = call-tried (at cs) c
+tries-are-right ds c = call-tried (at ds) c
 
--- "A later try is omitted exactly if ..": at each turn of a quick test, over all that happened since the fresh start
-pub omission-rule : (cs : List Call) (c : Call) → OmittedByRule (at cs) c (history cleared [] cs)
-omission-rule cs c =
-    omitted-by-rule (at cs) c (history cleared [] cs) (memory-is-history cs)
-    (queue-below (begun (at cs .state) (c .clock) .house .banks) (acted (at cs) c .batches) (acted-stood readers (at cs) c (valid-kept (at cs .state) (valid cs))))
+-- the plain test tries every queued batch on every walk, the quick one omits a try "exactly if ..": over all that happened since the start
+pub tests-by-rule : TestsByRule call
+tests-by-rule ds c = call-by-rule readers (at ds) c (valid ds) (memory-right ds) (history start [] (since ds)) (remembered ds)
+
+-- what waits after a call waits in its order, and nothing is tried before its minute
+pub orders-are-kept : Always call Ordered
+orders-are-kept ds c = call-ordered readers (at ds) c (valid ds) (started ds)
 
 pub balances-follow : BalancesFollow call
-balances-follow cs = let h = stands cs in record { each = h .money; total = h .total }
+balances-follow ds = let h = stands ds in record { each = h .money; total = h .total }
 
 pub payers-covered : Always call Covered
-payers-covered cs c = call-covered (at cs) c (told cs c .0)
+payers-covered ds c = call-covered (at ds) c (told ds c .0)
 
 pub none-would-pass : Always call NonePasses
-none-would-pass cs c = told cs c .1 .stuck
+none-would-pass ds c = told ds c .1 .stuck
 
 pub tests-agree : Agree call
 tests-agree = record {
-  alike = λ cs x y. same-views cleared (chosen x cs) ∙ tests-agree-all-days cs x y ∙ sym (same-views cleared (chosen y cs));
+  alike = tests-agree-all-days;
   covered = payers-covered;
   none-passes = none-would-pass;
 }
 
 -- ---- a stranger's message leaves what a tick leaves
 
-pub strangers-leave-all : (cs : List Call) (c : Call) (sender : ℕ) → Stranger (begun (at cs .state) (c .clock)) sender (requestAt (c .input))
-    → Alike (call (at cs) (asking (Message sender) c)) (call (at cs) (asking Tick c))
-strangers-leave-all cs c sender h = a-stranger-is-a-tick (at cs) c sender h
+pub strangers-leave-all : (ds : List Deed) (c : Call) (sender : ℕ) → Stranger (begun (at ds .state) (c .asked .clock)) sender (requestAt (c .asked .input))
+    → Alike (call (at ds) (asking (Message sender) c)) (call (at ds) (asking Tick c))
+strangers-leave-all ds c sender h = a-stranger-is-a-tick (at ds) c sender h
 
 -- ---- the total never changes within a day
 
-pub total-stays : (cs : List Call) → sum (at cs .state .books .balances) ≡ sum (ledgerAfter call cleared noLedger cs .opening)
-total-stays cs = stands cs .total
+pub total-stays : (ds : List Deed) → sum (at ds .state .books .balances) ≡ sum (ledgerAfter call start noLedger (since ds) .opening)
+total-stays ds = stands ds .total
 
 -- ---- the closing book is accepted, carries the date given, and is the day's accounts again
 
 pub closing-book-reads-back : Always call Closes
-closing-book-reads-back cs c = call-closes (at cs) c (valid cs)
+closing-book-reads-back ds c = call-closes (at ds) c (valid ds)
 
 -- ---- what is always so is so of each result of `run`
 
-after-last : (cs : List Call) (c : Call) (e : Engine) → after call e (cs ++ (c ∷ [])) ≡ call (after call e cs) c .engine
-unfolding after
-after-last [] c e = refl
-after-last (d ∷ cs) c e = after-last cs c (call e d .engine)
-
-run-along : (P : Engine → Call → Result → Type 0) → Always call P → (done cs : List Call) → Along P (at done) cs (run (at done) cs)
+run-along : (P : Engine → Call → Result → Type 0) → Always call P → (done : List Deed) (cs : List Call) → Along P (at done) cs (run (at done) cs)
 unfolding run
 run-along P h done [] = refl
 run-along P h done (c ∷ cs) =
-    (h done c, subst (λ (e : Engine). Along P e cs (run e cs)) (after-last done c cleared) (run-along P h (done ++ (c ∷ [])) cs))
+    (h done c, subst (λ (e : Engine). Along P e cs (run e cs)) (course-last call done c start) (run-along P h (done ++ (calls c ∷ [])) cs))
 
-pub along-run : (P : Engine → Call → Result → Type 0) → Always call P → (cs : List Call) → Along P cleared cs (run cleared cs)
-unfolding after
+pub along-run : (P : Engine → Call → Result → Type 0) → Always call P → (cs : List Call) → Along P start cs (run start cs)
+unfolding course
 along-run P h cs = run-along P h [] cs

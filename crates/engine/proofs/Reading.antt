@@ -2,7 +2,7 @@
 use Prim.Native.Nat.{ℕ, zero, suc, _+_, _/_, _^_, _≤_, _<_}
 use mathlib.Core.Path.{_≡_, refl, sym, ap, subst, _∙_}
 use mathlib.Core.Logic.{inl, inr}
-use mathlib.Core.Bool.{Bool, true}
+use mathlib.Core.Bool.{true}
 use mathlib.Core.List.{List, [], _∷_, _++_}
 use native.Mathlib.Omega.{arith}
 use lib.ListN.{length, getD, take, drop, replicate, length-append}
@@ -12,7 +12,6 @@ use Rattle.chars.specs.Chars.{isCode, isDigit}
 use Rattle.codes.specs.Codes.{longOf, longText}
 use Rattle.codes.specs.declared.Code.{Code}
 use Rattle.dates.specs.Dates.{sum as total}
-use Rattle.scan.proofs.Standing.{All}
 use Rattle.values.proofs.Grammar.{IsWord, IsLetters}
 use Rattle.terms.specs.declared.Activation.{Activation}
 use Rattle.terms.specs.declared.Activation.the-variants.{AtOnce, Minute}
@@ -27,7 +26,8 @@ use Rattle.book.specs.declared.Field.{Field}
 use Rattle.book.specs.declared.Field.the-variants.{Code as Codes, Flags, Balance, Limit}
 use Rattle.book.proofs.Ranging.{accepted-in-range}
 use Rattle.settle.specs.Rules.{sum}
-use Rattle.book.specs.Range.{Each, Rising, allAre, isShort}
+use Rattle.book.specs.Range.{Each, Rising, isShort}
+use Rattle.reply.proofs.Allowed.{are-all}
 use Rattle.engine.specs.Days.{columnOf}
 use Rattle.engine.specs.Rules.{isReference, isBin, areLetters, RightMinute}
 use Rattle.engine.proofs.Noting.{same-self}
@@ -37,13 +37,9 @@ use Rattle.engine.proofs.Keeping.{BookGives, Readers}
 
 -- ---- a text
 
-all-are : (is : ℕ → Bool) (l : List ℕ) → All is l → allAre is l ≡ true
-all-are is [] a = refl
-all-are is (x ∷ l) a = rw (a .0) (all-are is l (a .1))
-
 reference-given : {c : Code} → GivenReference c → isReference c ≡ true
 reference-given {c = c} g =
-    rw (g .spells .text, sym (g .spells .code), same-self c, lt-ltb 0 (length (g .value)) (g .is .some), all-are isCode (g .value) (g .is .all), g .is .free) refl
+    rw (g .spells .text, sym (g .spells .code), same-self c, lt-ltb 0 (length (g .value)) (g .is .some), are-all isCode (g .value) (g .is .all), g .is .free) refl
 
 four-first : (w d : List ℕ) → length w ≡ 4 → (take 4 (w ++ d) ≡ w) × (drop 4 (w ++ d) ≡ d)
 four-first (a ∷ b ∷ c ∷ e ∷ []) d h = (refl, refl)
@@ -60,7 +56,7 @@ bin-given {stream = w} {c = c} i g =
     let code : longOf (w ++ d) ≡ c = ap longOf (sym (g .is .is)) ∙ sym (g .spells .code) in
     let cut = four-first w d (i .size) in
     let size : length (w ++ d) ≡ 8 = length-append w d ∙ omega (arith, i .size, g .is .four .size) in
-    rw (text, code, same-self c, eq-eqb (length (w ++ d)) 8 size, cut .0, cut .1, all-are isCode w (i .all), all-are isDigit d (g .is .four .all)) refl
+    rw (text, code, same-self c, eq-eqb (length (w ++ d)) 8 size, cut .0, cut .1, are-all isCode w (i .all), are-all isDigit d (g .is .four .all)) refl
 
 letters-given : {v : List ℕ} → IsLetters v → areLetters v ≡ true
 letters-given g = rw (g .is, g .first, g .second, g .third, g .fourth) refl

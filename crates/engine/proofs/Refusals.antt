@@ -8,6 +8,7 @@ use Rattle.engine.specs.declared.Action.{Action}
 use Rattle.engine.specs.declared.Action.the-variants.{Opening}
 use Rattle.engine.specs.declared.Answer.{Answer}
 use Rattle.engine.specs.declared.Answer.the-variants.{Done, Refused}
+use Rattle.engine.specs.Kinds.{kindOf}
 use Rattle.engine.specs.Days.{openingAnswer}
 use Rattle.engine.specs.Calls.{Call, Engine, judge, refused, openedBy, performed, judged, call}
 
@@ -27,13 +28,13 @@ refused-opening : (a : Answer) (e : Engine) (c : Call) (r : Refusal) → openedB
 refused-opening Done e c r h = not-done h
 refused-opening (Refused q) e c r h = same-refusal e q r h
 
-refused-judged : (j : Answer) (e : Engine) (c : Call) (r : Refusal) → c .action ≡ Opening → judged j e c .answer ≡ Refused r → judged j e c ≡ refused e r
+refused-judged : (j : Answer) (e : Engine) (c : Call) (r : Refusal) → c .asked .action ≡ Opening → judged j e c .answer ≡ Refused r → judged j e c ≡ refused e r
 refused-judged Done e c r o h =
-    ap (λ (a : Action). performed a e c) o
-    ∙ refused-opening (openingAnswer (e .state .day) (c .input)) e c r (subst (λ (a : Action). performed a e c .answer ≡ Refused r) o h)
+    ap (λ (a : Action). performed (kindOf a) e c) o
+    ∙ refused-opening (openingAnswer (e .state .day) (c .asked .input)) e c r (subst (λ (a : Action). performed (kindOf a) e c .answer ≡ Refused r) o h)
 refused-judged (Refused q) e c r o h = same-refusal e q r h
 
 -- an opening that is refused, whatever its number
-pub refused-openings-change-nothing : (e : Engine) (c : Call) (r : Refusal) → c .action ≡ Opening → call e c .answer ≡ Refused r → call e c ≡ refused e r
+pub refused-openings-change-nothing : (e : Engine) (c : Call) (r : Refusal) → c .asked .action ≡ Opening → call e c .answer ≡ Refused r → call e c ≡ refused e r
 unfolding call
 refused-openings-change-nothing e c r o h = refused-judged (judge (e .state) c) e c r o h

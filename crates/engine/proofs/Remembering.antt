@@ -5,33 +5,26 @@ use mathlib.Core.Logic.{_⊎_, inl, inr}
 use mathlib.Core.Bool.{Bool, true, false, false≢true}
 use mathlib.Core.List.{List, [], _∷_}
 use native.Mathlib.Omega.{arith}
-use lib.Dec.{eqb}
 use lib.ListN.{getD, set}
 use lib.Seq.{getD-set-same}
-use borrow.Author.Tests.{eqb-true}
 use Rattle.codes.specs.Codes.{unpacked, named, spelled, longText, longOf, packOn}
 use Rattle.codes.specs.declared.Code.{Code}
+pub use Rattle.names.proofs.Laws.{same-code}
 use Rattle.request.specs.declared.Outcome.the-variants.{Settlement, Recall}
 use Rattle.request.specs.declared.Reading.{Reading}
 use Rattle.queue.proofs.MemoryLaws.{byBool}
 use Rattle.engine.specs.State.{sameCode, noCode, Batch, Place, free, live, Batches, Known, State, placeAt}
-use Rattle.engine.specs.Messages.{Acted, today, reference, bin, noted, withMessage, ended, firstBatch}
+use Rattle.engine.specs.Messages.{Acted, today, reference, bin, withReference, withMessage, ended, firstBatch}
 use Rattle.engine.specs.Changes.{withLetter}
 use Rattle.engine.specs.Ending.{emptied}
 use Rattle.engine.specs.Rules.{isReference, isBin, RightKnown, remembered, Unlike, has}
-use Rattle.engine.proofs.Truth.{and-true}
 use Rattle.engine.proofs.Admitting.{Gives}
 use Rattle.engine.proofs.Noting.{unlike-used, Noted}
 use Rattle.engine.proofs.Noting.{noted as note-keeps}
 use Rattle.engine.proofs.Bins.{LiveWith, Binned, binned-more, binned-same, binned-new}
-use Rattle.engine.proofs.Doing.{New, Start, going, begun, Joins, Did, idle, limits, letters, alone, repeats, recalls, completes, grows, rejects}
+use Rattle.engine.proofs.Doing.{New, Start, going, begun, Joins, Did, sent, idle, limits, letters, alone, repeats, recalls, completes, grows, rejects}
 
 -- ---- a right reference or BIN is a code
-
-pub same-code : (c d : Code) → sameCode c d ≡ true → c ≡ d
-same-code c d h =
-    let g = and-true (eqb (c .high) (d .high)) (eqb (c .low) (d .low)) h in
-    ap (λ (x : ℕ). record { high = x; low = c .low }) (eqb-true (c .high) (d .high) (g .0)) ∙ ap (λ (x : ℕ). record { high = d .high; low = x }) (eqb-true (c .low) (d .low) (g .1))
 
 no-reference : isReference noCode ≡ false
 unfolding longText named spelled unpacked longOf packOn
@@ -64,11 +57,11 @@ module _ (s : State) (r : Reading) (g : Gives r) where
       go (inl e) = g .settlement e .reference
       go (inr e) = g .recall e
 
-  pub reference-noted : New s r → Noted (today s) (reference s r) (s .known .references) (noted s r .references)
-  reference-noted n = note-keeps (today s) (reference s r) (some-code (λ d. isReference d) no-reference (reference s r) (named-reference n)) s r (s .known .references) (n .fits)
+  pub reference-noted : New s r → Noted (today s) (reference s r) (s .known .references) (withReference s r .references)
+  reference-noted n = note-keeps (today s) (reference s r) (some-code (λ d. isReference d) no-reference (reference s r) (named-reference n)) (s .known .references) (n .fits)
 
   module _ (h : RightKnown (today s) (s .known)) where
-    noted-right : New s r → RightKnown (today s) (noted s r)
+    noted-right : New s r → RightKnown (today s) (withReference s r)
     noted-right n =
         let k = reference-noted n in
         record {
@@ -85,7 +78,7 @@ module _ (s : State) (r : Reading) (g : Gives r) where
     start-right i n (going a e) = noted-right n
     start-right i n (begun a u v) =
         let t = g .settlement i in
-        let m = note-keeps (today s) (bin s r) (bin-code (bin s r) (t .bin)) s r (s .known .bins) v in
+        let m = note-keeps (today s) (bin s r) (bin-code (bin s r) (t .bin)) (s .known .bins) v in
         let w = noted-right n in
         record {
           references-long = w .references-long;
@@ -100,15 +93,15 @@ module _ (s : State) (r : Reading) (g : Gives r) where
     joins-right j = start-right (j .settlement) (j .new) (j .start)
 
     pub known-kept : {a : Acted} → Did s r a → RightKnown (today s) (a .known)
-    known-kept (idle n) = h
+    known-kept (sent (idle n)) = h
     known-kept (limits k x b l) = h
     known-kept (letters k x p c m w) = h
-    known-kept (alone n y q w) = noted-right w
-    known-kept (repeats p c f i) = h
-    known-kept (recalls p f n w) = noted-right n
-    known-kept (completes stream b k p x j d e f) = joins-right j
-    known-kept (grows stream b k p x j d e) = joins-right j
-    known-kept (rejects f b k p x j) = joins-right j
+    known-kept (sent (alone n y q w)) = noted-right w
+    known-kept (sent (repeats p c f i)) = h
+    known-kept (sent (recalls p f n w)) = noted-right n
+    known-kept (sent (completes stream b k p x j d e f)) = joins-right j
+    known-kept (sent (grows stream b k p x j d e)) = joins-right j
+    known-kept (sent (rejects f b k p x j)) = joins-right j
 
   -- ---- live BINs
 
@@ -123,7 +116,7 @@ module _ (s : State) (r : Reading) (g : Gives r) where
     start-binned : {b : Batches} {k : Known} {p : ℕ} {x : Batch} → r .outcome ≡ Settlement → Start s r b k p x → Started b k p x
     start-binned i (going {p = p} {x = x} a e) = record { binned = h; there = rw e refl }
     start-binned i (begun {p = p} a u v) =
-        let m = note-keeps (today s) (bin s r) (bin-code (bin s r) (g .settlement i .bin)) s r (s .known .bins) v in
+        let m = note-keeps (today s) (bin s r) (bin-code (bin s r) (g .settlement i .bin)) (s .known .bins) v in
         let old = unlike-used (today s) (bin s r) (bin-code (bin s r) (g .settlement i .bin)) (s .known .bins) u in
         record {
           binned = binned-new _ (s .batches .places) p (firstBatch s r) (binned-more (rem (s .known)) _ (s .batches .places) h (m .stays)) (m .there)
@@ -143,15 +136,15 @@ module _ (s : State) (r : Reading) (g : Gives r) where
 
     pub bins-kept : {a : Acted} → Did s r a → Binned (rem (a .known)) (a .batches .places)
     unfolding ended
-    bins-kept (idle n) = h
+    bins-kept (sent (idle n)) = h
     bins-kept (limits k x b l) = h
     bins-kept (letters k x p c m w) = binned-same (rem (s .known)) (s .batches .places) p _ h (letter-bin k x (placeAt (s .batches) p))
-    bins-kept (alone n y q w) = h
-    bins-kept (repeats p c f i) = none-live (rem (s .known)) (s .batches .places) p h
-    bins-kept (recalls p f n w) = none-live (rem (s .known)) (s .batches .places) p h
-    bins-kept (completes stream b k p x j d e f) = let i = start-binned (j .settlement) (j .start) in bin-stays (rem k) (b .places) p x (i .binned) (i .there)
-    bins-kept (grows stream b k p x j d e) = let i = start-binned (j .settlement) (j .start) in bin-stays (rem k) (b .places) p x (i .binned) (i .there)
-    bins-kept (rejects f b k p x j) = none-live (rem k) (b .places) p (start-binned (j .settlement) (j .start) .binned)
+    bins-kept (sent (alone n y q w)) = h
+    bins-kept (sent (repeats p c f i)) = none-live (rem (s .known)) (s .batches .places) p h
+    bins-kept (sent (recalls p f n w)) = none-live (rem (s .known)) (s .batches .places) p h
+    bins-kept (sent (completes stream b k p x j d e f)) = let i = start-binned (j .settlement) (j .start) in bin-stays (rem k) (b .places) p x (i .binned) (i .there)
+    bins-kept (sent (grows stream b k p x j d e)) = let i = start-binned (j .settlement) (j .start) in bin-stays (rem k) (b .places) p x (i .binned) (i .there)
+    bins-kept (sent (rejects f b k p x j)) = none-live (rem k) (b .places) p (start-binned (j .settlement) (j .start) .binned)
 
 -- the places that the test empties
 pub bins-emptied : (k : List Code) (done : List ℕ) (ps : List Place) → Binned k ps → Binned k (emptied done ps)

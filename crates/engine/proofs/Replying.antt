@@ -3,15 +3,14 @@ use mathlib.Core.Path.{_≡_, refl}
 use mathlib.Core.Bool.{Bool, true, false, cond}
 use mathlib.Core.List.{[], _++_}
 use Rattle.queue.specs.Tests.{Outcome}
-use Rattle.engine.specs.declared.Action.{Action}
-use Rattle.engine.specs.declared.Action.the-variants.{Opening, Message, SubLimit, Status, Tick, Close, ClosingBook}
 use Rattle.engine.specs.declared.Answer.{Answer}
 use Rattle.engine.specs.declared.Answer.the-variants.{Done, Refused}
+use Rattle.engine.specs.Kinds.{Kind, opens, steps, gives, kindOf, isClose}
 use Rattle.engine.specs.State.{State}
 use Rattle.engine.specs.Replies.{textsFrom}
 use Rattle.engine.specs.Messages.{Acted}
 use Rattle.engine.specs.Days.{openingAnswer}
-use Rattle.engine.specs.Calls.{Call, Engine, judge, begun, isClose, replies, lastReplies, goesOn, closes, stepped, openedBy, performed, judged, call}
+use Rattle.engine.specs.Calls.{Call, Engine, judge, begun, replies, lastReplies, goesOn, closes, stepped, openedBy, performed, judged, call}
 use Rattle.engine.specs.Answered.{acted, outcome, steppedReplies}
 use Rattle.engine.specs.Promises.{outBy, outOf}
 
@@ -24,25 +23,19 @@ module _ (e : Engine) (c : Call) where
 
   stepped-out : stepped e c .out ≡ textsFrom (e .state .day .texts) (steppedReplies e c)
   unfolding stepped begun
-  stepped-out = ends-out (isClose (c .action)) (begun (e .state) (c .clock)) (acted e c) (outcome e c) refl
+  stepped-out = ends-out (isClose (c .asked .action)) (begun (e .state) (c .asked .clock)) (acted e c) (outcome e c) refl
 
-  opened-out : (r : Answer) → openedBy r e c .out ≡ textsFrom (e .state .day .texts) []
-  unfolding textsFrom
+  opened-out : (r : Answer) → openedBy r e c .out ≡ []
   opened-out Done = refl
   opened-out (Refused r) = refl
 
-  performed-out : (z : Action) → performed z e c .out ≡ outBy Done z e c
-  performed-out Opening = opened-out (openingAnswer (e .state .day) (c .input))
-  performed-out (Message n) = stepped-out
-  performed-out (SubLimit n x) = stepped-out
-  performed-out (Status n b l) = stepped-out
-  performed-out Tick = stepped-out
-  performed-out Close = stepped-out
-  performed-out (ClosingBook d) = refl
+  performed-out : (z : Kind) → performed z e c .out ≡ outBy Done z e c
+  performed-out opens = opened-out (openingAnswer (e .state .day) (c .asked .input))
+  performed-out steps = stepped-out
+  performed-out (gives d) = refl
 
-  judged-out : (r : Answer) → judged r e c .out ≡ outBy r (c .action) e c
-  unfolding textsFrom
-  judged-out Done = performed-out (c .action)
+  judged-out : (r : Answer) → judged r e c .out ≡ outBy r (kindOf (c .asked .action)) e c
+  judged-out Done = performed-out (kindOf (c .asked .action))
   judged-out (Refused r) = refl
 
   pub out-is : call e c .out ≡ outOf e c

@@ -10,6 +10,7 @@ use Rattle.book.specs.Accounts.{Stream, Bank}
 use Rattle.engine.specs.declared.Action.{Action}
 use Rattle.engine.specs.declared.Action.the-variants.{Opening, Message, SubLimit, Status, Tick, Close, ClosingBook}
 use Rattle.engine.specs.Answers.{answerNumber}
+use Rattle.engine.specs.Promises.{by}
 use Rattle.engine.specs.Calls.{Call, Engine, Result, cleared}
 use Rattle.chars.specs.Chars.{isDigit, isLetter, isCode, digitValue}
 use Rattle.codes.specs.declared.Code.{Code}
@@ -34,26 +35,25 @@ use Rattle.settle.specs.Cover.{covered}
 use Rattle.settle.specs.Payments.{payment, paymentAt as settle-paymentAt, paymentsFrom, needsOf}
 use Rattle.settle.specs.Settlement.{firstUncovered, paid, settled}
 use Rattle.settle.specs.Rules.{debits, credits}
-use Rattle.queue.specs.Memory.{creditedBy, credited, wake}
+use Rattle.queue.specs.Memory.{creditedBy, credited, wake, forgotten}
 use Rattle.queue.specs.Tests.{some, again, omits, remember, tried, turn, walk, test}
-use Rattle.queue.specs.Day.{relettered, relabel, forgotten}
-use Rattle.queue.specs.Promise.{Payer, limited, with}
+use Rattle.queue.specs.Promise.{Payer, limited}
 use Rattle.engine.specs.State.{seekFrom}
 use Rattle.engine.specs.Memory.{isUsed, vacant, note}
 use Rattle.engine.specs.Replies.{repliesTo, textOf as engine-textOf, textsFrom}
 use Rattle.engine.specs.Joining.{keep, insert, byTime, join}
-use Rattle.engine.specs.Messages.{firstBroken as engine-firstBroken, streamPlace, bankPlace as engine-bankPlace, ended, assembling, waiting, linePayments, lineRules, messageRules, completed, admit, settling, recalling, sent, message}
-use Rattle.engine.specs.Changes.{subLimit, hasDebit, relettered as engine-relettered, status}
+use Rattle.engine.specs.Messages.{firstBroken as engine-firstBroken, streamPlace, bankPlace as engine-bankPlace, ended, assembling, waiting, linePayments, lineRules, messageRules, onSender, onBin, completed, admit, recalling, message}
+use Rattle.engine.specs.Changes.{subLimit, hasDebit, withEsa, relabel, relettered, status}
 use Rattle.engine.specs.Ending.{emptied, afterTest, settledReplies, closeReplies}
 use Rattle.engine.specs.Days.{opened, openingAnswer, closingText}
-use Rattle.engine.specs.Calls.{judge, begun, act, woken, tested, replies, left, lastReplies, goesOn, closes, stepped, call, run as engine-run}
+use Rattle.engine.specs.Calls.{mostWritten, rowsNeeded, judge, begun, act, woken, tested, replies, left, lastReplies, goesOn, closes, stepped, call, run as engine-run}
 
 -- ---- the words of a day
 
 -- a call by the quick test, at a time of the day
 abbrev pub asked : (hour minute second : ℕ) → Action → List ℕ → Call
 asked h m s a input =
-    record { quick = true; clock = 3600 * h + (60 * m + s); action = a; input = input; room = 33705; rows = 528 }
+    record { asked = record { quick = true; clock = 3600 * h + (60 * m + s); action = a; input = input }; room = mostWritten; rows = rowsNeeded }
 
 -- a text of administrator 5
 abbrev pub says : (hour minute second : ℕ) → List ℕ → Call
@@ -61,10 +61,10 @@ says h m s text = asked h m s (Message 5) text
 
 -- a call by the plain test, and one that lends a buffer and a row of other lengths
 abbrev pub plainly : Call → Call
-plainly c = record { quick = false; clock = c .clock; action = c .action; input = c .input; room = c .room; rows = c .rows }
+plainly c = by false c
 
 abbrev pub lending : (room rows : ℕ) → Call → Call
-lending room rows c = record { quick = c .quick; clock = c .clock; action = c .action; input = c .input; room = room; rows = rows }
+lending room rows c = record { asked = c .asked; room = room; rows = rows }
 
 abbrev pub code : String → ℕ
 code c = shortAt (bytes c) 0
@@ -148,7 +148,7 @@ told r = line (answerNumber (r .answer)) (r .out) (r .tries) (take 2 (r .engine 
 
 -- what is told of calls from an engine on, and of a day from a fresh start. To unfold either is to unfold the engine and all below it.
 unfoldable pub goes : Engine → List Call → List Line
-unfolding isDigit isLetter isCode digitValue packOn shortAt longOf longAt unpacked named shortText spelled longText before codeBefore wordOf sumWords blockSum february months daysIn isTrue dayOf monthDay dateOf isRemembered clockOf hasBegun minuteOf hhmmOf secondOf hhmmssOf begins litAt run codesAt codeAt digits digitsAt numberAt lineEnd lineEndAt textOf forbiddenAt referenceAt numeralAt wordAt binAt numbered numbersAt dateAt timeAt sideAt hundredths amountAt countAt isStatus isFourth judgedAt lettersAt fieldAt activationAt termsAt bankAt creditAt debitAt paymentAt moreAt paymentsOn paymentsAt namedAt addressAt settlementAt recallAt messageAt requestAt digitsOf headText batchText settledText rejectedText settlementText recallText firstBroken little headRight zerosAt unusedRight headerRight checkRight entriesRight dateIn streamRight bitsPast bankRight lengthRight streamsCounted streamRules banksCounted book-codeBefore bankRules bankBlocks bankPlace bankCount totalRight bookRules bookCheck dayIn streamsIn banksIn littleOf streamBytes bankBytes sealed streamBlock bankBlock bankBlocksOf blocksFor bookBytes covered payment settle-paymentAt paymentsFrom needsOf firstUncovered paid settled debits credits creditedBy credited wake some again omits remember tried turn walk test relettered relabel forgotten Payer limited with seekFrom isUsed vacant note repliesTo engine-textOf textsFrom keep insert byTime join engine-firstBroken streamPlace engine-bankPlace ended assembling waiting linePayments lineRules messageRules completed admit settling recalling sent message subLimit hasDebit engine-relettered status emptied afterTest settledReplies closeReplies opened openingAnswer closingText judge begun act woken tested replies left lastReplies goesOn closes stepped call engine-run
+unfolding isDigit isLetter isCode digitValue packOn shortAt longOf longAt unpacked named shortText spelled longText before codeBefore wordOf sumWords blockSum february months daysIn isTrue dayOf monthDay dateOf isRemembered clockOf hasBegun minuteOf hhmmOf secondOf hhmmssOf begins litAt run codesAt codeAt digits digitsAt numberAt lineEnd lineEndAt textOf forbiddenAt referenceAt numeralAt wordAt binAt numbered numbersAt dateAt timeAt sideAt hundredths amountAt countAt isStatus isFourth judgedAt lettersAt fieldAt activationAt termsAt bankAt creditAt debitAt paymentAt moreAt paymentsOn paymentsAt namedAt addressAt settlementAt recallAt messageAt requestAt digitsOf headText batchText settledText rejectedText settlementText recallText firstBroken little headRight zerosAt unusedRight headerRight checkRight entriesRight dateIn streamRight bitsPast bankRight lengthRight streamsCounted streamRules banksCounted book-codeBefore bankRules bankBlocks bankPlace bankCount totalRight bookRules bookCheck dayIn streamsIn banksIn littleOf streamBytes bankBytes sealed streamBlock bankBlock bankBlocksOf blocksFor bookBytes covered payment settle-paymentAt paymentsFrom needsOf firstUncovered paid settled debits credits creditedBy credited wake some again omits remember tried turn walk test forgotten Payer limited seekFrom isUsed vacant note repliesTo engine-textOf textsFrom keep insert byTime join engine-firstBroken streamPlace engine-bankPlace ended assembling waiting linePayments lineRules messageRules onSender onBin completed admit recalling message subLimit hasDebit withEsa relabel relettered status emptied afterTest settledReplies closeReplies opened openingAnswer closingText judge begun act woken tested replies left lastReplies goesOn closes stepped call engine-run
 goes e calls = map told (engine-run e calls)
 
 unfoldable pub plays : List Call → List Line
@@ -164,8 +164,8 @@ leaves e (c ∷ cs) = leaves (call e c .engine) cs
 -- ---- a day: parts out of order, a reference used twice, a batch held, a status change, an omitted try, a recall, a stranger with a used
 -- reference, a changed sub-limit, a close with a batch left, the closing book
 
-abbrev pub calls : List Call
-calls =
+abbrev pub dayCalls : List Call
+dayCalls =
     asked 9 0 0 Opening (book 9895 (bank "AAAA" 10000000 3000000 ∷ bank "BBBB" 0 0 ∷ []))
     ∷ says 10 0 0 (request "R2" "PROP0001" "02/02" (alone (cr "BBBB" "500,00")))
     ∷ says 10 0 1 (request "R1" "PROP0001" "01/02" (alone (dr "AAAA" "500," "AAA ")))
@@ -181,7 +181,7 @@ calls =
     ∷ asked 17 0 1 (ClosingBook 270204) []
     ∷ []
 
-pub a-day : plays calls
+pub a-day : plays dayCalls
     ≡ line 0 [] [] (10000000 ∷ 0 ∷ [])
     ∷ line 0 [] [] (10000000 ∷ 0 ∷ [])
     ∷ line 0 (reply132 "1" "R2" "PROP0001" "0\r\n:13E:270203100001" ++ reply132 "2" "R1" "PROP0001" "0\r\n:13E:270203100001") (1 ∷ []) (9950000 ∷ 50000 ∷ [])

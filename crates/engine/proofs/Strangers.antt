@@ -17,7 +17,7 @@ use Rattle.engine.specs.declared.Action.the-variants.{Opening, Message, 
 use Rattle.engine.specs.declared.Answer.{Answer}
 use Rattle.engine.specs.declared.Answer.the-variants.{Done, Refused}
 use Rattle.engine.specs.State.{Found, at, nowhere, onFound, State}
-use Rattle.engine.specs.Messages.{Acted, streamCode, streamPlace, administrator, untouched, leaving, sent, received, message}
+use Rattle.engine.specs.Messages.{SubType, is131, is133, Acted, streamCode, streamPlace, administrator, untouched, leaving, onText, onSender, message}
 use Rattle.engine.specs.Calls.{Call, Engine, Result, judge, begun, act, tested, replies, left, goesOn, stepped, judged, call}
 use Rattle.engine.specs.Promises.{Alike, Stranger, asking}
 
@@ -46,26 +46,26 @@ module _ (s : State) (sender : ℕ) (r : Reading) (h : Stranger s sender r) wher
   by-sender true g i = g refl
   by-sender false g i = i
 
-  sent-idle : Idle s (sent s r sender)
-  unfolding sent
-  sent-idle = by-stream (streamPlace (s .house) (streamCode s r)) refl
+  sent-idle : (next : ℕ → Acted) → Idle s (onSender s r sender next)
+  unfolding onSender
+  sent-idle next = by-stream (streamPlace (s .house) (streamCode s r)) refl
       (λ i e. by-sender (eqb sender (administrator (s .house) i)) (λ y. absurd (h i e (eqb-true sender (administrator (s .house) i) y))) (record { fault = WrongSender; same = refl }))
 
-  received-idle : (o : Read) → Idle s (received s r o sender)
-  received-idle Settlement = sent-idle
-  received-idle Recall = sent-idle
-  received-idle (Unread b) = record { fault = b .refusal; same = refl }
+  text-idle : {next : SubType → Acted} (o : Read) → ((t : SubType) → Idle s (next t)) → Idle s (onText s r o next)
+  text-idle Settlement f = f is131
+  text-idle Recall f = f is133
+  text-idle (Unread b) f = record { fault = b .refusal; same = refl }
 
   pub strangers-touch-nothing : Idle s (message s sender r)
   unfolding message
-  strangers-touch-nothing = received-idle (r .outcome)
+  strangers-touch-nothing = text-idle (r .outcome) (λ t. sent-idle _)
 
 module _ (e : Engine) (c : Call) where
   abbrev s : State
-  s = begun (e .state) (c .clock)
+  s = begun (e .state) (c .asked .clock)
 
   abbrev step : Acted → Result
-  step a = goesOn s a (tested (c .quick) a (e .memory))
+  step a = goesOn s a (tested (c .asked .quick) a (e .memory))
 
   idle-alike : (f : Refusal) → Alike (step (untouched s f)) (step (leaving s Done [] [] (s .batches) (s .known)))
   unfolding goesOn replies left tested
@@ -75,11 +75,11 @@ module _ (e : Engine) (c : Call) where
   stepped-alike a i = rw (i .same) (idle-alike (i .fault))
 
   -- an action of a message or a change that touches nothing
-  judged-alike : (j : Answer) (x : Action) → Asks x → Idle s (act s x (c .input)) → Alike (judged j e (asking x c)) (judged j e (asking Tick c))
+  judged-alike : (j : Answer) (x : Action) → Asks x → Idle s (act s x (c .asked .input)) → Alike (judged j e (asking x c)) (judged j e (asking Tick c))
   unfolding stepped act
-  judged-alike Done (Message n) k h = stepped-alike (act s (Message n) (c .input)) h
-  judged-alike Done (SubLimit n v) k h = stepped-alike (act s (SubLimit n v) (c .input)) h
-  judged-alike Done (Status n b l) k h = stepped-alike (act s (Status n b l) (c .input)) h
+  judged-alike Done (Message n) k h = stepped-alike (act s (Message n) (c .asked .input)) h
+  judged-alike Done (SubLimit n v) k h = stepped-alike (act s (SubLimit n v) (c .asked .input)) h
+  judged-alike Done (Status n b l) k h = stepped-alike (act s (Status n b l) (c .asked .input)) h
   judged-alike (Refused r) x k h = record { out = refl; tries = refl; engine = refl }
 
   same-judge : (x : Action) → Asks x → judge (e .state) (asking x c) ≡ judge (e .state) (asking Tick c)
@@ -88,10 +88,10 @@ module _ (e : Engine) (c : Call) where
   same-judge (SubLimit n v) k = refl
   same-judge (Status n b l) k = refl
 
-  pub idle-is-a-tick : (x : Action) → Asks x → Idle s (act s x (c .input)) → Alike (call e (asking x c)) (call e (asking Tick c))
+  pub idle-is-a-tick : (x : Action) → Asks x → Idle s (act s x (c .asked .input)) → Alike (call e (asking x c)) (call e (asking Tick c))
   unfolding call
   idle-is-a-tick x k h = rw (same-judge x k) (judged-alike (judge (e .state) (asking Tick c)) x k h)
 
-  pub a-stranger-is-a-tick : (sender : ℕ) → Stranger s sender (requestAt (c .input)) → Alike (call e (asking (Message sender) c)) (call e (asking Tick c))
+  pub a-stranger-is-a-tick : (sender : ℕ) → Stranger s sender (requestAt (c .asked .input)) → Alike (call e (asking (Message sender) c)) (call e (asking Tick c))
   unfolding act
-  a-stranger-is-a-tick sender h = idle-is-a-tick (Message sender) tt (strangers-touch-nothing s sender (requestAt (c .input)) h)
+  a-stranger-is-a-tick sender h = idle-is-a-tick (Message sender) tt (strangers-touch-nothing s sender (requestAt (c .asked .input)) h)

@@ -5,30 +5,29 @@ use native.Mathlib.Omega.{arith}
 use lib.ListN.{length}
 use Rattle.queue.specs.Tests.{Outcome}
 use Rattle.queue.proofs.Promises.{tries-fit}
-use Rattle.engine.specs.declared.Action.{Action}
-use Rattle.engine.specs.declared.Action.the-variants.{Opening, Message, SubLimit, Status, Tick, Close, ClosingBook}
 use Rattle.engine.specs.declared.Answer.{Answer}
 use Rattle.engine.specs.declared.Answer.the-variants.{Done, Refused}
+use Rattle.engine.specs.Kinds.{Kind, opens, steps, gives, kindOf, isClose}
 use Rattle.engine.specs.State.{State, paymentsAt}
 use Rattle.engine.specs.Messages.{Acted}
 use Rattle.engine.specs.Days.{openingAnswer}
-use Rattle.engine.specs.Calls.{Call, Engine, judge, begun, act, woken, tested, isClose, goesOn, closes, stepped, openedBy, performed, judged, call}
+use Rattle.engine.specs.Calls.{Call, Engine, judge, begun, act, woken, tested, goesOn, closes, stepped, openedBy, performed, judged, call}
 use Rattle.engine.proofs.Standing.{few-queued}
 use Rattle.engine.proofs.Keeping.{Readers, Kept, acted-stood}
 
 module _ (readers : Readers) (e : Engine) (c : Call) (k : Kept (e .state)) where
   abbrev s : State
-  s = begun (e .state) (c .clock)
+  s = begun (e .state) (c .asked .clock)
 
   abbrev a : Acted
-  a = act s (c .action) (c .input)
+  a = act s (c .asked .action) (c .asked .input)
 
   abbrev o : Outcome
-  o = tested (c .quick) a (e .memory)
+  o = tested (c .asked .quick) a (e .memory)
 
   tested-few : length (o .tries) ≤ 528
   unfolding tested
-  tested-few = tries-fit (c .quick) (paymentsAt (a .batches)) (a .books) (woken (a .wakes) (e .memory)) (a .batches .queue) (few-queued (s .house .banks) (a .batches) (acted-stood readers e c k))
+  tested-few = tries-fit (c .asked .quick) (paymentsAt (a .batches)) (a .books) (woken (a .wakes) (e .memory)) (a .batches .queue) (few-queued (s .house .banks) (a .batches) (acted-stood readers e c k))
 
   ends-few : (t : Bool) → length (cond t (closes s a o) (goesOn s a o) .tries) ≤ 528
   unfolding closes goesOn
@@ -37,23 +36,19 @@ module _ (readers : Readers) (e : Engine) (c : Call) (k : Kept (e .state)) where
 
   stepped-few : length (stepped e c .tries) ≤ 528
   unfolding stepped
-  stepped-few = ends-few (isClose (c .action))
+  stepped-few = ends-few (isClose (c .asked .action))
 
   opened-few : (r : Answer) → length (openedBy r e c .tries) ≤ 528
   opened-few Done = omega arith
   opened-few (Refused r) = omega arith
 
-  performed-few : (z : Action) → length (performed z e c .tries) ≤ 528
-  performed-few Opening = opened-few (openingAnswer (e .state .day) (c .input))
-  performed-few (Message n) = stepped-few
-  performed-few (SubLimit n v) = stepped-few
-  performed-few (Status n b x) = stepped-few
-  performed-few Tick = stepped-few
-  performed-few Close = stepped-few
-  performed-few (ClosingBook d) = omega arith
+  performed-few : (z : Kind) → length (performed z e c .tries) ≤ 528
+  performed-few opens = opened-few (openingAnswer (e .state .day) (c .asked .input))
+  performed-few steps = stepped-few
+  performed-few (gives d) = omega arith
 
   judged-few : (r : Answer) → length (judged r e c .tries) ≤ 528
-  judged-few Done = performed-few (c .action)
+  judged-few Done = performed-few (kindOf (c .asked .action))
   judged-few (Refused r) = omega arith
 
   pub call-tries : length (call e c .tries) ≤ 528

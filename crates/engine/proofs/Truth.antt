@@ -1,6 +1,7 @@
 -- Laws of yes and no.
 use mathlib.Core.Path.{_≡_, refl, sym}
-use mathlib.Core.Bool.{Bool, true, false, _||_, _&&_, false≢true}
+pub use Rattle.names.proofs.Laws.{and-true}
+use mathlib.Core.Bool.{Bool, true, false, _||_, false≢true}
 
 pub or-right : (x y : Bool) → y ≡ true → (x || y) ≡ true
 or-right true y e = refl
@@ -13,7 +14,3 @@ or-second false y h e = h
 pub or-false : (x y : Bool) → (x || y) ≡ false → (x ≡ false) × (y ≡ false)
 or-false true y h = absurd (false≢true (sym h))
 or-false false y h = (refl, h)
-
-pub and-true : (x y : Bool) → (x && y) ≡ true → (x ≡ true) × (y ≡ true)
-and-true true y h = (refl, h)
-and-true false y h = absurd (false≢true h)

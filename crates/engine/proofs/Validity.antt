@@ -18,16 +18,15 @@ use Rattle.queue.specs.Tests.{Outcome, fuel}
 use Rattle.book.specs.Range.{Each}
 use Rattle.engine.specs.declared.Phase.{Phase}
 use Rattle.engine.specs.declared.Phase.the-variants.{Fresh, Open, Closed}
-use Rattle.engine.specs.declared.Action.{Action}
-use Rattle.engine.specs.declared.Action.the-variants.{Opening, Message, SubLimit, Status, Tick, Close, ClosingBook}
 use Rattle.engine.specs.declared.Answer.{Answer}
 use Rattle.engine.specs.declared.Answer.the-variants.{Done, Refused}
+use Rattle.engine.specs.Kinds.{Kind, opens, steps, gives, kindOf, isOpening, isClose}
 use Rattle.engine.specs.State.{Batch, Place, live, noEntry, State, fresh, noBatches, paymentsAt}
 use Rattle.engine.specs.Messages.{Acted, today}
 use Rattle.engine.specs.Joining.{join}
 use Rattle.engine.specs.Ending.{afterTest, settledReplies}
 use Rattle.engine.specs.Days.{isFresh, opened, isLater, checked, openingAnswer}
-use Rattle.engine.specs.Calls.{Call, Engine, isOpen, isClosed, isOpening, roomNeeded, rowsNeeded, rightDay, judge, begun, act, woken, tested, isClose, replies, left, lastReplies, goesOn, closes, stepped, openedBy, bookGiven, performed, judged, call}
+use Rattle.engine.specs.Calls.{Call, Engine, isOpen, isClosed, roomNeeded, rowsNeeded, rightDay, dayFor, judge, begun, act, woken, tested, replies, left, lastReplies, goesOn, closes, stepped, openedBy, bookGiven, performed, judged, call}
 use Rattle.engine.specs.Rules.{RightEntry, remembered, isReference, isBin, RightKnown, Opened, Idle, ValidIn, Valid, liveMessages, notedToday}
 use Rattle.engine.proofs.Truth.{and-true}
 use Rattle.engine.proofs.Agreement.{right-day}
@@ -97,12 +96,12 @@ is-later Sound true r h = refl
 is-later Sound false r h = let z : _≡_ {A = ℕ} 0 1 = cc in absurd (omega arith)
 is-later (Fault q) t r h = let z : _≡_ {A = ℕ} 0 1 = cc in absurd (omega arith)
 
-pub right-clock : (s : State) (c : Call) → judge s c ≡ Done → c .clock < 86400
+pub right-clock : (s : State) (c : Call) → judge s c ≡ Done → c .asked .clock < 86400
 unfolding judge
 right-clock s c h =
-    ltb-true (c .clock) 86400 (go (ltb (c .clock) 86400) (isOpening (c .action) || leb (s .day .clock) (c .clock)) (rightDay (c .action) (s .day)) h)
+    ltb-true (c .asked .clock) 86400 (go (ltb (c .asked .clock) 86400) (isOpening (c .asked .action) || leb (s .day .clock) (c .asked .clock)) (rightDay (c .asked .action) (s .day)) h)
   where
-    go : (t u v : Bool) → cond ((t && u) && v) (cond (leb (roomNeeded (c .action) s) (c .room) && leb rowsNeeded (c .rows)) Done (Refused ShortBuffer)) (Refused WrongMoment) ≡ Done → t ≡ true
+    go : (t u v : Bool) → cond ((t && u) && v) (cond (leb (roomNeeded (c .asked .action) s) (c .room) && leb rowsNeeded (c .rows)) Done (Refused ShortBuffer)) (Refused WrongMoment) ≡ Done → t ≡ true
     go true u v h = refl
     go false u v h = let z : _≡_ {A = ℕ} 0 1 = cc in absurd (omega arith)
 
@@ -120,35 +119,35 @@ module _ (readers : Readers) (e : Engine) (c : Call) (v : Valid (e .state)) wher
   k = valid-kept (e .state) v
 
   abbrev s : State
-  s = begun (e .state) (c .clock)
+  s = begun (e .state) (c .asked .clock)
 
   abbrev a : Acted
-  a = act s (c .action) (c .input)
+  a = act s (c .asked .action) (c .asked .input)
 
   abbrev o : Outcome
-  o = tested (c .quick) a (e .memory)
+  o = tested (c .asked .quick) a (e .memory)
 
   module _ (h : Opened (e .state)) where
     pub acted-known : RightKnown (today s) (a .known)
     unfolding begun
-    acted-known = known-kept s (requestAt (c .input)) (readers .texts (c .input)) (h .known) (did s (c .action) (c .input))
+    acted-known = known-kept s (requestAt (c .asked .input)) (readers .texts (c .asked .input)) (h .known) (did s (c .asked .action) (c .asked .input))
 
     acted-binned : Binned (remembered (today s) (a .known .bins)) (a .batches .places)
     unfolding begun join
     acted-binned =
-        bins-kept s (requestAt (c .input)) (readers .texts (c .input)) (binned _ (e .state .batches .places) (h .bins-differ) (h .bins-remembered)) (did s (c .action) (c .input))
+        bins-kept s (requestAt (c .asked .input)) (readers .texts (c .asked .input)) (binned _ (e .state .batches .places) (h .bins-differ) (h .bins-remembered)) (did s (c .asked .action) (c .asked .input))
 
     pub left-binned : Binned (remembered (today s) (a .known .bins)) (left s a o .places)
     unfolding left afterTest
     left-binned = bins-emptied _ (o .done) (a .batches .places) acted-binned
 
     pub acted-counted : Counted s a
-    acted-counted = counted s (requestAt (c .input)) (readers .texts (c .input)) (did s (c .action) (c .input))
+    acted-counted = counted s (requestAt (c .asked .input)) (readers .texts (c .asked .input)) (did s (c .asked .action) (c .asked .input))
 
     pub done-once : (p : ℕ) → times p (o .done) ≤ 1
     unfolding tested
     done-once p =
-        omega (arith, test-times (c .quick) (paymentsAt (a .batches)) (fuel (a .batches .queue)) p (a .books) (woken (a .wakes) (e .memory)) (a .batches .queue), at-most-once (s .house .banks) (acted-stood readers e c k .each p))
+        omega (arith, test-times (c .asked .quick) (paymentsAt (a .batches)) (fuel (a .batches .queue)) p (a .books) (woken (a .wakes) (e .memory)) (a .batches .queue), at-most-once (s .house .banks) (acted-stood readers e c k .each p))
 
     -- texts and live messages after the test
     pub left-answered : length (replies s a o) + liveMessages (left s a o .places) ≤ liveMessages (s .batches .places) + acted-counted .new
@@ -165,7 +164,7 @@ module _ (readers : Readers) (e : Engine) (c : Call) (v : Valid (e .state)) wher
     close-answered =
         close-few (s .day) (today s) (left s a o) (λ p x i. standing-bin (s .house .banks) x i (tested-stood readers e c k .each p)) (a .known .bins) (acted-known .bins-once)
 
-    module _ (t : c .clock < 86400) where
+    module _ (t : c .asked .clock < 86400) where
       goes-opened : Opened (goesOn s a o .engine .state)
       unfolding goesOn begun
       goes-opened = record {
@@ -211,32 +210,32 @@ module _ (readers : Readers) (e : Engine) (c : Call) (v : Valid (e .state)) wher
 
       stepped-valid : isOpen (e .state .day .phase) ≡ true → Valid (stepped e c .engine .state)
       unfolding stepped
-      stepped-valid i = ends-valid (isClose (c .action)) i
+      stepped-valid i = ends-valid (isClose (c .asked .action)) i
 
-  pub later : openingAnswer (e .state .day) (c .input) ≡ Done → isLater (e .state .day) (dayIn (c .input)) ≡ true
+  pub later : openingAnswer (e .state .day) (c .asked .input) ≡ Done → isLater (e .state .day) (dayIn (c .asked .input)) ≡ true
   unfolding openingAnswer
-  later d = is-later (bookCheck (c .input)) (isLater (e .state .day) (dayIn (c .input))) WrongMoment d
+  later d = is-later (bookCheck (c .asked .input)) (isLater (e .state .day) (dayIn (c .asked .input))) WrongMoment d
 
-  opened-valid : (r : Answer) → openingAnswer (e .state .day) (c .input) ≡ r → c .clock < 86400 → isOpen (e .state .day .phase) ≡ false → Valid (openedBy r e c .engine .state)
+  opened-valid : (r : Answer) → openingAnswer (e .state .day) (c .asked .input) ≡ r → c .asked .clock < 86400 → isOpen (e .state .day .phase) ≡ false → Valid (openedBy r e c .engine .state)
   unfolding opened
   opened-valid Done d t i =
-      let b = readers .books (c .input) (sound-book (e .state) (c .input) d) in
+      let b = readers .books (c .asked .input) (sound-book (e .state) (c .asked .input) d) in
       let w = known-in (e .state) (e .state .day .phase) v in
-      let l : e .state .day .date ≤ dayIn (c .input) = later-in (e .state) (e .state .day .phase) (dayIn (c .input)) v (later d) in
+      let l : e .state .day .date ≤ dayIn (c .asked .input) = later-in (e .state) (e .state .day .phase) (dayIn (c .asked .input)) v (later d) in
       record {
         date = b .date;
         clock = t;
         some-streams = b .some-streams;
         some-banks = b .some-banks;
         house = b .house;
-        batches = rw (k .idle i) (right (length (banksIn (c .input))) noBatches (free-stood (length (banksIn (c .input)))));
+        batches = rw (k .idle i) (right (length (banksIn (c .asked .input))) noBatches (free-stood (length (banksIn (c .asked .input)))));
         known = record {
           references-long = w .references-long;
           bins-long = w .bins-long;
-          references = entries-later (e .state .day .date) (dayIn (c .input)) l (λ x. isReference x) (e .state .known .references) (w .references);
-          bins = entries-later (e .state .day .date) (dayIn (c .input)) l (λ x. isBin x) (e .state .known .bins) (w .bins);
-          references-once = once-later (e .state .day .date) (dayIn (c .input)) l (λ x. isReference x) (e .state .known .references) (w .references) (w .references-once);
-          bins-once = once-later (e .state .day .date) (dayIn (c .input)) l (λ x. isBin x) (e .state .known .bins) (w .bins) (w .bins-once);
+          references = entries-later (e .state .day .date) (dayIn (c .asked .input)) l (λ x. isReference x) (e .state .known .references) (w .references);
+          bins = entries-later (e .state .day .date) (dayIn (c .asked .input)) l (λ x. isBin x) (e .state .known .bins) (w .bins);
+          references-once = once-later (e .state .day .date) (dayIn (c .asked .input)) l (λ x. isReference x) (e .state .known .references) (w .references) (w .references-once);
+          bins-once = once-later (e .state .day .date) (dayIn (c .asked .input)) l (λ x. isBin x) (e .state .known .bins) (w .bins) (w .bins-once);
         };
         bins-differ = rw (k .idle i) tt;
         bins-remembered = rw (k .idle i) tt;
@@ -244,7 +243,7 @@ module _ (readers : Readers) (e : Engine) (c : Call) (v : Valid (e .state)) wher
       }
   opened-valid (Refused r) d t i = v
 
-  book-valid : (d : ℕ) → c .clock < 86400 → isClosed (e .state .day .phase) ≡ true → Valid (bookGiven e c d .engine .state)
+  book-valid : (d : ℕ) → c .asked .clock < 86400 → isClosed (e .state .day .phase) ≡ true → Valid (bookGiven e c d .engine .state)
   book-valid d t i =
       let w = closed-in (e .state) (e .state .day .phase) v i in
       subst (λ (p : Phase). ValidIn p (bookGiven e c d .engine .state)) (sym (closed-phase (e .state .day .phase) i)) (
@@ -263,17 +262,13 @@ module _ (readers : Readers) (e : Engine) (c : Call) (v : Valid (e .state)) wher
         w .1,
       )
 
-  performed-valid : (z : Action) → c .clock < 86400 → rightDay z (e .state .day) ≡ true → Valid (performed z e c .engine .state)
-  performed-valid Opening t h = opened-valid (openingAnswer (e .state .day) (c .input)) refl t (not-true _ h)
-  performed-valid (Message n) t h = stepped-valid (open-in (e .state) (e .state .day .phase) v h) t h
-  performed-valid (SubLimit n x) t h = stepped-valid (open-in (e .state) (e .state .day .phase) v h) t h
-  performed-valid (Status n b l) t h = stepped-valid (open-in (e .state) (e .state .day .phase) v h) t h
-  performed-valid Tick t h = stepped-valid (open-in (e .state) (e .state .day .phase) v h) t h
-  performed-valid Close t h = stepped-valid (open-in (e .state) (e .state .day .phase) v h) t h
-  performed-valid (ClosingBook d) t h = book-valid d t (and-true (isClosed (e .state .day .phase)) _ h .0)
+  performed-valid : (z : Kind) → c .asked .clock < 86400 → dayFor z (e .state .day) ≡ true → Valid (performed z e c .engine .state)
+  performed-valid opens t h = opened-valid (openingAnswer (e .state .day) (c .asked .input)) refl t (not-true _ h)
+  performed-valid steps t h = stepped-valid (open-in (e .state) (e .state .day .phase) v h) t h
+  performed-valid (gives d) t h = book-valid d t (and-true (isClosed (e .state .day .phase)) _ h .0)
 
   judged-valid : (r : Answer) → judge (e .state) c ≡ r → Valid (judged r e c .engine .state)
-  judged-valid Done h = performed-valid (c .action) (right-clock (e .state) c h) (right-day (e .state) c h)
+  judged-valid Done h = performed-valid (kindOf (c .asked .action)) (right-clock (e .state) c h) (right-day (e .state) c h)
   judged-valid (Refused r) h = v
 
   pub call-valid : Valid (call e c .engine .state)

@@ -6,46 +6,38 @@ use mathlib.Core.List.{List, [], _∷_, _++_}
 use lib.Dec.{eqb}
 use Rattle.codes.specs.declared.Code.{Code}
 use Rattle.queue.specs.Tests.{Outcome}
-use Rattle.engine.specs.declared.Action.{Action}
-use Rattle.engine.specs.declared.Action.the-variants.{Opening, Message, SubLimit, Status, Tick, Close, ClosingBook}
 use Rattle.engine.specs.declared.Answer.{Answer}
 use Rattle.engine.specs.declared.Answer.the-variants.{Done, Refused}
-use Rattle.engine.specs.State.{sameCode, noCode, Place, Entry, State, placeMessages}
-use Rattle.engine.specs.State.{Message as Text}
+use Rattle.engine.specs.Kinds.{Kind, kindOf, onKind, isClose}
+use Rattle.engine.specs.State.{sameCode, noCode, Message, Place, Entry, State, placeMessages}
 use Rattle.engine.specs.Replies.{Reply, settlement, recall}
 use Rattle.engine.specs.Messages.{Acted}
 use Rattle.engine.specs.Days.{openingAnswer}
-use Rattle.engine.specs.Calls.{Call, Engine, Result, judge, begun, act, tested, isClose, replies, lastReplies, call}
+use Rattle.engine.specs.Calls.{Call, Engine, judge, begun, act, tested, replies, lastReplies, call}
 
 -- ---- a call's replies
 
 -- a call's action, and its test
 abbrev pub acted : Engine → Call → Acted
-acted e c = act (begun (e .state) (c .clock)) (c .action) (c .input)
+acted e c = act (begun (e .state) (c .asked .clock)) (c .asked .action) (c .asked .input)
 
 abbrev pub outcome : Engine → Call → Outcome
-outcome e c = tested (c .quick) (acted e c) (e .memory)
+outcome e c = tested (c .asked .quick) (acted e c) (e .memory)
 
 -- the replies of a call with a test: its action's, the test's, and at the close the last ones
 abbrev pub steppedReplies : Engine → Call → List Reply
 steppedReplies e c =
-    let s : State = begun (e .state) (c .clock) in
-    cond (isClose (c .action))
+    let s : State = begun (e .state) (c .asked .clock) in
+    cond (isClose (c .asked .action))
     (replies s (acted e c) (outcome e c) ++ lastReplies s (acted e c) (outcome e c))
     (replies s (acted e c) (outcome e c))
 
-abbrev pub repliesBy : Answer → Action → Engine → Call → List Reply
-repliesBy (Refused r) x e c = []
-repliesBy Done Opening e c = []
-repliesBy Done (Message n) e c = steppedReplies e c
-repliesBy Done (SubLimit k v) e c = steppedReplies e c
-repliesBy Done (Status k b l) e c = steppedReplies e c
-repliesBy Done Tick e c = steppedReplies e c
-repliesBy Done Close e c = steppedReplies e c
-repliesBy Done (ClosingBook d) e c = []
+abbrev pub repliesBy : Answer → Kind → Engine → Call → List Reply
+repliesBy (Refused r) k e c = []
+repliesBy Done k e c = onKind k [] (steppedReplies e c) (λ date. [])
 
 unfoldable pub repliesOf : Engine → Call → List Reply
-repliesOf e c = repliesBy (judge (e .state) c) (c .action) e c
+repliesOf e c = repliesBy (judge (e .state) c) (kindOf (c .asked .action)) e c
 
 -- ---- references
 
@@ -69,7 +61,7 @@ notedOn day [] = []
 notedOn day (e ∷ es) = cond (not (sameCode (e .code) noCode) && eqb (e .day) day) (e .code ∷ notedOn day es) (notedOn day es)
 
 -- the references of some messages, and of all live messages
-unfoldable pub referencesOf : List Text → List Code
+unfoldable pub referencesOf : List Message → List Code
 referencesOf [] = []
 referencesOf (m ∷ ms) = m .reference ∷ referencesOf ms
 
@@ -96,23 +88,12 @@ abbrev pub startsAnew : Answer → List Code → List Code
 startsAnew Done l = []
 startsAnew (Refused r) l = l
 
-abbrev pub answersBy : Answer → Action → Engine → Call → List Code → List Code
-answersBy (Refused r) x e c l = l
-answersBy Done Opening e c l = startsAnew (openingAnswer (e .state .day) (c .input)) l
-answersBy Done (Message n) e c l = l ++ repliedTo (repliesBy Done (Message n) e c)
-answersBy Done (SubLimit k v) e c l = l ++ repliedTo (repliesBy Done (SubLimit k v) e c)
-answersBy Done (Status k b x) e c l = l ++ repliedTo (repliesBy Done (Status k b x) e c)
-answersBy Done Tick e c l = l ++ repliedTo (repliesBy Done Tick e c)
-answersBy Done Close e c l = l ++ repliedTo (repliesBy Done Close e c)
-answersBy Done (ClosingBook d) e c l = l
+abbrev pub answersBy : Answer → Kind → Engine → Call → List Code → List Code
+answersBy (Refused r) k e c l = l
+answersBy Done k e c l = onKind k (startsAnew (openingAnswer (e .state .day) (c .asked .input)) l) (l ++ repliedTo (steppedReplies e c)) (λ date. l)
 
 unfoldable pub answers : Engine → Call → List Code → List Code
-answers e c l = answersBy (judge (e .state) c) (c .action) e c l
-
--- an engine after some calls, f being what a call leaves
-unfoldable pub after : (Engine → Call → Result) → Engine → List Call → Engine
-after f e [] = e
-after f e (c ∷ cs) = after f (f e c .engine) cs
+answers e c l = answersBy (judge (e .state) c) (kindOf (c .asked .action)) e c l
 
 -- what was answered on the last opened day
 unfoldable pub answeredAfter : Engine → List Code → List Call → List Code

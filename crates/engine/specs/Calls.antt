@@ -8,30 +8,34 @@ use Rattle.chars.specs.declared.Refusal.{Refusal}
 use Rattle.chars.specs.declared.Refusal.the-variants.{WrongMoment, ShortBuffer}
 use Rattle.dates.specs.Dates.{dayOf}
 use Rattle.request.specs.Request.{requestAt}
-use Rattle.queue.specs.Memory.{wake}
+use Rattle.queue.specs.Memory.{wake, forgotten}
 use Rattle.queue.specs.Tests.{Outcome, test, fuel}
-use Rattle.queue.specs.Day.{forgotten}
 use Rattle.engine.specs.declared.Phase.{Phase}
 use Rattle.engine.specs.declared.Phase.the-variants.{Fresh, Open, Closed}
 use Rattle.engine.specs.declared.Action.{Action}
 use Rattle.engine.specs.declared.Action.the-variants.{Opening, Message, SubLimit, Status, Tick, Close, ClosingBook}
 use Rattle.engine.specs.declared.Answer.{Answer}
 use Rattle.engine.specs.declared.Answer.the-variants.{Done, Refused}
-use Rattle.engine.specs.State.{Day, Batches, State, fresh, noMemory, noBatches, paymentsAt, withClock, withTexts, withPhase}
+use Rattle.engine.specs.State.{Day, secondsOfDay, Batches, State, fresh, noMemory, noBatches, paymentsAt, withClock, withTexts, withPhase}
 use Rattle.engine.specs.Replies.{Reply, textsFrom}
+use Rattle.engine.specs.Kinds.{Kind, kindOf, onKind, isOpening, isClose}
 use Rattle.engine.specs.Joining.{join}
 use Rattle.engine.specs.Messages.{Acted, Waking, bank, place, message, leaving}
 use Rattle.engine.specs.Changes.{subLimit, status}
 use Rattle.engine.specs.Ending.{afterTest, settledReplies, closeReplies}
 use Rattle.engine.specs.Days.{opened, openingAnswer, rightDate, closingText}
 
--- "Each engine call but clearing carries the clock in seconds, an output buffer and a try row": of these two the model has the lengths,
--- `room` and `rows`. `input` is the text or the book.
-pub record Call : Type 0 where
+-- what a call asks: its test, the clock, its action; `input` is the text or the book
+pub record Asked : Type 0 where
   pub quick : Bool
   pub clock : ℕ
   pub action : Action
   pub input : List ℕ
+
+-- "Each engine call but clearing carries the clock in seconds, an output buffer and a try row": of these two the model has the lengths,
+-- `room` and `rows`
+pub record Call : Type 0 where
+  pub asked : Asked
   pub room : ℕ
   pub rows : ℕ
 
@@ -49,18 +53,9 @@ pub record Result : Type 0 where
 
 -- ---- 05 and 07
 
-abbrev pub isOpening : Action → Bool
-isOpening Opening = true
-isOpening (Message n) = false
-isOpening (SubLimit k c) = false
-isOpening (Status k b l) = false
-isOpening Tick = false
-isOpening Close = false
-isOpening (ClosingBook d) = false
-
 -- "clock not in 0 to 86,399 or before the last one (an opening sets the clock anew)"
 abbrev pub rightClock : Action → Day → ℕ → Bool
-rightClock a d clock = ltb clock 86400 && (isOpening a || leb (d .clock) clock)
+rightClock a d clock = ltb clock secondsOfDay && (isOpening a || leb (d .clock) clock)
 
 abbrev pub isOpen : Phase → Bool
 isOpen Fresh = false
@@ -74,24 +69,21 @@ isClosed Closed = true
 
 -- "day not open (an opening wants a fresh start or a closed day, a closing book a closed day), a closing book's date not true, ..
 -- not later than the last opened day's"
+abbrev pub dayFor : Kind → Day → Bool
+dayFor k d = onKind k (not (isOpen (d .phase))) (isOpen (d .phase)) (λ date. isClosed (d .phase) && rightDate d (dayOf date))
+
 abbrev pub rightDay : Action → Day → Bool
-rightDay Opening d = not (isOpen (d .phase))
-rightDay (Message n) d = isOpen (d .phase)
-rightDay (SubLimit k c) d = isOpen (d .phase)
-rightDay (Status k b l) d = isOpen (d .phase)
-rightDay Tick d = isOpen (d .phase)
-rightDay Close d = isOpen (d .phase)
-rightDay (ClosingBook date) d = isClosed (d .phase) && rightDate d (dayOf date)
+rightDay a d = dayFor (kindOf a) d
 
 -- "output buffer under 33,705 bytes (closing book: under its own length)"
+abbrev pub mostWritten : ℕ
+mostWritten = 33705
+
+abbrev pub roomFor : Kind → State → ℕ
+roomFor k s = onKind k mostWritten mostWritten (λ date. length (closingText s date))
+
 abbrev pub roomNeeded : Action → State → ℕ
-roomNeeded Opening s = 33705
-roomNeeded (Message n) s = 33705
-roomNeeded (SubLimit k c) s = 33705
-roomNeeded (Status k b l) s = 33705
-roomNeeded Tick s = 33705
-roomNeeded Close s = 33705
-roomNeeded (ClosingBook date) s = length (closingText s date)
+roomNeeded a s = roomFor (kindOf a) s
 
 -- "try row under 528 numbers"
 abbrev pub rowsNeeded : ℕ
@@ -100,8 +92,8 @@ rowsNeeded = 528
 -- "06, then 05, then 07, come before all others in every engine call"; the tables' own test is beside this one
 unfoldable pub judge : State → Call → Answer
 judge s c =
-    cond (rightClock (c .action) (s .day) (c .clock) && rightDay (c .action) (s .day))
-    (cond (leb (roomNeeded (c .action) s) (c .room) && leb rowsNeeded (c .rows)) Done (Refused ShortBuffer))
+    cond (rightClock (c .asked .action) (s .day) (c .asked .clock) && rightDay (c .asked .action) (s .day))
+    (cond (leb (roomNeeded (c .asked .action) s) (c .room) && leb rowsNeeded (c .rows)) Done (Refused ShortBuffer))
     (Refused WrongMoment)
 
 -- ---- (a), (b), (c), (d)
@@ -138,15 +130,6 @@ woken (w ∷ ws) m = woken ws (woke w m)
 -- (d) the queue test
 unfoldable pub tested : Bool → Acted → List ℕ → Outcome
 tested quick a m = test quick (paymentsAt (a .batches)) (fuel (a .batches .queue)) (a .books) (woken (a .wakes) m) (a .batches .queue)
-
-abbrev pub isClose : Action → Bool
-isClose Opening = false
-isClose (Message n) = false
-isClose (SubLimit k c) = false
-isClose (Status k b l) = false
-isClose Tick = false
-isClose Close = true
-isClose (ClosingBook d) = false
 
 module _ (s : State) (a : Acted) (o : Outcome) where
   -- the texts of the action and of the test
@@ -197,10 +180,10 @@ refused e r = record { answer = Refused r; out = []; tries = []; engine = e }
 
 unfoldable pub stepped : Engine → Call → Result
 stepped e c =
-    let s : State = begun (e .state) (c .clock) in
-    let a : Acted = act s (c .action) (c .input) in
-    let o : Outcome = tested (c .quick) a (e .memory) in
-    cond (isClose (c .action)) (closes s a o) (goesOn s a o)
+    let s : State = begun (e .state) (c .asked .clock) in
+    let a : Acted = act s (c .asked .action) (c .asked .input) in
+    let o : Outcome = tested (c .asked .quick) a (e .memory) in
+    cond (isClose (c .asked .action)) (closes s a o) (goesOn s a o)
 
 -- ---- opening and closing book
 
@@ -209,7 +192,7 @@ openedBy Done e c = record {
   answer = Done;
   out = [];
   tries = [];
-  engine = record { state = opened (e .state) (c .clock) (c .input); memory = e .memory };
+  engine = record { state = opened (e .state) (c .asked .clock) (c .asked .input); memory = e .memory };
 }
 openedBy (Refused r) e c = refused e r
 
@@ -220,7 +203,7 @@ bookGiven e c date = record {
   tries = [];
   engine = record {
     state = record {
-      day = withClock (e .state .day) (c .clock);
+      day = withClock (e .state .day) (c .asked .clock);
       house = e .state .house;
       books = e .state .books;
       batches = e .state .batches;
@@ -230,17 +213,11 @@ bookGiven e c date = record {
   };
 }
 
-abbrev pub performed : Action → Engine → Call → Result
-performed Opening e c = openedBy (openingAnswer (e .state .day) (c .input)) e c
-performed (Message n) e c = stepped e c
-performed (SubLimit k x) e c = stepped e c
-performed (Status k b l) e c = stepped e c
-performed Tick e c = stepped e c
-performed Close e c = stepped e c
-performed (ClosingBook date) e c = bookGiven e c date
+abbrev pub performed : Kind → Engine → Call → Result
+performed k e c = onKind k (openedBy (openingAnswer (e .state .day) (c .asked .input)) e c) (stepped e c) (bookGiven e c)
 
 abbrev pub judged : Answer → Engine → Call → Result
-judged Done e c = performed (c .action) e c
+judged Done e c = performed (kindOf (c .asked .action)) e c
 judged (Refused r) e c = refused e r
 
 -- one call on tables that keep the rules

@@ -1,5 +1,5 @@
 -- Sub-limit changes and status changes.
-use Prim.Native.Nat.{ℕ}
+use Prim.Native.Nat.{ℕ, _+_, _*_, _%_}
 use mathlib.Core.Bool.{Bool, false, _||_, cond}
 use mathlib.Core.List.{List, [], _∷_}
 use lib.Dec.{eqb, leb}
@@ -7,8 +7,8 @@ use Rattle.chars.specs.Words.{bytes, member}
 use Rattle.chars.specs.declared.Refusal.the-variants.{NothingThere, OutOfRange, UnknownBank, WrongEsa}
 use Rattle.codes.specs.declared.Code.{Code}
 use Rattle.settle.specs.Payments.{Payment, credit, debit}
+use Rattle.book.specs.Book.{mostMoney}
 use Rattle.queue.specs.Promise.{limited}
-use Rattle.queue.specs.Day.{relabel}
 use Rattle.engine.specs.declared.Answer.the-variants.{Done}
 use Rattle.engine.specs.State.{onFound, Message, Place, free, live, State, placeAt, paymentsAt, withPlace}
 use Rattle.engine.specs.Messages.{Acted, bank, place, untouched, leaving, bankPlace, waiting}
@@ -17,7 +17,7 @@ use Rattle.engine.specs.Messages.{Acted, bank, place, untouched, leaving
 unfoldable pub subLimit : State → (code cents : ℕ) → Acted
 subLimit s code cents =
     onFound (bankPlace (s .house) code) (untouched s UnknownBank) (λ p.
-    cond (leb cents 6400000000000000)
+    cond (leb cents mostMoney)
     (record { answer = Done; replies = []; wakes = bank p ∷ []; books = limited (s .books) p cents; batches = s .batches; known = s .known })
     (untouched s OutOfRange))
 
@@ -26,6 +26,16 @@ unfoldable pub hasDebit : ℕ → List Payment → Bool
 hasDebit k [] = false
 hasDebit k (credit j c ∷ ps) = hasDebit k ps
 hasDebit k (debit l j c ∷ ps) = eqb j k || hasDebit k ps
+
+-- a debit's four letters with another in the first place, which is ESA's
+unfoldable pub withEsa : (letter letters : ℕ) → ℕ
+withEsa letter letters = letter * 16777216 + letters % 16777216
+
+-- the debit of a bank, relabelled
+unfoldable pub relabel : (bank letter : ℕ) → List Payment → List Payment
+relabel k x [] = []
+relabel k x (credit j c ∷ ps) = credit j c ∷ relabel k x ps
+relabel k x (debit l j c ∷ ps) = debit (cond (eqb j k) (withEsa x l) l) j c ∷ relabel k x ps
 
 unfoldable pub relettered : (bank letter : ℕ) → List Message → List Message
 relettered k x [] = []

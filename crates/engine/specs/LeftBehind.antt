@@ -1,32 +1,87 @@
--- "Refusal numbers", the column "left behind": what the action of a call leaves that is carried out.
+-- "Refusal numbers", the column "left behind": what a call with steps leaves that answers a number, by the number.
 use Prim.Native.Nat.{ℕ}
 use mathlib.Core.Path.{_≡_}
-use mathlib.Core.Bool.{true}
-use mathlib.Core.List.{List, [], _∷_}
+use mathlib.Core.Bool.{cond}
+use mathlib.Core.List.{List, [], _∷_, _++_}
+use lib.Dec.{eqb}
+use lib.ListN.{set}
 use Rattle.chars.specs.Words.{member}
 use Rattle.chars.specs.Refusals.{numberOf}
 use Rattle.chars.specs.declared.Refusal.{Refusal}
 use Rattle.codes.specs.declared.Code.{Code}
+use Rattle.request.specs.Request.{requestAt}
+use Rattle.request.specs.declared.Outcome.{Outcome as Read}
+use Rattle.request.specs.declared.Outcome.the-variants.{Settlement, Recall, Refused as Unread}
 use Rattle.request.specs.declared.Reading.{Reading}
+use Rattle.response.specs.declared.Outcome.the-variants.{Rejected}
+use Rattle.response.specs.declared.Answer.the-variants.{Kept}
+use Rattle.engine.specs.declared.Action.{Action}
+use Rattle.engine.specs.declared.Action.the-variants.{Opening, Message as Text, SubLimit, Status, Tick, Close, ClosingBook}
 use Rattle.engine.specs.declared.Answer.the-variants.{Done, Refused}
-use Rattle.engine.specs.State.{Message, Batches, Known, State}
-use Rattle.engine.specs.Replies.{Reply}
-use Rattle.engine.specs.Messages.{Acted, leaving, untouched, rejecting, noted}
+use Rattle.engine.specs.Kinds.{steps, kindOf}
+use Rattle.engine.specs.State.{onFound, seek, isFree, Message, free, Known, State, placeAt, placeMessages, placeBin}
+use Rattle.engine.specs.Replies.{settlement, recall, repliesTo}
+use Rattle.engine.specs.Messages.{Acted, place, leaving, untouched, isThere, streamPlace, assembling, reference, bin, streamCode, isKnown, withReference, withBin, arrived}
+use Rattle.engine.specs.Calls.{Call, Engine, Result, judge, begun, tested, goesOn}
 
--- the numbers that can end a batch, and those that can answer a message alone; all others touch no batch, note nothing and write nothing
-abbrev pub endsBatch : List ℕ
-endsBatch = 1 ∷ 74 ∷ 76 ∷ 77 ∷ 78 ∷ 84 ∷ 87 ∷ []
+module _ (s : State) (r : Reading) where
+  -- "batch ended": its place is zeroed, and its messages are answered with the number. It was being assembled, so queue and order of completion
+  -- are as they were
+  abbrev pub batchEnded : Refusal → (p : ℕ) → List Message → Code → Known → Acted
+  batchEnded q p messages bin k = record {
+    answer = Refused q;
+    replies = repliesTo messages bin (Rejected (numberOf q));
+    wakes = place p ∷ [];
+    books = s .books;
+    batches = record { places = set (s .batches .places) p free; pending = s .batches .pending; queue = s .batches .queue };
+    known = k;
+  }
 
-abbrev pub answersAlone : List ℕ
-answersAlone = 2 ∷ 87 ∷ []
+  -- "rejects the batch with this message in it": the one that is being assembled, or the one that the message begins, whose BIN stays noted; for
+  -- a BIN that is remembered and not being assembled "this message alone"
+  abbrev pub ownEnded : Refusal → Acted
+  ownEnded q =
+      cond (isKnown s r)
+      (onFound (assembling (s .batches) (bin s r))
+      (leaving s (Refused q) (settlement (reference s r) (bin s r) (Rejected (numberOf q)) ∷ []) [] (s .batches) (withReference s r))
+      (λ p. batchEnded q p (placeMessages (placeAt (s .batches) p) ++ (arrived s r ∷ [])) (placeBin (placeAt (s .batches) p)) (withReference s r)))
+      (onFound (seek isFree (s .batches .places)) (untouched s q) (λ p. batchEnded q p (arrived s r ∷ []) (bin s r) (withBin s r (withReference s r))))
 
-pub data LeftBehind (s : State) (r : Reading) : Acted → Type 0 where
-  -- the action is done
-  done : {a : Acted} → a .answer ≡ Done → LeftBehind s r a
-  -- "clock, queue test"
-  nothing : (q : Refusal) → LeftBehind s r (untouched s q)
-  -- "a recall's reference is noted and its 134 written"; "this message alone"
-  alone : (q : Refusal) (y : Reply) → member (numberOf q) answersAlone ≡ true → LeftBehind s r (leaving s (Refused q) (y ∷ []) [] (s .batches) (noted s r))
-  -- "batch ended": its messages, with or without this one, are answered with the number
-  ended : (q : Refusal) (p : ℕ) (b : Batches) (ms : List Message) (bin : Code) (k : Known) → member (numberOf q) endsBatch ≡ true
-      → LeftBehind s r (rejecting s q p b ms bin k)
+  -- a 131: 01, and what breaks a rule of step 5 (87 only where the stream is in the book), ends its batch; 74 ends the batch being assembled, and notes
+  -- nothing; 73 and 04 leave "clock, queue test"
+  abbrev pub settlementLeft : Refusal → Acted
+  settlementLeft q =
+      cond (member (numberOf q) (1 ∷ 76 ∷ 77 ∷ 78 ∷ 84 ∷ [])) (ownEnded q)
+      (cond (eqb (numberOf q) 87) (cond (isThere (streamPlace (s .house) (streamCode s r))) (ownEnded q) (untouched s q))
+      (cond (eqb (numberOf q) 74)
+      (onFound (assembling (s .batches) (bin s r)) (untouched s q) (λ p. batchEnded q p (placeMessages (placeAt (s .batches) p)) (bin s r) (s .known)))
+      (untouched s q)))
+
+  -- a 133: with 02 its "reference is noted and its 134 written"; all other numbers leave "clock, queue test"
+  abbrev pub recallLeft : Refusal → Acted
+  recallLeft q =
+      cond (eqb (numberOf q) 2) (leaving s (Refused q) (recall (reference s r) (Kept (numberOf q)) ∷ []) [] (s .batches) (withReference s r)) (untouched s q)
+
+  -- a text that is broken touches no batch
+  abbrev pub textLeft : Read → Refusal → Acted
+  textLeft Settlement q = settlementLeft q
+  textLeft Recall q = recallLeft q
+  textLeft (Unread b) q = untouched s q
+
+  -- a change that is refused leaves "clock, queue test"; a tick and the close are not refused
+  abbrev pub leftBy : Action → Refusal → Acted
+  leftBy Opening q = untouched s q
+  leftBy (Text sender) q = textLeft (r .outcome) q
+  leftBy (SubLimit code cents) q = untouched s q
+  leftBy (Status code bin letter) q = untouched s q
+  leftBy Tick q = untouched s q
+  leftBy Close q = untouched s q
+  leftBy (ClosingBook date) q = untouched s q
+
+-- a call whose action left `a` runs its queue test
+abbrev pub finished : Engine → Call → Acted → Result
+finished e c a = goesOn (begun (e .state) (c .asked .clock)) a (tested (c .asked .quick) a (e .memory))
+
+abbrev pub LeftBehind : Engine → Call → Result → Type 0
+LeftBehind e c r = judge (e .state) c ≡ Done → kindOf (c .asked .action) ≡ steps → (q : Refusal) → r .answer ≡ Refused q
+    → r ≡ finished e c (leftBy (begun (e .state) (c .asked .clock)) (requestAt (c .asked .input)) (c .asked .action) q)

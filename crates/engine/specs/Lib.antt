@@ -1,4 +1,5 @@
 pub mod Answers
+pub mod Kinds
 pub mod State
 pub mod Memory
 pub mod Replies
@@ -8,7 +9,10 @@ pub mod Changes
 pub mod Ending
 pub mod Days
 pub mod Calls
+pub mod Course
 pub mod Rules
 pub mod Answered
+pub mod Happened
+pub mod Waiting
 pub mod Promises
 pub mod LeftBehind

@@ -80,6 +80,10 @@ isMember h stream p = eqb (getD (h .flags) p 0 / 2 / 2 ^ stream % 2) 1
 
 -- ---- batches
 
+abbrev pub isThere : Found → Bool
+isThere (at p) = true
+isThere nowhere = false
+
 -- "an ended batch's place is zeroed"
 unfoldable pub ended : Batches → ℕ → Batches
 ended b p = record {
@@ -99,6 +103,38 @@ assembling b bin = onFound (batchOf b bin) nowhere (λ p. cond (waits b p) nowhe
 unfoldable pub waiting : Batches → Code → Found
 waiting b bin = onFound (batchOf b bin) nowhere (λ p. cond (waits b p) (at p) nowhere)
 
+-- "count or activation unlike the first message's"
+abbrev pub sameActivation : Activation → Activation → Bool
+sameActivation AtOnce AtOnce = true
+sameActivation AtOnce (Minute n) = false
+sameActivation (Minute m) AtOnce = false
+sameActivation (Minute m) (Minute n) = eqb m n
+
+-- "number already there"
+abbrev pub hasNumber : ℕ → List Message → Bool
+hasNumber n [] = false
+hasNumber n (m ∷ ms) = eqb (m .number) n || hasNumber n ms
+
+abbrev pub banksIn : List Payment → List ℕ
+banksIn [] = []
+banksIn (p ∷ ps) = bankOf p ∷ banksIn ps
+
+-- "When all numbers are there": they differ and are at most the count
+abbrev pub isComplete : Batch → Bool
+isComplete b = eqb (length (b .messages)) (b .count)
+
+abbrev pub isEven : Batch → Bool
+isEven b = eqb (credits (paymentsOf (b .messages))) (debits (paymentsOf (b .messages)))
+
+-- what an accepted text is: "131 or 133"
+pub data SubType : Type 0 where
+  is131 : SubType
+  is133 : SubType
+
+abbrev pub bySubType : {A : Type 0} → SubType → A → A → A
+bySubType is131 x y = x
+bySubType is133 x y = y
+
 -- ---- a message before the state
 
 module _ (s : State) where
@@ -116,6 +152,7 @@ module _ (s : State) where
   abbrev pub rejecting : Refusal → ℕ → Batches → List Message → Code → Known → Acted
   rejecting r p b messages bin k = leaving (Refused r) (repliesTo messages bin (Rejected (numberOf r))) (place p ∷ []) (ended b p) k
 
+-- Steps 1 to 6 in their order. A step that finds no fault goes on with the next, its last argument.
 module _ (s : State) (r : Reading) where
   abbrev pub reference : Code
   reference = r .head .reference .code
@@ -125,6 +162,72 @@ module _ (s : State) (r : Reading) where
 
   abbrev pub streamCode : ℕ
   streamCode = r .head .address .stream .number
+
+  -- ---- 1. "Tags and values in text order: the first break gives 87 .. No batch is touched."
+
+  abbrev pub onText : Read → (SubType → Acted) → Acted
+  onText Settlement next = next is131
+  onText Recall next = next is133
+  onText (Unread b) next = untouched s (b .refusal)
+
+  -- ---- 2. "Stream not in the book 87; sender not that stream's administrator 73. No batch is touched."
+
+  unfoldable pub onSender : (sender : ℕ) → ((stream : ℕ) → Acted) → Acted
+  onSender sender next =
+      onFound (streamPlace (s .house) streamCode) (untouched s Malformed) (λ i.
+      cond (eqb sender (administrator (s .house) i)) (next i) (untouched s WrongSender))
+
+  -- ---- 3. "Reference used by any sender .. today or on one of the 14 days before: 74. For a 131 whose BIN is being assembled, that batch is
+  -- rejected with 74."
+
+  abbrev pub repeated : SubType → Acted
+  repeated is131 =
+      onFound (assembling (s .batches) bin) (untouched s UsedReference) (λ p.
+      rejecting s UsedReference p (s .batches) (placeMessages (placeAt (s .batches) p)) bin (s .known))
+  repeated is133 = untouched s UsedReference
+
+  abbrev pub onReference : SubType → Acted → Acted
+  onReference t next = cond (isUsed (today s) reference (s .known .references)) (repeated t) next
+
+  -- ---- 4. "04 if no place for the reference is free, or if a 131's BIN is not remembered and there is no free batch or BIN place. No batch
+  -- is touched. Otherwise the reference is noted"
+
+  abbrev pub isKnown : Bool
+  isKnown = isUsed (today s) bin (s .known .bins)
+
+  abbrev pub referenceFits : Bool
+  referenceFits = isThere (vacant (today s) (s .known .references))
+
+  abbrev pub binFits : Bool
+  binFits = isKnown || (isThere (seek isFree (s .batches .places)) && isThere (vacant (today s) (s .known .bins)))
+
+  abbrev pub fits : SubType → Bool
+  fits is131 = referenceFits && binFits
+  fits is133 = referenceFits
+
+  abbrev pub withReference : Known
+  withReference = record { references = note (today s) reference (s .known .references); bins = s .known .bins }
+
+  abbrev pub onRoom : SubType → (Known → Acted) → Acted
+  onRoom t next = cond (fits t) (next withReference) (untouched s NoRoom)
+
+  -- ---- 5. "For 131: a remembered BIN that is not being assembled 87, this message alone. A new BIN is noted."
+
+  abbrev pub firstBatch : Batch
+  firstBatch = record { bin = bin; count = r .terms .count; activation = r .terms .activation; messages = [] }
+
+  abbrev pub withBin : Known → Known
+  withBin k = record { references = k .references; bins = note (today s) bin (k .bins) }
+
+  -- the batch that the message joins: its place is that of a live batch, or one that step 4 found free
+  unfoldable pub onBin : Known → (Batches → Known → ℕ → Batch → Acted) → Acted
+  onBin k next =
+      cond isKnown
+      (onFound (assembling (s .batches) bin)
+      (leaving s (Refused Malformed) (settlement reference bin (Rejected (numberOf Malformed)) ∷ []) [] (s .batches) k)
+      (λ p. onLive (placeAt (s .batches) p) (untouched s Malformed) (next (s .batches) k p)))
+      (onFound (seek isFree (s .batches .places)) (untouched s NoRoom)
+      (λ p. next (withPlace (s .batches) p (live firstBatch)) (withBin k) p firstBatch))
 
   -- a payment by its bank's place
   abbrev pub lineBank : Line → ℕ
@@ -143,17 +246,8 @@ module _ (s : State) (r : Reading) where
   abbrev pub arrived : Message
   arrived = record { reference = reference; number = r .terms .number; payments = linePayments lines }
 
-  -- ---- step 5
-
-  abbrev pub sameActivation : Activation → Activation → Bool
-  sameActivation AtOnce AtOnce = true
-  sameActivation AtOnce (Minute n) = false
-  sameActivation (Minute m) AtOnce = false
-  sameActivation (Minute m) (Minute n) = eqb m n
-
-  abbrev pub hasNumber : ℕ → List Message → Bool
-  hasNumber n [] = false
-  hasNumber n (m ∷ ms) = eqb (m .number) n || hasNumber n ms
+  abbrev pub withMessage : Batch → Batch
+  withMessage b = record { bin = b .bin; count = b .count; activation = b .activation; messages = b .messages ++ (arrived ∷ []) }
 
   -- "bank unknown 76, suspended 77, not in the stream 76, already in this batch 87"
   unfoldable pub lineRules : (stream : ℕ) → List ℕ → List Line → List Rule
@@ -165,11 +259,7 @@ module _ (s : State) (r : Reading) where
       ∷ rule (not (member (lineBank l) taken)) Malformed
       ∷ lineRules stream (lineBank l ∷ taken) ls
 
-  abbrev pub banksIn : List Payment → List ℕ
-  banksIn [] = []
-  banksIn (p ∷ ps) = bankOf p ∷ banksIn ps
-
-  -- "count or activation unlike the first message's, or number already there, 87; date before today 78, after today 84; then each
+  -- "Then: count or activation unlike the first message's, or number already there, 87; date before today 78, after today 84; then each
   -- payment in order"
   unfoldable pub messageRules : (stream : ℕ) → Batch → List Rule
   messageRules stream b =
@@ -180,22 +270,17 @@ module _ (s : State) (r : Reading) where
       ∷ rule (leb (r .terms .date .number) (today s)) FutureDate
       ∷ lineRules stream (banksIn (paymentsOf (b .messages))) lines
 
-  -- ---- step 6
+  -- "Any of these rejects the batch with this message in it."
+  abbrev pub onRules : Answer → Batches → Known → ℕ → Batch → Acted → Acted
+  onRules Done b k p x next = next
+  onRules (Refused f) b k p x next = rejecting s f p b (x .messages) (x .bin) k
 
-  abbrev pub withMessage : Batch → Batch
-  withMessage b = record { bin = b .bin; count = b .count; activation = b .activation; messages = b .messages ++ (arrived ∷ []) }
-
-  abbrev pub isComplete : Batch → Bool
-  isComplete b = eqb (length (b .messages)) (b .count)
-
-  abbrev pub isEven : Batch → Bool
-  isEven b = eqb (credits (paymentsOf (b .messages))) (debits (paymentsOf (b .messages)))
+  -- ---- 6. "When all numbers are there: 01, or pending if its activation minute has not begun, or the queue's tail."
 
   abbrev pub mayQueue : Activation → Bool
   mayQueue AtOnce = true
   mayQueue (Minute m) = hasBegun (s .day .clock) m
 
-  -- a complete batch waits: in the queue, or for its minute
   abbrev pub toTail : Batches → Batch → ℕ → Batches
   toTail b x p = record {
     places = set (b .places) p (live x);
@@ -203,7 +288,6 @@ module _ (s : State) (r : Reading) where
     queue = cond (mayQueue (x .activation)) (b .queue ++ (p ∷ [])) (b .queue);
   }
 
-  -- "When all numbers are there: 01, or pending if its activation minute has not begun, or the queue's tail."
   unfoldable pub completed : Batches → Known → ℕ → Batch → Acted
   completed b k p x =
       cond (isComplete x)
@@ -212,34 +296,8 @@ module _ (s : State) (r : Reading) where
       (rejecting s Unequal p b (x .messages) (x .bin) k))
       (leaving s Done [] (place p ∷ []) (withPlace b p (live x)) k)
 
-  -- "Any of these rejects the batch with this message in it."
-  abbrev pub admitted : Answer → Batches → Known → ℕ → Batch → Acted
-  admitted Done b k p x = completed b k p x
-  admitted (Refused f) b k p x = rejecting s f p b (x .messages) (x .bin) k
+  -- ---- "A recall acts on a pending or queued batch; else its 134 carries 02." "a 134 before the batch it recalls"
 
-  unfoldable pub admit : (stream : ℕ) → Batches → Known → ℕ → Batch → Acted
-  admit stream b k p x = admitted (firstBroken (messageRules stream x)) b k p (withMessage x)
-
-  abbrev pub firstBatch : Batch
-  firstBatch = record { bin = bin; count = r .terms .count; activation = r .terms .activation; messages = [] }
-
-  abbrev pub withBin : Known → Known
-  withBin k = record { references = k .references; bins = note (today s) bin (k .bins) }
-
-  abbrev pub isKnown : Bool
-  isKnown = isUsed (today s) bin (s .known .bins)
-
-  -- "a remembered BIN that is not being assembled 87, this message alone. A new BIN is noted."
-  unfoldable pub settling : (stream : ℕ) → Known → Acted
-  settling stream k =
-      cond isKnown
-      (onFound (assembling (s .batches) bin)
-      (leaving s (Refused Malformed) (settlement reference bin (Rejected (numberOf Malformed)) ∷ []) [] (s .batches) k)
-      (λ p. onLive (placeAt (s .batches) p) (untouched s Malformed) (admit stream (s .batches) k p)))
-      (onFound (seek isFree (s .batches .places)) (untouched s NoRoom)
-      (λ p. admit stream (withPlace (s .batches) p (live firstBatch)) (withBin k) p firstBatch))
-
-  -- "A recall acts on a pending or queued batch; else its 134 carries 02." "a 134 before the batch it recalls"
   unfoldable pub recalling : Known → Acted
   recalling k =
       onFound (waiting (s .batches) bin)
@@ -250,54 +308,17 @@ module _ (s : State) (r : Reading) where
       (ended (s .batches) p)
       k)
 
-  -- ---- step 4
+  -- ---- the steps together
 
-  abbrev pub isThere : Found → Bool
-  isThere (at p) = true
-  isThere nowhere = false
-
-  abbrev pub referenceFits : Bool
-  referenceFits = isThere (vacant (today s) (s .known .references))
-
-  abbrev pub binFits : Bool
-  binFits = isKnown || (isThere (seek isFree (s .batches .places)) && isThere (vacant (today s) (s .known .bins)))
-
-  abbrev pub noted : Known
-  noted = record { references = note (today s) reference (s .known .references); bins = s .known .bins }
-
-  -- "04 if no place for the reference is free, or if a 131's BIN is not remembered and there is no free batch or BIN place. ..
-  -- Otherwise the reference is noted"
-  abbrev pub housed : Read → (stream : ℕ) → Acted
-  housed Settlement stream = cond (referenceFits && binFits) (settling stream noted) (untouched s NoRoom)
-  housed Recall stream = cond referenceFits (recalling noted) (untouched s NoRoom)
-  housed (Unread b) stream = untouched s (b .refusal)
-
-  -- ---- step 3
-
-  -- "For a 131 whose BIN is being assembled, that batch is rejected with 74."
-  abbrev pub repeated : Read → Acted
-  repeated Settlement =
-      onFound (assembling (s .batches) bin) (untouched s UsedReference) (λ p.
-      rejecting s UsedReference p (s .batches) (placeMessages (placeAt (s .batches) p)) bin (s .known))
-  repeated Recall = untouched s UsedReference
-  repeated (Unread b) = untouched s (b .refusal)
-
-  -- ---- steps 1 and 2
-
-  -- "Stream not in the book 87; sender not that stream's administrator 73."
-  unfoldable pub sent : (sender : ℕ) → Acted
-  sent sender =
-      onFound (streamPlace (s .house) streamCode) (untouched s Malformed) (λ i.
-      cond (eqb sender (administrator (s .house) i))
-      (cond (isUsed (today s) reference (s .known .references)) (repeated (r .outcome)) (housed (r .outcome) i))
-      (untouched s WrongSender))
-
-  -- "the first break gives 87 .. No batch is touched."
-  abbrev pub received : Read → (sender : ℕ) → Acted
-  received Settlement sender = sent sender
-  received Recall sender = sent sender
-  received (Unread b) sender = untouched s (b .refusal)
+  -- step 5's rules, then step 6: the batch x at place p takes the message
+  unfoldable pub admit : (stream : ℕ) → Batches → Known → ℕ → Batch → Acted
+  admit stream b k p x = onRules (firstBroken (messageRules stream x)) b k p (withMessage x) (completed b k p (withMessage x))
 
 -- a text from a sender
 unfoldable pub message : State → (sender : ℕ) → Reading → Acted
-message s sender r = received s r (r .outcome) sender
+message s sender r =
+    onText s r (r .outcome) (λ t.
+    onSender s r sender (λ stream.
+    onReference s r t
+    (onRoom s r t (λ k.
+    bySubType t (onBin s r k (admit s r stream)) (recalling s r k)))))

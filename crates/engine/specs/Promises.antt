@@ -1,10 +1,11 @@
--- The words of the three demands, over any calls from a fresh start. Each is said of what a call leaves, f, so that it can be held against any
+-- The words of the three demands, over any calls and clearings from a start. Each is said of what a call leaves, f, so that it can be held against any
 -- engine; `call` keeps them all (proofs/Promises.antt), and the engines that are shut out break one each (proofs/ShutOut.antt).
 use Prim.Native.Nat.{ℕ, suc, _+_, _≤_, _<_}
 use mathlib.Core.Path.{_≡_}
 use mathlib.Core.Bool.{Bool, true, false, _&&_, cond}
 use mathlib.Core.List.{List, [], _∷_, _++_, map}
 use lib.ListN.{length, getD, replicate}
+use lib.Seq.{sets}
 use Rattle.chars.specs.declared.Refusal.{Refusal}
 use Rattle.codes.specs.declared.Code.{Code}
 use Rattle.dates.specs.Dates.{dayOf}
@@ -18,24 +19,26 @@ use Rattle.book.specs.Accounts.{dayIn, streamsIn, banksIn}
 use Rattle.book.specs.declared.Answer.the-variants.{Sound}
 use Rattle.settle.specs.Payments.{Payment}
 use Rattle.settle.specs.Rules.{sum}
-use Rattle.queue.specs.Tests.{passedOf, fuel}
+use Rattle.queue.specs.Tests.{passedOf}
 use Rattle.queue.specs.Promise.{Trail, Stuck, broughtBy, takenBy}
-use Rattle.queue.specs.History.{Event, limitChanged, changed, testEvents, TestByRule}
-use Rattle.queue.specs.Day.{endedEvents}
 use Rattle.engine.specs.declared.Action.{Action}
-use Rattle.engine.specs.declared.Action.the-variants.{Opening, Message, SubLimit, Status, Tick, Close, ClosingBook}
+use Rattle.engine.specs.declared.Action.the-variants.{Opening, ClosingBook}
+use Rattle.engine.specs.declared.Phase.the-variants.{Open}
 use Rattle.engine.specs.declared.Answer.{Answer}
 use Rattle.engine.specs.declared.Answer.the-variants.{Done, Refused}
+use Rattle.engine.specs.Kinds.{Kind, opens, steps, gives, kindOf, onKind, isOpens}
 use Rattle.engine.specs.State.{at, State, paymentsAt}
-use Rattle.engine.specs.Replies.{Reply, settlement, recall, streamOf, textOf, textsFrom}
-use Rattle.engine.specs.Messages.{Acted, Waking, bank, place, streamCode, streamPlace, administrator}
+use Rattle.engine.specs.Replies.{Reply, settlement, recall, binStream, textOf, textsFrom}
+use Rattle.engine.specs.Messages.{Acted, streamCode, streamPlace, administrator}
 use Rattle.engine.specs.Days.{opened, openingAnswer, banksOf, closingText}
-use Rattle.engine.specs.Calls.{Call, Engine, Result, isOpening, isClose, roomNeeded, rowsNeeded, judge, woken, refused, call, cleared}
-use Rattle.engine.specs.Answered.{acted, outcome, repliesBy, repliesOf, after, answeredAfter}
+use Rattle.engine.specs.Calls.{Call, Engine, Result, roomNeeded, rowsNeeded, judge, refused, call, cleared}
+use Rattle.engine.specs.Course.{start, Deed, clears, calls, course, since}
+use Rattle.engine.specs.Answered.{acted, outcome, steppedReplies, repliesOf, answeredAfter}
+use Rattle.engine.specs.Happened.{history, ByRule}
 
--- of each call after any calls from a fresh start: the engine that the rules leave before it, the call, and what f leaves after the same calls
+-- of each call after any calls and clearings: the engine that the rules leave before it, the call, and what f leaves after the same deeds
 abbrev pub Always : (Engine → Call → Result) → (Engine → Call → Result → Type 0) → Type 0
-Always f P = (cs : List Call) (c : Call) → P (after call cleared cs) c (f (after f cleared cs) c)
+Always f P = (ds : List Deed) (c : Call) → P (course call start ds) c (f (course f start ds) c)
 
 -- and of each result of some calls from an engine on, as `run` gives them
 abbrev pub Along : (Engine → Call → Result → Type 0) → Engine → List Call → List Result → Type 0
@@ -48,45 +51,33 @@ Along P e (c ∷ cs) (r ∷ rs) = P e c r × Along P (r .engine) cs rs
 -- "nothing changed": 05 and 07, and an opening that is refused
 pub record Unchanged (e : Engine) (c : Call) (r : Result) : Type 0 where
   pub at-once : (q : Refusal) → judge (e .state) c ≡ Refused q → r ≡ refused e q
-  pub opening : (q : Refusal) → c .action ≡ Opening → r .answer ≡ Refused q → r ≡ refused e q
+  pub opening : (q : Refusal) → c .asked .action ≡ Opening → r .answer ≡ Refused q → r ≡ refused e q
 
 -- "output buffer .. 33,705 bytes (closing book: .. its own length), try row .. 528 numbers" are enough
 abbrev pub Enough : Engine → Call → Result → Type 0
-Enough e c r = (length (r .out) ≤ roomNeeded (c .action) (e .state)) × (length (r .tries) ≤ rowsNeeded)
+Enough e c r = (length (r .out) ≤ roomNeeded (c .asked .action) (e .state)) × (length (r .tries) ≤ rowsNeeded)
 
 -- ---- demand 2
 
 -- "Each engine call returns 0 or its own action's number."
-abbrev pub numberedBy : Answer → Action → Engine → Call → Answer
-numberedBy (Refused r) x e c = Refused r
-numberedBy Done Opening e c = openingAnswer (e .state .day) (c .input)
-numberedBy Done (Message n) e c = acted e c .answer
-numberedBy Done (SubLimit k v) e c = acted e c .answer
-numberedBy Done (Status k b l) e c = acted e c .answer
-numberedBy Done Tick e c = acted e c .answer
-numberedBy Done Close e c = acted e c .answer
-numberedBy Done (ClosingBook d) e c = Done
+abbrev pub numberedBy : Answer → Kind → Engine → Call → Answer
+numberedBy (Refused r) k e c = Refused r
+numberedBy Done k e c = onKind k (openingAnswer (e .state .day) (c .asked .input)) (acted e c .answer) (λ date. Done)
 
 abbrev pub Numbered : Engine → Call → Result → Type 0
-Numbered e c r = r .answer ≡ numberedBy (judge (e .state) c) (c .action) e c
+Numbered e c r = r .answer ≡ numberedBy (judge (e .state) c) (kindOf (c .asked .action)) e c
 
 -- the bytes of a call: its replies' texts, numbered on from those written today, or the closing book
-abbrev pub outBy : Answer → Action → Engine → Call → List ℕ
-outBy Done (ClosingBook d) e c = closingText (e .state) d
-outBy Done Opening e c = textsFrom (e .state .day .texts) (repliesBy Done Opening e c)
-outBy Done (Message n) e c = textsFrom (e .state .day .texts) (repliesBy Done (Message n) e c)
-outBy Done (SubLimit k v) e c = textsFrom (e .state .day .texts) (repliesBy Done (SubLimit k v) e c)
-outBy Done (Status k b l) e c = textsFrom (e .state .day .texts) (repliesBy Done (Status k b l) e c)
-outBy Done Tick e c = textsFrom (e .state .day .texts) (repliesBy Done Tick e c)
-outBy Done Close e c = textsFrom (e .state .day .texts) (repliesBy Done Close e c)
-outBy (Refused r) x e c = textsFrom (e .state .day .texts) (repliesBy (Refused r) x e c)
+abbrev pub outBy : Answer → Kind → Engine → Call → List ℕ
+outBy (Refused r) k e c = []
+outBy Done k e c = onKind k [] (textsFrom (e .state .day .texts) (steppedReplies e c)) (closingText (e .state))
 
 unfoldable pub outOf : Engine → Call → List ℕ
-outOf e c = outBy (judge (e .state) c) (c .action) e c
+outOf e c = outBy (judge (e .state) c) (kindOf (c .asked .action)) e c
 
 -- the response that a reply is, with its number
 abbrev pub responseOf : ℕ → Reply → Response
-responseOf n (settlement r b o) = Settlement (record { number = n; reference = r; stream = streamOf b; bin = b; outcome = o })
+responseOf n (settlement r b o) = Settlement (record { number = n; reference = r; stream = binStream b; bin = b; outcome = o })
 responseOf n (recall r a) = Recall (record { number = n; reference = r; answer = a })
 
 -- texts numbered on from n, each read back as its reply
@@ -98,12 +89,12 @@ ReadBack n (y ∷ ys) = (responseAt (textOf (n + 1) y) .reply ≡ responseOf (n 
 abbrev pub Written : Engine → Call → Result → Type 0
 Written e c r = (r .out ≡ outOf e c) × ReadBack (e .state .day .texts) (repliesOf e c)
 
--- the engine after some calls from a fresh start, and what was answered on its last opened day
-abbrev pub then : List Call → State
-then cs = after call cleared cs .state
+-- the engine after some deeds, and what was answered on its last opened day
+abbrev pub then : List Deed → State
+then ds = course call start ds .state
 
-abbrev pub answered : List Call → List Code
-answered cs = answeredAfter cleared [] cs
+abbrev pub answered : List Deed → List Code
+answered ds = answeredAfter start [] (since ds)
 
 -- what a book tells of the engine's tables
 pub record Tells (s : State) (date : ℕ) (out : List ℕ) : Type 0 where
@@ -116,67 +107,69 @@ pub record Tells (s : State) (date : ℕ) (out : List ℕ) : Type 0 where
   pub house : (t : State) (clock : ℕ) → opened t clock out .house ≡ s .house
   pub books : (t : State) (clock : ℕ) → opened t clock out .books ≡ s .books
 
+-- an opening that is done leaves what its book says; "an opening sets the clock anew"; references and BINs stay as they were
+pub record Opens (e : Engine) (clock : ℕ) (book : List ℕ) (s : State) : Type 0 where
+  pub day : s .day ≡ record { phase = Open; date = dayIn book; clock = clock; texts = 0 }
+  pub streams : s .house .streams ≡ streamsIn book
+  pub count : s .house .banks ≡ length (banksIn book)
+  pub banks : banksOf (s .house) (s .books) ≡ banksIn book
+  pub batches : s .batches ≡ e .state .batches
+  pub known : s .known ≡ e .state .known
+
+abbrev pub OpensRight : Engine → Call → Result → Type 0
+OpensRight e c r = c .asked .action ≡ Opening → r .answer ≡ Done → Opens e (c .asked .clock) (c .asked .input) (r .engine .state)
+
 -- of a call that gives one
 abbrev pub Closes : Engine → Call → Result → Type 0
-Closes e c r = (date : ℕ) → c .action ≡ ClosingBook date → r .answer ≡ Done → Tells (e .state) date (r .out)
+Closes e c r = (date : ℕ) → c .asked .action ≡ ClosingBook date → r .answer ≡ Done → Tells (e .state) date (r .out)
 
 -- ---- demand 3
 
 -- "Both report their tries in order": those of the test that was chosen, on the batches that the action left
-abbrev pub triesBy : Answer → Action → Engine → Call → List ℕ
-triesBy (Refused r) x e c = []
-triesBy Done Opening e c = []
-triesBy Done (Message n) e c = outcome e c .tries
-triesBy Done (SubLimit k v) e c = outcome e c .tries
-triesBy Done (Status k b l) e c = outcome e c .tries
-triesBy Done Tick e c = outcome e c .tries
-triesBy Done Close e c = outcome e c .tries
-triesBy Done (ClosingBook d) e c = []
+abbrev pub triesBy : Answer → Kind → Engine → Call → List ℕ
+triesBy (Refused r) k e c = []
+triesBy Done k e c = onKind k [] (outcome e c .tries) (λ date. [])
 
 abbrev pub Tried : Engine → Call → Result → Type 0
-Tried e c r = r .tries ≡ triesBy (judge (e .state) c) (c .action) e c
+Tried e c r = r .tries ≡ triesBy (judge (e .state) c) (kindOf (c .asked .action)) e c
 
 -- "after each call no queued batch would pass"
 abbrev pub NonePasses : Engine → Call → Result → Type 0
 NonePasses e c r = Stuck (paymentsAt (r .engine .state .batches)) (r .engine .state .books) (r .engine .state .batches .queue)
 
 -- "every payer of a settled batch covered its own payment on the balances just before that batch": of the batches whose tries passed
-abbrev pub CoveredBy : Answer → Action → Engine → Call → Result → Type 0
-CoveredBy (Refused q) x e c r = r .engine .state .books ≡ e .state .books
-CoveredBy Done Opening e c r = Unit {0}
-CoveredBy Done (Message n) e c r = Trail (paymentsAt (acted e c .batches)) (acted e c .books) (passedOf (r .tries)) (r .engine .state .books)
-CoveredBy Done (SubLimit k v) e c r = Trail (paymentsAt (acted e c .batches)) (acted e c .books) (passedOf (r .tries)) (r .engine .state .books)
-CoveredBy Done (Status k b l) e c r = Trail (paymentsAt (acted e c .batches)) (acted e c .books) (passedOf (r .tries)) (r .engine .state .books)
-CoveredBy Done Tick e c r = Trail (paymentsAt (acted e c .batches)) (acted e c .books) (passedOf (r .tries)) (r .engine .state .books)
-CoveredBy Done Close e c r = Trail (paymentsAt (acted e c .batches)) (acted e c .books) (passedOf (r .tries)) (r .engine .state .books)
-CoveredBy Done (ClosingBook d) e c r = r .engine .state .books ≡ e .state .books
+abbrev pub CoveredBy : Answer → Kind → Engine → Call → Result → Type 0
+CoveredBy (Refused q) k e c r = r .engine .state .books ≡ e .state .books
+CoveredBy Done opens e c r = Unit {0}
+CoveredBy Done steps e c r = Trail (paymentsAt (acted e c .batches)) (acted e c .books) (passedOf (r .tries)) (r .engine .state .books)
+CoveredBy Done (gives date) e c r = r .engine .state .books ≡ e .state .books
 
 abbrev pub Covered : Engine → Call → Result → Type 0
-Covered e c r = CoveredBy (judge (e .state) c) (c .action) e c r
+Covered e c r = CoveredBy (judge (e .state) c) (kindOf (c .asked .action)) e c r
 
--- the day's opening balances, and the batches settled since: an opening begins both anew
+-- the day's opening balances, and the batches settled since
 pub record Ledger : Type 0 where
   pub opening : List ℕ
   pub gone : List (List Payment)
 
--- the ledger of a fresh start
+-- the ledger of the start
 abbrev pub noLedger : Ledger
 noLedger = record { opening = replicate 64 0; gone = [] }
 
--- the day's opening balances, and the batches settled since: those whose tries passed. An opening that is done begins both anew
 abbrev pub isDone : Answer → Bool
 isDone Done = true
 isDone (Refused r) = false
 
-abbrev pub ledgerIn : Action → Acted → Result → Ledger → Ledger
-ledgerIn x a r l =
-    cond (isOpening x && isDone (r .answer))
-    (record { opening = r .engine .state .books .balances; gone = [] })
+-- an opening that is done begins both anew: the balances are those of its book, and zero past its banks. Settled are the batches whose tries passed
+abbrev pub ledgerIn : Kind → (book : List ℕ) → Acted → Result → Ledger → Ledger
+ledgerIn k book a r l =
+    cond (isOpens k && isDone (r .answer))
+    (record { opening = sets (replicate 64 0) 0 (map (λ b. b .balance) (banksIn book)); gone = [] })
     (record { opening = l .opening; gone = l .gone ++ map (paymentsAt (a .batches)) (passedOf (r .tries)) })
 
 unfoldable pub ledgerAfter : (Engine → Call → Result) → Engine → Ledger → List Call → Ledger
 ledgerAfter f e l [] = l
-ledgerAfter f e l (c ∷ cs) = ledgerAfter f (f e c .engine) (ledgerIn (c .action) (acted e c) (f e c) l) cs
+ledgerAfter f e l (c ∷ cs) = ledgerAfter f (f e c .engine) (ledgerIn (kindOf (c .asked .action)) (c .asked .input) (acted e c) (f e c) l) cs
 
 -- "each balance is the day's opening balance plus credits less debits of the batches settled since; the total never changes within a day"
 pub record Followed (balances : List ℕ) (l : Ledger) : Type 0 where
@@ -184,7 +177,7 @@ pub record Followed (balances : List ℕ) (l : Ledger) : Type 0 where
   pub total : sum balances ≡ sum (l .opening)
 
 abbrev pub BalancesFollow : (Engine → Call → Result) → Type 0
-BalancesFollow f = (cs : List Call) → Followed (after f cleared cs .state .books .balances) (ledgerAfter f cleared noLedger cs)
+BalancesFollow f = (ds : List Deed) → Followed (course f start ds .state .books .balances) (ledgerAfter f start noLedger (since ds))
 
 -- what a caller sees of a call but for its tries
 pub record View : Type 0 where
@@ -197,24 +190,22 @@ view r = record { answer = r .answer; out = r .out; state = r .engine .state }
 
 -- the same call with a test of one's choice
 abbrev pub by : Bool → Call → Call
-by q c = record { quick = q; clock = c .clock; action = c .action; input = c .input; room = c .room; rows = c .rows }
+by q c = record { asked = record { quick = q; clock = c .asked .clock; action = c .asked .action; input = c .asked .input }; room = c .room; rows = c .rows }
 
-unfoldable pub views : List Result → List View
-views [] = []
-views (r ∷ rs) = view r ∷ views rs
-
--- the calls, each with the test that `quick` chooses for it
-unfoldable pub chosen : (ℕ → Bool) → List Call → List Call
+-- the deeds, each call with the test that `quick` chooses for it
+unfoldable pub chosen : (ℕ → Bool) → List Deed → List Deed
 chosen quick [] = []
-chosen quick (c ∷ cs) = by (quick 0) c ∷ chosen (λ i. quick (suc i)) cs
+chosen quick (clears ∷ ds) = clears ∷ chosen quick ds
+chosen quick (calls c ∷ ds) = calls (by (quick 0) c) ∷ chosen (λ i. quick (suc i)) ds
 
 -- "From a fresh start, over any sequence of calls, both give the same answers, response bytes, balances and waiting batches in the same order"
-unfoldable pub viewsBy : (Engine → Call → Result) → Engine → List Call → List View
+unfoldable pub viewsBy : (Engine → Call → Result) → Engine → List Deed → List View
 viewsBy f e [] = []
-viewsBy f e (c ∷ cs) = view (f e c) ∷ viewsBy f (f e c .engine) cs
+viewsBy f e (clears ∷ ds) = viewsBy f cleared ds
+viewsBy f e (calls c ∷ ds) = view (f e c) ∷ viewsBy f (f e c .engine) ds
 
 abbrev pub SameSeen : (Engine → Call → Result) → Type 0
-SameSeen f = (cs : List Call) (x y : ℕ → Bool) → viewsBy f cleared (chosen x cs) ≡ viewsBy f cleared (chosen y cs)
+SameSeen f = (ds : List Deed) (x y : ℕ → Bool) → viewsBy f start (chosen x ds) ≡ viewsBy f start (chosen y ds)
 
 -- "Agreement is stated over the cover rule": what both leave has settled just what is covered, and nothing that would pass is left
 pub record Agree (f : Engine → Call → Result) : Type 0 where
@@ -222,48 +213,9 @@ pub record Agree (f : Engine → Call → Result) : Type 0 where
   pub covered : Always f Covered
   pub none-passes : Always f NonePasses
 
--- ---- the omission rule, over all calls since the fresh start
-
--- what an action wakes, told as events, the newest first
-abbrev pub wakingEvent : Waking → Event
-wakingEvent (bank k) = limitChanged k
-wakingEvent (place p) = changed p
-
-unfoldable pub wakingEvents : List Waking → List Event
-wakingEvents [] = []
-wakingEvents (w ∷ ws) = wakingEvents ws ++ (wakingEvent w ∷ [])
-
--- the 32 places
-abbrev pub allPlaces : List ℕ
-allPlaces = each (λ p. p) 0 32
-
--- what a call with a test adds: its action, its tries and settlements, the places that these empty; the close empties all
-abbrev pub steppedEvents : Engine → Call → List Event
-steppedEvents e c =
-    cond (isClose (c .action)) (endedEvents allPlaces) (endedEvents (outcome e c .done))
-    ++ (testEvents (c .quick) (paymentsAt (acted e c .batches)) (fuel (acted e c .batches .queue)) (acted e c .books) (woken (acted e c .wakes) (e .memory)) (acted e c .batches .queue)
-    ++ wakingEvents (acted e c .wakes))
-
-abbrev pub eventsBy : Answer → Action → Engine → Call → List Event
-eventsBy (Refused r) x e c = []
-eventsBy Done Opening e c = []
-eventsBy Done (Message n) e c = steppedEvents e c
-eventsBy Done (SubLimit k v) e c = steppedEvents e c
-eventsBy Done (Status k b l) e c = steppedEvents e c
-eventsBy Done Tick e c = steppedEvents e c
-eventsBy Done Close e c = steppedEvents e c
-eventsBy Done (ClosingBook d) e c = []
-
-unfoldable pub history : Engine → List Event → List Call → List Event
-history e es [] = es
-history e es (c ∷ cs) = history (call e c .engine) (eventsBy (judge (e .state) c) (c .action) e c ++ es) cs
-
--- "A later try is omitted exactly if, since that batch's last try in the quick list, ..": at each turn of the call's quick test, `es` being what
--- happened before the call
-abbrev pub OmittedByRule : Engine → Call → List Event → Type 0
-OmittedByRule e c es =
-    TestByRule true (paymentsAt (acted e c .batches)) (fuel (acted e c .batches .queue)) (acted e c .books) (woken (acted e c .wakes) (e .memory))
-    (wakingEvents (acted e c .wakes) ++ es) (acted e c .batches .queue)
+-- the two tests by the rule, over all that has happened since the start
+abbrev pub TestsByRule : (Engine → Call → Result) → Type 0
+TestsByRule f = (ds : List Deed) (c : Call) → ByRule (course call start ds) (history start [] (since ds)) c (f (course f start ds) c)
 
 -- ---- strangers
 
@@ -273,7 +225,7 @@ Stranger s sender r = (i : ℕ) → streamPlace (s .house) (streamCode s r) ≡ 
 
 -- the same call with another action
 abbrev pub asking : Action → Call → Call
-asking a c = record { quick = c .quick; clock = c .clock; action = a; input = c .input; room = c .room; rows = c .rows }
+asking a c = record { asked = record { quick = c .asked .quick; clock = c .asked .clock; action = a; input = c .asked .input }; room = c .room; rows = c .rows }
 
 -- results that differ in their answers at most
 pub record Alike (x y : Result) : Type 0 where

@@ -1,7 +1,8 @@
 -- "Only a noted message is answered by a text, once". A reply is a text before it has its number.
-use Prim.Native.Nat.{ℕ, _+_, _/_}
+use Prim.Native.Nat.{ℕ, _+_}
 use mathlib.Core.List.{List, [], _∷_, _++_}
 use Rattle.codes.specs.declared.Code.{Code}
+pub use Rattle.names.specs.Names.{binStream}
 use Rattle.response.specs.Texts.{settlementText, recallText}
 use Rattle.response.specs.declared.Outcome.{Outcome}
 use Rattle.response.specs.declared.Answer.{Answer}
@@ -13,17 +14,13 @@ pub data Reply : Type 0 where
   -- 134: to a recall
   recall : (reference : Code) → Answer → Reply
 
--- "BIN: the 4 of the stream, then 4 digits"
-abbrev pub streamOf : Code → ℕ
-streamOf bin = bin .high / 4294967296
-
 -- "a batch's in arrival order"
 unfoldable pub repliesTo : List Message → Code → Outcome → List Reply
 repliesTo [] bin o = []
 repliesTo (m ∷ ms) bin o = settlement (m .reference) bin o ∷ repliesTo ms bin o
 
 unfoldable pub textOf : ℕ → Reply → List ℕ
-textOf n (settlement r b o) = settlementText (record { number = n; reference = r; stream = streamOf b; bin = b; outcome = o })
+textOf n (settlement r b o) = settlementText (record { number = n; reference = r; stream = binStream b; bin = b; outcome = o })
 textOf n (recall r a) = recallText (record { number = n; reference = r; answer = a })
 
 -- "Texts follow one another"; "0000001 first each day": n texts were written today before these

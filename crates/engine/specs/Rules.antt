@@ -4,43 +4,27 @@ use mathlib.Core.Path.{_≡_}
 use mathlib.Core.Logic.{_⊎_}
 use mathlib.Core.Bool.{Bool, true, false, _&&_, _||_, not, cond}
 use mathlib.Core.List.{List, [], _∷_, _++_}
-use lib.Dec.{eqb, ltb}
+use lib.Dec.{eqb}
 use lib.ListN.{length, getD, take, drop}
-use Rattle.chars.specs.Words.{bytes, member}
-use Rattle.chars.specs.Chars.{isCode, isDigit}
-use Rattle.codes.specs.Codes.{longOf, longText, shortText}
+use Rattle.chars.specs.Words.{member}
+use Rattle.codes.specs.Codes.{shortText}
 use Rattle.codes.specs.declared.Code.{Code}
 use Rattle.dates.specs.Dates.{isRemembered}
-use Rattle.scan.specs.Scan.{begins}
+pub use Rattle.names.specs.Names.{isWhole, isReference, isBin}
 use Rattle.values.specs.Letters.{isStatus, isFourth}
 use Rattle.terms.specs.declared.Activation.{Activation}
 use Rattle.terms.specs.declared.Activation.the-variants.{AtOnce, Minute}
 use Rattle.book.specs.Range.{Each, allAre, isShort, Rising, streamCodes}
 use Rattle.settle.specs.Payments.{Payment, credit, debit, bankOf, centsOf}
-use Rattle.settle.specs.Rules.{sum, credits, debits, Distinct}
-use Rattle.queue.specs.Promise.{All, Once}
+use Rattle.book.specs.Book.{mostMoney}
+use Rattle.settle.specs.Rules.{All, NoRepeats, mostCents, sum, credits, debits, Distinct}
+use Rattle.queue.specs.Promise.{Once}
 use Rattle.engine.specs.declared.Phase.{Phase}
 use Rattle.engine.specs.declared.Phase.the-variants.{Fresh, Open, Closed}
-use Rattle.engine.specs.State.{House, Message, Batch, Place, free, live, Batches, Entry, Known, State, fresh, sameCode, noCode, noEntry, paymentsOf, placePayments, placeMessages, placeAt}
+use Rattle.engine.specs.State.{secondsOfDay, House, Message, Batch, Place, free, live, Batches, Entry, Known, State, fresh, sameCode, noCode, noEntry, paymentsOf, placePayments, placeMessages, placeAt}
 use Rattle.engine.specs.Changes.{hasDebit}
 
 -- ---- "each stored value one that book, text or clock allows"
-
--- a code is the code of its own characters: nothing stands after its first zero
-abbrev pub isWhole : Code → Bool
-isWhole c = sameCode (longOf (longText c)) c
-
--- "reference, 1 to 16 of A-Z 0-9, not beginning RITS, ACLR or ASXC"
-abbrev pub isReference : Code → Bool
-isReference c =
-    isWhole c
-    && (ltb 0 (length (longText c))
-    && (allAre isCode (longText c)
-    && not (begins (bytes "RITS") (longText c) || (begins (bytes "ACLR") (longText c) || begins (bytes "ASXC") (longText c)))))
-
--- "BIN: the 4 of the stream, then 4 digits"
-abbrev pub isBin : Code → Bool
-isBin c = isWhole c && (eqb (length (longText c)) 8 && (allAre isCode (take 4 (longText c)) && allAre isDigit (drop 4 (longText c))))
 
 -- the letters of a debit
 abbrev pub areLetters : List ℕ → Bool
@@ -49,7 +33,7 @@ areLetters l = allAre isStatus (take 3 l) && allAre isFourth (drop 3 l)
 pub record Priced (banks : ℕ) (p : Payment) : Type 0 where
   -- "bank places below the bank count"
   pub known : bankOf p < banks
-  pub money : centsOf p ≤ 999999999999
+  pub money : centsOf p ≤ mostCents
 
 -- a debit has letters, a credit none
 abbrev pub Lettered : Payment → Type 0
@@ -73,9 +57,9 @@ pub record RightHouse (h : House) (balances limits : List ℕ) : Type 0 where
   pub banks-rise : Rising (take (h .banks) (h .codes))
   -- "a stream bit with no stream" is not there
   pub flags-right : Each (λ x. x / 2 < 2 ^ length (h .streams)) (take (h .banks) (h .flags))
-  pub limits-right : Each (λ x. x ≤ 6400000000000000) limits
+  pub limits-right : Each (λ x. x ≤ mostMoney) limits
   -- "total in range"
-  pub total : sum balances ≤ 6400000000000000
+  pub total : sum balances ≤ mostMoney
   -- "account records past it zero"
   pub codes-past : Each (λ x. x ≡ 0) (drop (h .banks) (h .codes))
   pub flags-past : Each (λ x. x ≡ 0) (drop (h .banks) (h .flags))
@@ -158,12 +142,10 @@ remembered today (e ∷ es) =
     cond (not (sameCode (e .code) noCode) && isRemembered (e .day) today) (e .code ∷ remembered today es) (remembered today es)
 
 abbrev pub Unlike : Code → List Code → Type 0
-Unlike c [] = Unit {0}
-Unlike c (d ∷ ds) = (sameCode c d ≡ false) × Unlike c ds
+Unlike c ds = All (λ d. sameCode c d ≡ false) ds
 
 abbrev pub AllUnlike : List Code → Type 0
-AllUnlike [] = Unit {0}
-AllUnlike (c ∷ cs) = Unlike c cs × AllUnlike cs
+AllUnlike cs = NoRepeats (λ c d. sameCode c d ≡ false) cs
 
 abbrev pub has : Code → List Code → Bool
 has c [] = false
@@ -195,7 +177,7 @@ pub record RightKnown (last : ℕ) (k : Known) : Type 0 where
 
 pub record Opened (s : State) : Type 0 where
   pub date : s .day .date < 36525
-  pub clock : s .day .clock < 86400
+  pub clock : s .day .clock < secondsOfDay
   pub some-streams : 1 ≤ length (s .house .streams)
   pub some-banks : 1 ≤ s .house .banks
   pub house : RightHouse (s .house) (s .books .balances) (s .books .limits)

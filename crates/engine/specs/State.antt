@@ -1,10 +1,10 @@
 -- What the engine knows between two calls.
 use Prim.Native.Nat.{ℕ, _+_}
-use mathlib.Core.Bool.{Bool, true, false, _&&_, cond}
+use mathlib.Core.Bool.{Bool, true, false, cond}
 use mathlib.Core.List.{List, [], _∷_, _++_}
-use lib.Dec.{eqb}
 use lib.ListN.{getD, set, replicate}
 use Rattle.codes.specs.declared.Code.{Code}
+pub use Rattle.names.specs.Names.{sameCode}
 use Rattle.terms.specs.declared.Activation.{Activation}
 use Rattle.book.specs.Accounts.{Stream}
 use Rattle.settle.specs.Payments.{Payment}
@@ -31,9 +31,6 @@ seekFrom is i (x ∷ xs) = cond (is x) (at i) (seekFrom is (i + 1) xs)
 abbrev pub seek : {A : Type 0} → (A → Bool) → List A → Found
 seek is xs = seekFrom is 0 xs
 
-abbrev pub sameCode : Code → Code → Bool
-sameCode a b = eqb (a .high) (b .high) && eqb (a .low) (b .low)
-
 abbrev pub noCode : Code
 noCode = record { high = 0; low = 0 }
 
@@ -45,6 +42,10 @@ pub record Day : Type 0 where
   pub date : ℕ
   pub clock : ℕ
   pub texts : ℕ
+
+-- "clock .. in 0 to 86,399"
+abbrev pub secondsOfDay : ℕ
+secondsOfDay = 86400
 
 -- what the opening book says of streams and banks: of the 64 codes and flags the first `banks` are in use. A flag is 1 if the bank is
 -- suspended, and twice its stream bits

@@ -7,7 +7,7 @@ use native.Mathlib.Omega.{arith}
 use lib.Dec.{leb, eqb, ltb}
 use lib.ListN.{getD, set}
 use lib.Seq.{getD-set-other}
-use borrow.Author.Tests.{leb-false, lt-leb, eqb-true, eqb-false}
+use borrow.Author.Tests.{leb-false, lt-leb, eqb-false}
 use Rattle.chars.specs.Words.{bytes, member}
 use Rattle.settle.specs.Cover.{esa, covered}
 use Rattle.settle.specs.Payments.{Payment, credit, debit, Need, needsOf}
@@ -15,7 +15,7 @@ use Rattle.settle.specs.Settlement.{Accounts, isCovered, firstUncovered, verdic
 use Rattle.settle.specs.declared.Verdict.the-variants.{Passes, Stops}
 use Rattle.queue.specs.Memory.{creditedBy, credited, wake}
 use Rattle.queue.specs.Tests.{Outcome, Seen, seen, some, omits, remember, turn, settle, walk, test}
-use Rattle.queue.specs.Promise.{Uncovered, here, there, Held, True, with, limited}
+use Rattle.queue.specs.Promise.{Uncovered, here, there, Held, True, limited}
 use Rattle.queue.proofs.MemoryLaws.{byBool, wake-yes, wake-no}
 use Rattle.queue.proofs.Steps.{byVerdict, byTurn, walk-turn, test-stop, test-more}
 
@@ -238,11 +238,3 @@ pub forgets : (m : List ℕ) (p : ℕ) → getD (set m p 0) p 0 ≡ 0
 forgets [] p = refl
 forgets (y ∷ m) zero = refl
 forgets (y ∷ m) (suc p) = forgets m p
-
--- a place that gets another content and forgets: a status change, a batch that joins, a batch that ends
-pub true-put : (batch : ℕ → List Payment) (a : Accounts) (m : List ℕ) (p : ℕ) (ps : List Payment) → True batch a m → True (with batch p ps) a (set m p 0)
-unfolding with
-true-put batch a m p ps h x =
-    byBool (eqb x p)
-    (λ e. rw (eqb-true x p e, forgets) tt)
-    (λ e. rw (getD-set-other m p x 0 0 (eqb-false x p e), e) (h x))

@@ -47,7 +47,7 @@ down l j k c h f =
     (λ e. rw e (omega (arith, getD-set-other l j k (getD l j 0 - c) 0 (λ q. eqb-false j k e (sym q)))))
 
 settled-sum : (l : List ℕ) (ps : List Payment) (k : ℕ) → k < length l → Distinct ps → Fit l ps → getD (settled l ps) k 0 + taken k ps ≡ getD l k 0 + brought k ps
-unfolding settled paid brought taken Distinct Fit
+unfolding settled paid brought taken Distinct Apart Fit
 settled-sum l [] k h d f = refl
 settled-sum l (credit j c ∷ ps) k h d f =
     let v : ℕ = getD l j 0 + c in

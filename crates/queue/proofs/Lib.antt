@@ -8,5 +8,4 @@ pub mod Named
 pub mod Trail
 pub mod Balances
 pub mod History
-pub mod Day
 pub mod Promises

@@ -9,7 +9,7 @@ use native.Mathlib.Omega.{arith}
 use lib.ListN.{length, getD, take, replicate}
 use Rattle.chars.specs.Words.{bytes}
 use Rattle.settle.specs.Cover.{covered}
-use Rattle.settle.specs.Payments.{Payment, credit, debit, paymentsOf, needsOf}
+use Rattle.settle.specs.Payments.{Payment, credit, debit, rowPayments, needsOf}
 use Rattle.settle.specs.Settlement.{Accounts, accounts, firstUncovered, verdict, paid, settled}
 use Rattle.settle.specs.Rules.{sum, Books}
 use Rattle.settle.specs.declared.Verdict.the-variants.{Passes}
@@ -19,15 +19,13 @@ use Rattle.queue.specs.Memory.{wake, credited, creditedBy}
 use Rattle.queue.specs.Tests.{Outcome, seen, passedOf, some, again, omits, remember, tried, turn, walk, test, fuel, plainTest, quickTest}
 use Rattle.queue.specs.Rows.{AllGood, most, Tested}
 use Rattle.queue.specs.Promise.{True, Named, AllCovered, Trail, All, Stuck, Fair, broughtBy, takenBy}
-use Rattle.queue.specs.History.{Event, replay, TestByRule}
-use Rattle.queue.specs.Day.{State, Act, act, actMemory, called, calledMemory, runs, AllFine, DayByRule, Kept, Day}
+use Rattle.queue.specs.History.{Event, replay, Tries}
 use Rattle.queue.proofs.RunLaws.{most-le}
 use Rattle.queue.proofs.Agree.{true-test, tests-agree}
 use Rattle.queue.proofs.Named.{test-named}
 use Rattle.queue.proofs.Trail.{passes-covered, covered-passes, test-trail, test-stuck, test-tries, test-passed, test-each, quick-tries-no-more}
 use Rattle.queue.proofs.Balances.{trail-sum, trail-total, trail-books}
-use Rattle.queue.proofs.History.{test-by-rule}
-use Rattle.queue.proofs.Day as days
+use Rattle.queue.proofs.History.{test-told}
 
 -- ---- 1. Plain and quick settle the same batches in the same order and leave the same balances and the same queue
 
@@ -42,13 +40,6 @@ memory-stays-true quick batch a m q h = true-test batch quick (fuel q) a m q h
 -- and in any memory, true or not, what they remember is a bank with a debit in that batch
 pub memory-names-payers : (quick : Bool) (batch : ℕ → List Payment) (a : Accounts) (m q : List ℕ) → Named batch m → Named batch (test quick batch (fuel q) a m q .memory)
 memory-names-payers quick batch a m q h = test-named quick batch (fuel q) a m q h
-
--- enqueuing, ending a batch, sub-limit and status changes keep it true too, by themselves and with the test that follows
-pub actions-keep-it-true : (c : Act) (s : State) (m : List ℕ) → True (s .batch) (s .books) m → True (act c s .batch) (act c s .books) (actMemory c m)
-actions-keep-it-true c s m h = days.true-act c s m h
-
-pub calls-keep-it-true : (quick : Bool) (c : Act) (s : State) (m : List ℕ) → True (s .batch) (s .books) m → True (called quick c s m .batch) (called quick c s m .books) (calledMemory quick c s m)
-calls-keep-it-true quick c s m h = days.true-called quick c s m h
 
 -- a fresh memory is true
 abbrev pub fresh : List ℕ
@@ -65,21 +56,13 @@ fresh-none p = zeros 32 p
 pub fresh-true : (batch : ℕ → List Payment) (a : Accounts) → True batch a fresh
 fresh-true batch a p = rw (fresh-none p) tt
 
--- hence over any calls from a fresh start, each with the test that it chooses
-pub choice-is-not-seen : (cs : List Act) (x y : ℕ → Bool) (s : State) → runs x cs s fresh ≡ runs y cs s fresh
-choice-is-not-seen cs x y s = days.runs-agree cs x y s fresh fresh (fresh-true (s .batch) (s .books)) (fresh-true (s .batch) (s .books))
-
 -- ---- 2. A later try is omitted exactly if, since the batch's last try in the quick list, the remembered bank has had no credit settled,
 -- no accepted sub-limit change, and the batch no accepted status change
 
--- at each turn of one quick test, where the memory is what the history `es` has left of a fresh one
-pub omission-rule : (batch : ℕ → List Payment) (a : Accounts) (es : List Event) (q : List ℕ) → All (λ p. p < 32) q → TestByRule true batch (fuel q) a (replay es fresh) es q
-omission-rule batch a es q l = test-by-rule batch fresh fresh-none (fuel q) a (replay es fresh) es q refl l
-
--- at each turn of each quick test of a day
-pub omission-rule-all-day : (cs : List Act) (quick : ℕ → Bool) (s : State) (o : List ℕ) → AllFine 32 quick cs s fresh → Kept 32 o [] s → DayByRule quick cs s fresh []
-unfolding replay
-omission-rule-all-day cs quick s o f k = days.day-by-rule fresh fresh-none cs quick o [] s fresh [] f (fresh-true (s .batch) (s .books)) k refl
+-- where the memory is what the history `es` has left of a fresh one, the tries are those of the rule; the plain test tries each on every walk
+pub tries-by-rule : (quick : Bool) (batch : ℕ → List Payment) (a : Accounts) (es : List Event) (q : List ℕ) → All (λ p. p < 32) q
+    → Tries quick batch es a [] q false (test quick batch (fuel q) a (replay es fresh) q .tries) (test quick batch (fuel q) a (replay es fresh) q .books) (test quick batch (fuel q) a (replay es fresh) q .queue)
+tries-by-rule quick batch a es q l = test-told quick batch fresh fresh-none (fuel q) a (replay es fresh) es q (omega arith) refl l
 
 -- ---- 3. After either test no queued batch would pass
 
@@ -119,31 +102,10 @@ module _ (quick : Bool) (batch : ℕ → List Payment) (a : Accounts) (m q : Lis
   balances-in-range b k = omega (arith, books-stay b .bounded, at-most-sum (test quick batch (fuel q) a m q .books .balances) k)
 
 -- batches in the table that keep its rules are such
-pub rows-fair : (t q : List ℕ) → AllGood t q → All (λ p. Fair (paymentsOf t p)) q
+pub rows-fair : (t q : List ℕ) → AllGood t q → All (λ p. Fair (rowPayments t p)) q
 unfolding AllGood
 rows-fair t [] g = tt
 rows-fair t (p ∷ q) g = (record { ranged = g .0 .ranged; distinct = g .0 .distinct; even = g .0 .even }, rows-fair t q (g .1))
-
--- ---- all of it after each call of a day: the batches settled since the opening, on balances `o`, are told with it
-
--- the opening: no batch yet, balances `b` and sub-limits `l` in range
-abbrev pub opened : List ℕ → List ℕ → State
-opened b l = record { batch = λ p. []; books = accounts b l; queue = [] }
-
-pub opening-keeps-the-rules : (b l : List ℕ) → Books b l → Kept 32 b [] (opened b l)
-unfolding broughtBy takenBy
-opening-keeps-the-rules b l h = record {
-  fair = λ p. days.fair-none;
-  once = tt;
-  placed = tt;
-  books = h;
-  size = refl;
-  money = λ k i. refl;
-  total = refl;
-}
-
-pub after-each-call : (cs : List Act) (quick : ℕ → Bool) (o : List ℕ) (s : State) → AllFine 32 quick cs s fresh → Kept 32 o [] s → Day 32 quick cs o [] s fresh
-after-each-call cs quick o s f k = days.day 32 cs quick o [] s fresh f (fresh-true (s .batch) (s .books)) k
 
 -- ---- a test's contract leaves one outcome: accounts, memory, waiting places, tries
 

@@ -7,7 +7,7 @@ use native.Mathlib.Omega.{arith}
 use native.Mathlib.Nat.{le-of-suc-le-suc}
 use lib.ListN.{length, set, take, drop, length-append}
 use lib.Seq.{sets, sets-eq, length-sets, length-take-le, take-append-seam, drop-set-lt}
-use Rattle.settle.specs.Payments.{paymentsOf}
+use Rattle.settle.specs.Payments.{rowPayments}
 use Rattle.settle.specs.Settlement.{Accounts, accounts}
 use Rattle.settle.specs.Rules.{Books, Good}
 use Rattle.queue.specs.Tests.{Turn, Outcome, stays, joined, turn, walk, test, fuel}
@@ -50,19 +50,19 @@ stays-good t Failed p q g h = (g, h)
 stays-good t Passed p q g h = h
 
 module _ (quick : Bool) (t : List ℕ) where
-  walk-good : (a : Accounts) (m q : List ℕ) → AllGood t q → AllGood t (walk quick (paymentsOf t) a m q .queue)
+  walk-good : (a : Accounts) (m q : List ℕ) → AllGood t q → AllGood t (walk quick (rowPayments t) a m q .queue)
   unfolding walk AllGood
   walk-good a m [] g = tt
   walk-good a m (p ∷ q) g =
-      let u : Turn = turn quick (paymentsOf t) a m p in
-      stays-good t (u .step) p (walk quick (paymentsOf t) (u .books) (u .memory) q .queue) (g .0) (walk-good (u .books) (u .memory) q (g .1))
+      let u : Turn = turn quick (rowPayments t) a m p in
+      stays-good t (u .step) p (walk quick (rowPayments t) (u .books) (u .memory) q .queue) (g .0) (walk-good (u .books) (u .memory) q (g .1))
 
   walk-books : (a : Accounts) (m q : List ℕ) → Books (a .balances) (a .limits) → AllGood t q
-      → Books (walk quick (paymentsOf t) a m q .books .balances) (walk quick (paymentsOf t) a m q .books .limits)
+      → Books (walk quick (rowPayments t) a m q .books .balances) (walk quick (rowPayments t) a m q .books .limits)
   unfolding walk AllGood
   walk-books a m [] k g = k
   walk-books a m (p ∷ q) k g =
-      let u : Turn = turn quick (paymentsOf t) a m p in
+      let u : Turn = turn quick (rowPayments t) a m p in
       walk-books (u .books) (u .memory) q (turn-books quick t a m p k (g .0)) (g .1)
 
 -- what is left to do, done from here, gives what the whole test gives (o, from the rows q₀ and r₀)
@@ -78,14 +78,14 @@ pub record Inv (quick : Bool) (l t : List ℕ) (n : ℕ) (o : Outcome) (q₀ r�
   pub books : Books b l
   pub good : AllGood t (take left q)
   pub rest : drop n q ≡ drop n q₀
-  pub after : o .books ≡ test quick (paymentsOf t) turns (accounts b l) m (take left q) .books
-  pub memory : o .memory ≡ test quick (paymentsOf t) turns (accounts b l) m (take left q) .memory
-  pub stay : o .queue ≡ test quick (paymentsOf t) turns (accounts b l) m (take left q) .queue
-  pub tries : sets r₀ k₀ (o .tries) ≡ sets r k (test quick (paymentsOf t) turns (accounts b l) m (take left q) .tries)
-  pub tried : k₀ + length (o .tries) ≡ k + length (test quick (paymentsOf t) turns (accounts b l) m (take left q) .tries)
+  pub after : o .books ≡ test quick (rowPayments t) turns (accounts b l) m (take left q) .books
+  pub memory : o .memory ≡ test quick (rowPayments t) turns (accounts b l) m (take left q) .memory
+  pub stay : o .queue ≡ test quick (rowPayments t) turns (accounts b l) m (take left q) .queue
+  pub tries : sets r₀ k₀ (o .tries) ≡ sets r k (test quick (rowPayments t) turns (accounts b l) m (take left q) .tries)
+  pub tried : k₀ + length (o .tries) ≡ k + length (test quick (rowPayments t) turns (accounts b l) m (take left q) .tries)
 
 pub start : (quick : Bool) (l t : List ℕ) (n : ℕ) (q r : List ℕ) (k : ℕ) (b m : List ℕ) → Books b l → AllGood t (take n q) → length m ≡ 32 → n ≤ length q → k + most n ≤ length r
-    → Inv quick l t n (test quick (paymentsOf t) (fuel (take n q)) (accounts b l) m (take n q)) q r k b m q r n k
+    → Inv quick l t n (test quick (rowPayments t) (fuel (take n q)) (accounts b l) m (take n q)) q r k b m q r n k
 start quick l t n q r k b m books good ml h g = record {
   turns = fuel (take n q);
   enough = omega (arith, length-take-le n q h);
@@ -115,25 +115,25 @@ module _ (quick : Bool) (l t : List ℕ) (n : ℕ) (o : Outcome) (q₀ r₀ : Li
   more : inv .turns ≡ suc (inv .turns - 1)
   more = omega (arith, inv .enough)
 
-  module _ (b′ m′ q′ : List ℕ) (w′ : ℕ) (r′ : List ℕ) (k′ : ℕ) (d : Walked (walk quick (paymentsOf t) (accounts b l) m (take left q)) l q r k b′ m′ q′ w′ r′ k′) where
-    count : length (walk quick (paymentsOf t) (accounts b l) m (take left q) .queue) ≤ left
-    count = omega (arith, walk-count quick (paymentsOf t) (accounts b l) m (take left q), long)
+  module _ (b′ m′ q′ : List ℕ) (w′ : ℕ) (r′ : List ℕ) (k′ : ℕ) (d : Walked (walk quick (rowPayments t) (accounts b l) m (take left q)) l q r k b′ m′ q′ w′ r′ k′) where
+    count : length (walk quick (rowPayments t) (accounts b l) m (take left q) .queue) ≤ left
+    count = omega (arith, walk-count quick (rowPayments t) (accounts b l) m (take left q), long)
 
     pub kept-le : w′ ≤ left
     kept-le = omega (arith, d .kept, count)
 
-    take-kept : take w′ q′ ≡ walk quick (paymentsOf t) (accounts b l) m (take left q) .queue
+    take-kept : take w′ q′ ≡ walk quick (rowPayments t) (accounts b l) m (take left q) .queue
     take-kept = rw (d .kept, d .queue) (take-sets q _ (omega (arith, inv .left-le, count)))
 
     rest′ : drop n q′ ≡ drop n q₀
-    rest′ = ap (drop n) (d .queue) ∙ drop-sets q (walk quick (paymentsOf t) (accounts b l) m (take left q) .queue) 0 n (omega (arith, inv .left-n, count)) ∙ inv .rest
+    rest′ = ap (drop n) (d .queue) ∙ drop-sets q (walk quick (rowPayments t) (accounts b l) m (take left q) .queue) 0 n (omega (arith, inv .left-n, count)) ∙ inv .rest
 
     -- the last walk
-    last : w′ ≡ left → test quick (paymentsOf t) (inv .turns) (accounts b l) m (take left q) ≡ walk quick (paymentsOf t) (accounts b l) m (take left q)
+    last : w′ ≡ left → test quick (rowPayments t) (inv .turns) (accounts b l) m (take left q) ≡ walk quick (rowPayments t) (accounts b l) m (take left q)
     last e =
-        ap (λ (f : ℕ). test quick (paymentsOf t) f (accounts b l) m (take left q)) more
-        ∙ test-stop quick (paymentsOf t) (inv .turns - 1) (accounts b l) m (take left q)
-        (as-long quick (paymentsOf t) (accounts b l) m (take left q) (omega (arith, d .kept, long)))
+        ap (λ (f : ℕ). test quick (rowPayments t) f (accounts b l) m (take left q)) more
+        ∙ test-stop quick (rowPayments t) (inv .turns - 1) (accounts b l) m (take left q)
+        (as-long quick (rowPayments t) (accounts b l) m (take left q) (omega (arith, d .kept, long)))
 
     pub ended : w′ ≡ left → Tested o l q₀ n r₀ k₀ b′ m′ q′ w′ r′ k′
     ended e =
@@ -150,26 +150,26 @@ module _ (quick : Bool) (l t : List ℕ) (n : ℕ) (o : Outcome) (q₀ r₀ : Li
         }
 
     -- another walk
-    next : (w′ ≡ left → ⊥) → test quick (paymentsOf t) (inv .turns) (accounts b l) m (take left q)
-        ≡ joined (walk quick (paymentsOf t) (accounts b l) m (take left q)) (test quick (paymentsOf t) (inv .turns - 1) (accounts b′ l) m′ (take w′ q′))
+    next : (w′ ≡ left → ⊥) → test quick (rowPayments t) (inv .turns) (accounts b l) m (take left q)
+        ≡ joined (walk quick (rowPayments t) (accounts b l) m (take left q)) (test quick (rowPayments t) (inv .turns - 1) (accounts b′ l) m′ (take w′ q′))
     next e =
-        ap (λ (f : ℕ). test quick (paymentsOf t) f (accounts b l) m (take left q)) more
-        ∙ test-more quick (paymentsOf t) (inv .turns - 1) (accounts b l) m (take left q)
-        (not-as-long quick (paymentsOf t) (accounts b l) m (take left q) (λ g. e (omega (arith, g, d .kept, long))))
+        ap (λ (f : ℕ). test quick (rowPayments t) f (accounts b l) m (take left q)) more
+        ∙ test-more quick (rowPayments t) (inv .turns - 1) (accounts b l) m (take left q)
+        (not-as-long quick (rowPayments t) (accounts b l) m (take left q) (λ g. e (omega (arith, g, d .kept, long))))
         ∙ rw (d .books, d .memory, take-kept)
 
     pub turn-on : (w′ ≡ left → ⊥) → Inv quick l t n o q₀ r₀ k₀ b′ m′ q′ r′ w′ k′
     turn-on e =
         let p = next e in
-        let w : Outcome = walk quick (paymentsOf t) (accounts b l) m (take left q) in
-        let v : Outcome = test quick (paymentsOf t) (inv .turns - 1) (accounts b′ l) m′ (take w′ q′) in
+        let w : Outcome = walk quick (rowPayments t) (accounts b l) m (take left q) in
+        let v : Outcome = test quick (rowPayments t) (inv .turns - 1) (accounts b′ l) m′ (take w′ q′) in
         record {
           turns = inv .turns - 1;
           enough = omega (arith, inv .enough, kept-le, e);
           left-n = omega (arith, kept-le, inv .left-n);
           left-le = rw (d .queue, length-sets) (omega (arith, kept-le, inv .left-le));
-          room = rw (d .row, length-sets) (omega (arith, inv .room, d .tries, walk-tries quick (paymentsOf t) (accounts b l) m (take left q), long, most-step w′ left (omega (arith, kept-le, e))));
-          m-long = ap length (d .memory) ∙ walk-memory quick (paymentsOf t) (accounts b l) m (take left q) ∙ inv .m-long;
+          room = rw (d .row, length-sets) (omega (arith, inv .room, d .tries, walk-tries quick (rowPayments t) (accounts b l) m (take left q), long, most-step w′ left (omega (arith, kept-le, e))));
+          m-long = ap length (d .memory) ∙ walk-memory quick (rowPayments t) (accounts b l) m (take left q) ∙ inv .m-long;
           q-long = ap length (d .queue) ∙ length-sets q 0 (w .queue) ∙ inv .q-long;
           r-long = ap length (d .row) ∙ length-sets r k (w .tries) ∙ inv .r-long;
           books = subst (λ (x : Accounts). Books (x .balances) (x .limits)) (sym (d .books)) (walk-books quick t (accounts b l) m (take left q) (inv .books) (inv .good));

@@ -9,7 +9,7 @@ use mir.Syntax.{w64}
 use mir.Val.{Fits}
 use lib.Dec.{ltb}
 use lib.ListN.{getD, set}
-use Rattle.settle.specs.Payments.{Payment, credit, debit, paymentsOf, needsOf}
+use Rattle.settle.specs.Payments.{Payment, credit, debit, rowPayments, needsOf}
 use Rattle.settle.specs.Settlement.{Accounts, accounts, isCovered, firstUncovered, verdict, settled}
 use Rattle.settle.specs.Rules.{Ranged, Books, Good, Ready}
 use Rattle.settle.specs.declared.Verdict.{Verdict}
@@ -43,54 +43,54 @@ first-inside a (debit l j c ∷ ps) k r e =
     (λ t. let f : Stops j ≡ Stops k = rw t at e in let g : j ≡ k = cc in omega (arith, r .0 .0))
 
 module _ (b l t : List ℕ) (place : ℕ) (books : Books b l) (good : Good t place) where
-  module _ (v : Verdict) (told : v ≡ firstUncovered (accounts b l) (needsOf (paymentsOf t place))) where
+  module _ (v : Verdict) (told : v ≡ firstUncovered (accounts b l) (needsOf (rowPayments t place))) where
     pub ready : v ≡ Passes → Ready b t place
     ready e =
         record {
           t-long = good .t-long;
           placed = good .placed;
           few = good .few;
-          payable = can-settle (accounts b l) (paymentsOf t place) (books .b-long) (books .bounded) (good .ranged) (good .distinct) (sym told ∙ e);
+          payable = can-settle (accounts b l) (rowPayments t place) (books .b-long) (books .bounded) (good .ranged) (good .distinct) (sym told ∙ e);
         }
 
     pub fits-held : (k : ℕ) → v ≡ Stops k → Fits w64 (k + 1)
-    fits-held k e = omega (arith, first-inside (accounts b l) (paymentsOf t place) k (good .ranged) (sym told ∙ e))
+    fits-held k e = omega (arith, first-inside (accounts b l) (rowPayments t place) k (good .ranged) (sym told ∙ e))
 
 -- a turn, by what the code finds
 module _ (quick : Bool) (b l t m : List ℕ) (p : ℕ) (x : Bool) (told : x ≡ omits quick m p) where
-  pub is-omitted : x ≡ true → turned Omitted (accounts b l) m ≡ turn quick (paymentsOf t) (accounts b l) m p
-  is-omitted e = sym (turn-omits quick (paymentsOf t) (accounts b l) m p (sym told ∙ e))
+  pub is-omitted : x ≡ true → turned Omitted (accounts b l) m ≡ turn quick (rowPayments t) (accounts b l) m p
+  is-omitted e = sym (turn-omits quick (rowPayments t) (accounts b l) m p (sym told ∙ e))
 
-  module _ (v : Verdict) (said : v ≡ firstUncovered (accounts b l) (needsOf (paymentsOf t p))) (no : x ≡ false) where
-    pub is-passed : (b′ m′ : List ℕ) → v ≡ Passes → b′ ≡ settled b (paymentsOf t p) → m′ ≡ map (wake (credited (paymentsOf t p))) m
-        → turned Passed (accounts b′ l) m′ ≡ turn quick (paymentsOf t) (accounts b l) m p
-    is-passed b′ m′ e f g = rw (f, g) (sym (turn-passes quick (paymentsOf t) (accounts b l) m p (sym told ∙ no) (sym said ∙ e)))
+  module _ (v : Verdict) (said : v ≡ firstUncovered (accounts b l) (needsOf (rowPayments t p))) (no : x ≡ false) where
+    pub is-passed : (b′ m′ : List ℕ) → v ≡ Passes → b′ ≡ settled b (rowPayments t p) → m′ ≡ map (wake (credited (rowPayments t p))) m
+        → turned Passed (accounts b′ l) m′ ≡ turn quick (rowPayments t) (accounts b l) m p
+    is-passed b′ m′ e f g = rw (f, g) (sym (turn-passes quick (rowPayments t) (accounts b l) m p (sym told ∙ no) (sym said ∙ e)))
 
-    failed : (k : ℕ) → v ≡ Stops k → turned Failed (accounts b l) (remember quick m p k) ≡ turn quick (paymentsOf t) (accounts b l) m p
-    failed k e = sym (turn-fails quick (paymentsOf t) (accounts b l) m p (sym told ∙ no) k (sym said ∙ e))
+    failed : (k : ℕ) → v ≡ Stops k → turned Failed (accounts b l) (remember quick m p k) ≡ turn quick (rowPayments t) (accounts b l) m p
+    failed k e = sym (turn-fails quick (rowPayments t) (accounts b l) m p (sym told ∙ no) k (sym said ∙ e))
 
-    pub is-remembered : (k : ℕ) → v ≡ Stops k → quick ≡ true → turned Failed (accounts b l) (set m p (k + 1)) ≡ turn quick (paymentsOf t) (accounts b l) m p
+    pub is-remembered : (k : ℕ) → v ≡ Stops k → quick ≡ true → turned Failed (accounts b l) (set m p (k + 1)) ≡ turn quick (rowPayments t) (accounts b l) m p
     unfolding remember
     is-remembered k e q =
         ap (λ (n : ℕ). turned Failed (accounts b l) (set m p n)) (add-one k)
         ∙ ap (λ (y : Bool). turned Failed (accounts b l) (cond y (set m p (suc k)) m)) (sym q)
         ∙ failed k e
 
-    pub is-failed : (k : ℕ) → v ≡ Stops k → quick ≡ false → turned Failed (accounts b l) m ≡ turn quick (paymentsOf t) (accounts b l) m p
+    pub is-failed : (k : ℕ) → v ≡ Stops k → quick ≡ false → turned Failed (accounts b l) m ≡ turn quick (rowPayments t) (accounts b l) m p
     unfolding remember
     is-failed k e q = ap (λ (y : Bool). turned Failed (accounts b l) (cond y (set m p (suc k)) m)) (sym q) ∙ failed k e
 
 -- the books are kept
 pub turn-books : (quick : Bool) (t : List ℕ) (a : Accounts) (m : List ℕ) (p : ℕ) → Books (a .balances) (a .limits) → Good t p
-    → Books (turn quick (paymentsOf t) a m p .books .balances) (turn quick (paymentsOf t) a m p .books .limits)
+    → Books (turn quick (rowPayments t) a m p .books .balances) (turn quick (rowPayments t) a m p .books .limits)
 turn-books quick t a m p books good =
-    byTurn quick (paymentsOf t) a m p
+    byTurn quick (rowPayments t) a m p
     (λ e u. rw u books)
     (λ e v u. rw u
     (record {
-      b-long = settled-length (a .balances) (paymentsOf t p) ∙ books .b-long;
+      b-long = settled-length (a .balances) (rowPayments t p) ∙ books .b-long;
       l-long = books .l-long;
-      bounded = omega (arith, total-kept (a .balances) (paymentsOf t p) (ready (a .balances) (a .limits) t p books good Passes (sym v) refl .payable) (good .even), books .bounded);
+      bounded = omega (arith, total-kept (a .balances) (rowPayments t p) (ready (a .balances) (a .limits) t p books good Passes (sym v) refl .payable) (good .even), books .bounded);
     }))
     (λ e k v u. rw u books)
 

@@ -8,7 +8,7 @@ use native.Mathlib.Numerals.{add-one}
 use native.Mathlib.Nat.{add-zero}
 use lib.ListN.{length, getD, set, take, drop, length-append}
 use lib.Seq.{sets, length-sets, slice, slice-cons, slice-empty, drop-set-lt, take-set-lt}
-use Rattle.settle.specs.Payments.{paymentsOf}
+use Rattle.settle.specs.Payments.{rowPayments}
 use Rattle.settle.specs.Settlement.{accounts}
 use Rattle.settle.specs.Rules.{Books, Good}
 use Rattle.queue.specs.Tests.{Turn, turned, Outcome, stays, tryOf, noted, turn, walk}
@@ -30,15 +30,15 @@ pub record Inv (quick : Bool) (l t : List ℕ) (n : ℕ) (o : Outcome) (q₀ r�
   pub r-long : length r ≡ length r₀
   pub books : Books b l
   pub good : AllGood t (slice i n q)
-  pub after : o .books ≡ walk quick (paymentsOf t) (accounts b l) m (slice i n q) .books
-  pub memory : o .memory ≡ walk quick (paymentsOf t) (accounts b l) m (slice i n q) .memory
-  pub left : sets q₀ 0 (o .queue) ≡ sets q w (walk quick (paymentsOf t) (accounts b l) m (slice i n q) .queue)
-  pub stay : length (o .queue) ≡ w + length (walk quick (paymentsOf t) (accounts b l) m (slice i n q) .queue)
-  pub tries : sets r₀ k₀ (o .tries) ≡ sets r k (walk quick (paymentsOf t) (accounts b l) m (slice i n q) .tries)
-  pub tried : k₀ + length (o .tries) ≡ k + length (walk quick (paymentsOf t) (accounts b l) m (slice i n q) .tries)
+  pub after : o .books ≡ walk quick (rowPayments t) (accounts b l) m (slice i n q) .books
+  pub memory : o .memory ≡ walk quick (rowPayments t) (accounts b l) m (slice i n q) .memory
+  pub left : sets q₀ 0 (o .queue) ≡ sets q w (walk quick (rowPayments t) (accounts b l) m (slice i n q) .queue)
+  pub stay : length (o .queue) ≡ w + length (walk quick (rowPayments t) (accounts b l) m (slice i n q) .queue)
+  pub tries : sets r₀ k₀ (o .tries) ≡ sets r k (walk quick (rowPayments t) (accounts b l) m (slice i n q) .tries)
+  pub tried : k₀ + length (o .tries) ≡ k + length (walk quick (rowPayments t) (accounts b l) m (slice i n q) .tries)
 
 pub start : (quick : Bool) (l t : List ℕ) (n : ℕ) (q r : List ℕ) (k : ℕ) (b m : List ℕ) → Books b l → AllGood t (take n q) → length m ≡ 32 → n ≤ length q → k + n ≤ length r
-    → Inv quick l t n (walk quick (paymentsOf t) (accounts b l) m (take n q)) q r k b m q r 0 0 k
+    → Inv quick l t n (walk quick (rowPayments t) (accounts b l) m (take n q)) q r k b m q r 0 0 k
 start quick l t n q r k b m books good ml h g = record {
   i-le = omega arith;
   w-le = omega arith;
@@ -94,25 +94,25 @@ module _ (quick : Bool) (l t : List ℕ) (n : ℕ) (o : Outcome) (q₀ r₀ : Li
   room-here =
       (head-good .placed, omega (arith, inv .w-le, inv .n-le, inv .q-long), omega (arith, inv .k-le, inv .room, inv .r-long))
 
-  module _ (s : Step) (b′ m′ : List ℕ) (told : turned s (accounts b′ l) m′ ≡ turn quick (paymentsOf t) (accounts b l) m (getD q i 0)) where
-    one : walk quick (paymentsOf t) (accounts b l) m (slice i n q) ≡ noted s (getD q i 0) (walk quick (paymentsOf t) (accounts b′ l) m′ (slice (i + 1) n q))
-    one = ap (walk quick (paymentsOf t) (accounts b l) m) cut-here ∙ walk-turn quick (paymentsOf t) (accounts b l) m (getD q i 0) (slice (i + 1) n q) (sym told)
+  module _ (s : Step) (b′ m′ : List ℕ) (told : turned s (accounts b′ l) m′ ≡ turn quick (rowPayments t) (accounts b l) m (getD q i 0)) where
+    one : walk quick (rowPayments t) (accounts b l) m (slice i n q) ≡ noted s (getD q i 0) (walk quick (rowPayments t) (accounts b′ l) m′ (slice (i + 1) n q))
+    one = ap (walk quick (rowPayments t) (accounts b l) m) cut-here ∙ walk-turn quick (rowPayments t) (accounts b l) m (getD q i 0) (slice (i + 1) n q) (sym told)
 
     books′ : Books b′ l
     books′ = subst (λ (x : Turn). Books (x .books .balances) (x .books .limits)) (sym told) (turn-books quick t (accounts b l) m (getD q i 0) (inv .books) head-good)
 
     m-long′ : length m′ ≡ 32
-    m-long′ = ap (λ (x : Turn). length (x .memory)) told ∙ turn-memory quick (paymentsOf t) (accounts b l) m (getD q i 0) ∙ inv .m-long
+    m-long′ = ap (λ (x : Turn). length (x .memory)) told ∙ turn-memory quick (rowPayments t) (accounts b l) m (getD q i 0) ∙ inv .m-long
 
     pub step : (q′ : List ℕ) (w′ : ℕ) (r′ : List ℕ) (k′ : ℕ) → Noted s (getD q i 0) q w r k q′ w′ r′ k′ → Inv quick l t n o q₀ r₀ k₀ b′ m′ q′ r′ (i + 1) w′ k′
     step q′ w′ r′ k′ d =
         let p : ℕ = getD q i 0 in
-        let v : Outcome = walk quick (paymentsOf t) (accounts b′ l) m′ (slice (i + 1) n q) in
+        let v : Outcome = walk quick (rowPayments t) (accounts b′ l) m′ (slice (i + 1) n q) in
         let f : slice (i + 1) n q′ ≡ slice (i + 1) n q = ap (slice (i + 1) n) (d .queue) ∙ slice-stays s p q (i + 1) n w (omega (arith, inv .w-le)) (omega (arith, inv .w-le)) in
         record {
           i-le = omega arith;
           w-le = omega (arith, inv .w-le, d .kept, one-stay s p);
-          k-le = omega (arith, inv .k-le, d .tries, one-try quick (paymentsOf t) s p);
+          k-le = omega (arith, inv .k-le, d .tries, one-try quick (rowPayments t) s p);
           n-le = inv .n-le;
           room = inv .room;
           m-long = m-long′;

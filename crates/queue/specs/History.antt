@@ -1,7 +1,6 @@
--- The omission rule over the history of events.
-use Prim.Native.Nat.{ℕ, zero, suc}
+-- The omission rule over the history of events, and the two tests by it.
+use Prim.Native.Nat.{ℕ, suc, _+_, _*_, _/_, _%_}
 use mathlib.Core.Path.{_≡_}
-use mathlib.Core.Logic.{_↔_}
 use mathlib.Core.Bool.{Bool, true, false, cond}
 use mathlib.Core.List.{List, [], _∷_, _++_, map}
 use lib.Dec.{eqb}
@@ -11,7 +10,7 @@ use Rattle.settle.specs.Settlement.{Accounts, verdict}
 use Rattle.settle.specs.declared.Verdict.{Verdict}
 use Rattle.settle.specs.declared.Verdict.the-variants.{Passes, Stops}
 use Rattle.queue.specs.Memory.{credited, wake}
-use Rattle.queue.specs.Tests.{Outcome, some, turn, walk}
+use Rattle.queue.specs.Tests.{settle}
 use Rattle.queue.specs.declared.Step.{Step}
 use Rattle.queue.specs.declared.Step.the-variants.{Omitted, Failed, Passed}
 
@@ -37,15 +36,20 @@ pub data Omits (p k : ℕ) : List Event → Type 0 where
   past : {e : Event} {es : List Event} → Spares p k e → Omits p k es → Omits p k (e ∷ es)
 
 -- the memory after an event, and after a history
-unfoldable pub after : Event → List ℕ → List ℕ
-after (failed p k) m = set m p (suc k)
-after (settledBatch ps) m = map (wake (credited ps)) m
-after (limitChanged k) m = map (wake (eqb k)) m
-after (changed p) m = set m p 0
+unfoldable pub afterEvent : Event → List ℕ → List ℕ
+afterEvent (failed p k) m = set m p (suc k)
+afterEvent (settledBatch ps) m = map (wake (credited ps)) m
+afterEvent (limitChanged k) m = map (wake (eqb k)) m
+afterEvent (changed p) m = set m p 0
 
 unfoldable pub replay : List Event → List ℕ → List ℕ
 replay [] m = m
-replay (e ∷ es) m = after e (replay es m)
+replay (e ∷ es) m = afterEvent e (replay es m)
+
+-- batches at some places ended, one by one
+unfoldable pub endedEvents : List ℕ → List Event
+endedEvents [] = []
+endedEvents (p ∷ ps) = endedEvents ps ++ (changed p ∷ [])
 
 -- what a turn adds to the history: a settled batch, or a failed try of the quick test
 unfoldable pub happened : Bool → ℕ → List Payment → Step → Verdict → List Event
@@ -54,34 +58,39 @@ happened quick p ps Passed v = settledBatch ps ∷ []
 happened quick p ps Failed Passes = []
 happened quick p ps Failed (Stops k) = cond quick (failed p k ∷ []) []
 
--- the rule holds of a batch whose turn it is: it is omitted exactly if the history says so
-abbrev pub OmittedByRule : Step → ℕ → List Event → Type 0
-OmittedByRule s p es = (s ≡ Omitted) ↔ ((k : ℕ) × Omits p k es)
+-- what the tries of a test add, read off their row: `a` are the accounts that they found
+abbrev pub stepIn : ℕ → Step
+stepIn t = cond (eqb (t % 2) 1) Passed Failed
+
+abbrev pub booksAfter : Step → Accounts → List Payment → Accounts
+booksAfter Omitted a ps = a
+booksAfter Failed a ps = a
+booksAfter Passed a ps = settle a ps
 
 module _ (quick : Bool) (batch : ℕ → List Payment) where
-  -- what one turn, a walk and a test add
-  abbrev pub turnEvents : Accounts → List ℕ → ℕ → List Event
-  turnEvents a m p = happened quick p (batch p) (turn quick batch a m p .step) (verdict a (batch p))
+  unfoldable pub triedEvents : Accounts → List ℕ → List Event
+  triedEvents a [] = []
+  triedEvents a (t ∷ ts) =
+      triedEvents (booksAfter (stepIn t) a (batch (t / 2))) ts ++ happened quick (t / 2) (batch (t / 2)) (stepIn t) (verdict a (batch (t / 2)))
 
-  unfoldable pub walkEvents : Accounts → List ℕ → List ℕ → List Event
-  walkEvents a m [] = []
-  walkEvents a m (p ∷ q) = walkEvents (turn quick batch a m p .books) (turn quick batch a m p .memory) q ++ turnEvents a m p
+  -- a batch is tried, at its turn, unless the quick test omits it
+  abbrev pub Due : ℕ → List Event → Type 0
+  Due p es = (k : ℕ) → quick ≡ true → Omits p k es → ⊥
 
-  unfoldable pub testEvents : ℕ → Accounts → List ℕ → List ℕ → List Event
-  testEvents zero a m q = []
-  testEvents (suc f) a m q =
-      let r : Outcome = walk quick batch a m q in
-      cond (some (r .done)) (testEvents f (r .books) (r .memory) (r .queue)) [] ++ walkEvents a m q
-
-  -- the rule at each turn of a walk, over the history `es` before it and what the walk has added so far
-  unfoldable pub WalkByRule : Accounts → List ℕ → List Event → List ℕ → Type 0
-  WalkByRule a m es [] = Unit {0}
-  WalkByRule a m es (p ∷ q) =
-      OmittedByRule (turn quick batch a m p .step) p es × WalkByRule (turn quick batch a m p .books) (turn quick batch a m p .memory) (turnEvents a m p ++ es) q
-
-  -- and of each walk of a test: another follows one that settled something
-  unfoldable pub TestByRule : ℕ → Accounts → List ℕ → List Event → List ℕ → Type 0
-  TestByRule zero a m es q = Unit {0}
-  TestByRule (suc f) a m es q =
-      WalkByRule a m es q
-      × (some (walk quick batch a m q .done) ≡ true → TestByRule f (walk quick batch a m q .books) (walk quick batch a m q .memory) (walkEvents a m q ++ es) (walk quick batch a m q .queue))
+  -- The two tests in document 01's own words, with no memory: `es` is what has happened so far, the newest first; of the walk that is under way
+  -- `kept` are the places that stay, `rest` those whose turn is to come, and `some` says whether any was settled. Then the tries that are
+  -- still made, and the accounts and the queue that are left.
+  pub data Tries : List Event → Accounts → (kept rest : List ℕ) → (some : Bool) → (tries : List ℕ) → Accounts → (queue : List ℕ) → Type 0 where
+    -- "stop after a pass without"
+    stops : {es : List Event} {a : Accounts} {kept : List ℕ} → Tries es a kept [] false [] a kept
+    -- "after a pass with a settlement, start again"
+    again : {es : List Event} {a v : Accounts} {kept ts q : List ℕ} → Tries es a [] kept false ts v q → Tries es a kept [] true ts v q
+    -- "A later try is omitted exactly if .."
+    omitted : {es : List Event} {a v : Accounts} {kept rest ts q : List ℕ} {p : ℕ} {some : Bool} (k : ℕ) → quick ≡ true → Omits p k es
+        → Tries es a (kept ++ (p ∷ [])) rest some ts v q → Tries es a kept (p ∷ rest) some ts v q
+    -- "from the head, try each"; "a failed try remembers the bank of the first uncovered debit"
+    fails : {es : List Event} {a v : Accounts} {kept rest ts q : List ℕ} {p t : ℕ} {some : Bool} (k : ℕ) → Due p es → verdict a (batch p) ≡ Stops k → t ≡ 2 * p
+        → Tries (happened quick p (batch p) Failed (Stops k) ++ es) a (kept ++ (p ∷ [])) rest some ts v q → Tries es a kept (p ∷ rest) some (t ∷ ts) v q
+    -- "It then settles at once, all payments."
+    passes : {es : List Event} {a v : Accounts} {kept rest ts q : List ℕ} {p t : ℕ} {some : Bool} → Due p es → verdict a (batch p) ≡ Passes → t ≡ 2 * p + 1
+        → Tries (settledBatch (batch p) ∷ es) (settle a (batch p)) kept rest true ts v q → Tries es a kept (p ∷ rest) some (t ∷ ts) v q

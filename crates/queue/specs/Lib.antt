@@ -3,4 +3,3 @@ pub mod Tests
 pub mod Rows
 pub mod Promise
 pub mod History
-pub mod Day

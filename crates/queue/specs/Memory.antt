@@ -3,6 +3,7 @@ use Prim.Native.Nat.{ℕ, zero, suc}
 use mathlib.Core.Bool.{Bool, false, _||_, cond}
 use mathlib.Core.List.{List, [], _∷_}
 use lib.Dec.{eqb}
+use lib.ListN.{set}
 use Rattle.settle.specs.Payments.{Payment, credit, debit}
 
 -- "no credit settled (of any amount)": the banks that a payment credits, and those that a batch credits
@@ -18,3 +19,8 @@ credited (p ∷ ps) k = creditedBy p k || credited ps k
 unfoldable pub wake : (ℕ → Bool) → ℕ → ℕ
 wake f zero = 0
 wake f (suc k) = cond (f k) 0 (suc k)
+
+-- a place whose batch ended inherits no memory
+unfoldable pub forgotten : List ℕ → List ℕ → List ℕ
+forgotten [] m = m
+forgotten (p ∷ ps) m = forgotten ps (set m p 0)

@@ -1,4 +1,4 @@
--- The words of the promises: a true memory, settled batches in turn, what a bank is brought and costs, and the calls of a day.
+-- The words of the promises: a true memory, settled batches in turn, what a bank is brought and costs.
 use Prim.Native.Nat.{ℕ, zero, suc, _+_}
 use mathlib.Core.Path.{_≡_}
 use mathlib.Core.Logic.{_⊎_}
@@ -8,7 +8,8 @@ use lib.Dec.{eqb}
 use lib.ListN.{getD, set}
 use Rattle.settle.specs.Payments.{Payment, credit, debit, Need, needsOf}
 use Rattle.settle.specs.Settlement.{Accounts, accounts, isCovered, verdict}
-use Rattle.settle.specs.Rules.{Ranged, Distinct, credits, debits}
+pub use Rattle.settle.specs.Rules.{All}
+use Rattle.settle.specs.Rules.{NoRepeats, Ranged, Distinct, credits, debits}
 use Rattle.settle.specs.declared.Verdict.the-variants.{Passes}
 use Rattle.queue.specs.Tests.{settle}
 
@@ -41,10 +42,6 @@ Named batch m = (p : ℕ) → Names (batch p) (getD m p 0)
 unfoldable pub limited : Accounts → ℕ → ℕ → Accounts
 limited a k v = accounts (a .balances) (set (a .limits) k v)
 
--- another batch, or none, at a place
-unfoldable pub with : (ℕ → List Payment) → ℕ → List Payment → ℕ → List Payment
-with batch p ps x = cond (eqb x p) ps (batch x)
-
 -- every need covered by its own bank
 abbrev pub AllCovered : Accounts → List Need → Type 0
 AllCovered a [] = Unit {0}
@@ -54,11 +51,6 @@ AllCovered a (n ∷ ns) = (isCovered a n ≡ true) × AllCovered a ns
 pub data Trail (batch : ℕ → List Payment) : Accounts → List ℕ → Accounts → Type 0 where
   halt : {a : Accounts} → Trail batch a [] a
   pass : {a v : Accounts} {p : ℕ} {ps : List ℕ} → AllCovered a (needsOf (batch p)) → Trail batch (settle a (batch p)) ps v → Trail batch a (p ∷ ps) v
-
--- something holds of each place
-abbrev pub All : (ℕ → Type 0) → List ℕ → Type 0
-All Q [] = Unit {0}
-All Q (x ∷ xs) = Q x × All Q xs
 
 -- no queued batch would pass
 abbrev pub Stuck : (ℕ → List Payment) → Accounts → List ℕ → Type 0
@@ -72,8 +64,7 @@ abbrev pub Apart : List ℕ → List ℕ → Type 0
 Apart q d = All (λ x. Off x d) q
 
 abbrev pub Once : List ℕ → Type 0
-Once [] = Unit {0}
-Once (p ∷ ps) = Off p ps × Once ps
+Once ps = NoRepeats (λ p x. x ≡ p → ⊥) ps
 
 -- a batch that keeps the table rules
 pub record Fair (ps : List Payment) : Type 0 where

@@ -38,8 +38,8 @@ pub record Seen : Type 0 where
 abbrev pub seen : Outcome → Seen
 seen o = record { books = o .books; queue = o .queue; done = o .done }
 
-abbrev pub untouched : Accounts → List ℕ → List ℕ → Outcome
-untouched a m q = record { books = a; memory = m; queue = q; done = []; tries = [] }
+abbrev pub nothingTried : Accounts → List ℕ → List ℕ → Outcome
+nothingTried a m q = record { books = a; memory = m; queue = q; done = []; tries = [] }
 
 -- a batch that passes leaves the queue, any other stays in it
 abbrev pub stays : Step → ℕ → List ℕ
@@ -108,14 +108,14 @@ module _ (quick : Bool) where
 
     -- "from the head, try each"
     unfoldable pub walk : Accounts → List ℕ → List ℕ → Outcome
-    walk a m [] = untouched a m []
+    walk a m [] = nothingTried a m []
     walk a m (p ∷ q) =
         let t : Turn = turn a m p in
         noted (t .step) p (walk (t .books) (t .memory) q)
 
     -- "after a pass with a settlement, start again; stop after a pass without"
     unfoldable pub test : ℕ → Accounts → List ℕ → List ℕ → Outcome
-    test zero a m q = untouched a m q
+    test zero a m q = nothingTried a m q
     test (suc f) a m q =
         let r : Outcome = walk a m q in
         again (some (r .done)) r (test f (r .books) (r .memory) (r .queue))

@@ -5,7 +5,7 @@ ghost use mathlib.Core.List.{map};
 ghost use Prim.Native.Nat.{ℕ, _+_, _*_, _≤_, _<_};
 ghost use lib.Dec.{eqb};
 ghost use lib.ListN.{length, getD, set, take};
-ghost use Rattle.settle.specs.Payments.{paymentAt, paymentsOf};
+ghost use Rattle.settle.specs.Payments.{paymentAt, rowPayments};
 ghost use Rattle.settle.specs.Settlement.{accounts};
 ghost use Rattle.settle.specs.Rules.{Books, Good};
 ghost use Rattle.queue.specs.Tests.{omits, turned, turn, walk, plainTest, quickTest, test, fuel};
@@ -56,7 +56,7 @@ fn wake_paid(memory: &mut [u64], batches: &[u64], at: usize)
 // The settled batch at a place: its credits wake.
 pub fn wake_credited(memory: &mut [u64], batches: &[u64], place: usize)
     requires { ⌜ Stands (now batches) place ⌝ }
-    ensures { λ _. ⌜ now (memory .exit) ≡ map (wake (credited (paymentsOf (now (batches .entry)) place))) (now (memory .entry)) ⌝ }
+    ensures { λ _. ⌜ now (memory .exit) ≡ map (wake (credited (rowPayments (now (batches .entry)) place))) (now (memory .entry)) ⌝ }
 {
     let mut at = place * settle::Batch::WIDTH + settle::Batch::PAYMENT;
     let mut left = batches[place * settle::Batch::WIDTH + settle::Batch::PAYMENTS_THERE];
@@ -94,7 +94,7 @@ fn attempt(
     requires { ⌜ Books (now balances) (now limits) ⌝ }
     requires { ⌜ Good (now batches) place ⌝ }
     requires { ⌜ length (now memory) ≡ 32 ⌝ }
-    ensures { λ r. ⌜ turned r (accounts (now (balances .exit)) (now (limits .entry))) (now (memory .exit)) ≡ turn quick (paymentsOf (now (batches .entry))) (accounts (now (balances .entry)) (now (limits .entry))) (now (memory .entry)) place ⌝ }
+    ensures { λ r. ⌜ turned r (accounts (now (balances .exit)) (now (limits .entry))) (now (memory .exit)) ≡ turn quick (rowPayments (now (batches .entry))) (accounts (now (balances .entry)) (now (limits .entry))) (now (memory .entry)) place ⌝ }
 {
     if omits(quick, memory, place) {
         return Step::Omitted;
@@ -176,7 +176,7 @@ fn walk(
     requires { ⌜ Books (now balances) (now limits) ⌝ }
     requires { ⌜ AllGood (now batches) (take waiting (now queue)) ⌝ }
     requires { ⌜ (length (now memory) ≡ 32) × (waiting ≤ length (now queue)) × (tried + waiting ≤ length (now tries)) ⌝ }
-    ensures { λ r. ⌜ Walked (walk quick (paymentsOf (now (batches .entry))) (accounts (now (balances .entry)) (now (limits .entry))) (now (memory .entry)) (take waiting (now (queue .entry)))) (now (limits .entry)) (now (queue .entry)) (now (tries .entry)) tried (now (balances .exit)) (now (memory .exit)) (now (queue .exit)) (r .waiting) (now (tries .exit)) (r .tried) ⌝ }
+    ensures { λ r. ⌜ Walked (walk quick (rowPayments (now (batches .entry))) (accounts (now (balances .entry)) (now (limits .entry))) (now (memory .entry)) (take waiting (now (queue .entry)))) (now (limits .entry)) (now (queue .entry)) (now (tries .entry)) tried (now (balances .exit)) (now (memory .exit)) (now (queue .exit)) (r .waiting) (now (tries .exit)) (r .tried) ⌝ }
 {
     let mut i = 0;
     let mut kept = 0;
@@ -210,7 +210,7 @@ pub fn run(
     requires { ⌜ Books (now balances) (now limits) ⌝ }
     requires { ⌜ AllGood (now batches) (take waiting (now queue)) ⌝ }
     requires { ⌜ (length (now memory) ≡ 32) × (waiting ≤ length (now queue)) × (tried + most waiting ≤ length (now tries)) ⌝ }
-    ensures { λ r. ⌜ Tested (test quick (paymentsOf (now (batches .entry))) (fuel (take waiting (now (queue .entry)))) (accounts (now (balances .entry)) (now (limits .entry))) (now (memory .entry)) (take waiting (now (queue .entry)))) (now (limits .entry)) (now (queue .entry)) waiting (now (tries .entry)) tried (now (balances .exit)) (now (memory .exit)) (now (queue .exit)) (r .waiting) (now (tries .exit)) (r .tried) ⌝ }
+    ensures { λ r. ⌜ Tested (test quick (rowPayments (now (batches .entry))) (fuel (take waiting (now (queue .entry)))) (accounts (now (balances .entry)) (now (limits .entry))) (now (memory .entry)) (take waiting (now (queue .entry)))) (now (limits .entry)) (now (queue .entry)) waiting (now (tries .entry)) tried (now (balances .exit)) (now (memory .exit)) (now (queue .exit)) (r .waiting) (now (tries .exit)) (r .tried) ⌝ }
 {
     let mut left = waiting;
     let mut at = tried;
@@ -252,7 +252,7 @@ pub fn plain_test(
     requires { ⌜ Books (now balances) (now limits) ⌝ }
     requires { ⌜ AllGood (now batches) (take waiting (now queue)) ⌝ }
     requires { ⌜ (length (now memory) ≡ 32) × (waiting ≤ length (now queue)) × (tried + most waiting ≤ length (now tries)) ⌝ }
-    ensures { λ r. ⌜ Tested (plainTest (paymentsOf (now (batches .entry))) (accounts (now (balances .entry)) (now (limits .entry))) (now (memory .entry)) (take waiting (now (queue .entry)))) (now (limits .entry)) (now (queue .entry)) waiting (now (tries .entry)) tried (now (balances .exit)) (now (memory .exit)) (now (queue .exit)) (r .waiting) (now (tries .exit)) (r .tried) ⌝ }
+    ensures { λ r. ⌜ Tested (plainTest (rowPayments (now (batches .entry))) (accounts (now (balances .entry)) (now (limits .entry))) (now (memory .entry)) (take waiting (now (queue .entry)))) (now (limits .entry)) (now (queue .entry)) waiting (now (tries .entry)) tried (now (balances .exit)) (now (memory .exit)) (now (queue .exit)) (r .waiting) (now (tries .exit)) (r .tried) ⌝ }
 {
     run(
         false,
@@ -281,7 +281,7 @@ pub fn quick_test(
     requires { ⌜ Books (now balances) (now limits) ⌝ }
     requires { ⌜ AllGood (now batches) (take waiting (now queue)) ⌝ }
     requires { ⌜ (length (now memory) ≡ 32) × (waiting ≤ length (now queue)) × (tried + most waiting ≤ length (now tries)) ⌝ }
-    ensures { λ r. ⌜ Tested (quickTest (paymentsOf (now (batches .entry))) (accounts (now (balances .entry)) (now (limits .entry))) (now (memory .entry)) (take waiting (now (queue .entry)))) (now (limits .entry)) (now (queue .entry)) waiting (now (tries .entry)) tried (now (balances .exit)) (now (memory .exit)) (now (queue .exit)) (r .waiting) (now (tries .exit)) (r .tried) ⌝ }
+    ensures { λ r. ⌜ Tested (quickTest (rowPayments (now (batches .entry))) (accounts (now (balances .entry)) (now (limits .entry))) (now (memory .entry)) (take waiting (now (queue .entry)))) (now (limits .entry)) (now (queue .entry)) waiting (now (tries .entry)) tried (now (balances .exit)) (now (memory .exit)) (now (queue .exit)) (r .waiting) (now (tries .exit)) (r .tried) ⌝ }
 {
     run(
         true,

@@ -90,7 +90,7 @@ module _ (t : List ℕ) (at : ℕ) where
     apart-back k d h = rw (next t at n more) ((λ e. d (sym (bank-at t at) ∙ e)), h)
 
     pub distinct-back : Apart (getD t at 0) (paymentsFrom t (at + 3) (n - 1)) → Distinct (paymentsFrom t (at + 3) (n - 1)) → Distinct (paymentsFrom t at n)
-    unfolding Distinct
+    unfolding Distinct Apart
     distinct-back d h = rw (next t at n more) (rw (bank-at t at) d, h)
 
     pub credits-turn : credits (paymentsFrom t at n) ≡ creditOf (paymentAt t at) + credits (paymentsFrom t (at + 3) (n - 1))
@@ -113,7 +113,7 @@ module _ (t : List ℕ) (at : ℕ) where
   apart-none k n h = let e : n ≡ 0 = omega arith in rw e tt
 
   pub distinct-none : (n : ℕ) → n ≤ 0 → Distinct (paymentsFrom t at n)
-  unfolding Distinct paymentsFrom
+  unfolding Distinct Apart paymentsFrom
   distinct-none n h = let e : n ≡ 0 = omega arith in rw e tt
 
 -- the sums of a batch: C and D are those of all its payments

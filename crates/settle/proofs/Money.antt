@@ -53,7 +53,7 @@ each-paid b p [] a h = tt
 each-paid b p (q ∷ qs) a h = (record { inside = rw (paid-length b p) (h .0 .inside); fits = paid-fits b p q (a .0) (h .0 .fits) }, each-paid b p qs (a .1) (h .1))
 
 in-turn : (b : List ℕ) (ps : List Payment) → Distinct ps → Each b ps → AllPayable b ps
-unfolding AllPayable Distinct Each
+unfolding AllPayable Distinct Apart Each
 in-turn b [] d h = tt
 in-turn b (p ∷ ps) d h = (h .0, in-turn (paid b p) ps (d .1) (each-paid b p ps (d .0) (h .1)))
 

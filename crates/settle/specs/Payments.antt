@@ -23,8 +23,8 @@ paymentsFrom t at (suc n) = paymentAt t at ∷ paymentsFrom t (at + 3) n
 abbrev pub howMany : List ℕ → ℕ → ℕ
 howMany t place = getD t (place * 349 + 8) 0
 
-abbrev pub paymentsOf : List ℕ → ℕ → List Payment
-paymentsOf t place = paymentsFrom t (place * 349 + 49) (howMany t place)
+abbrev pub rowPayments : List ℕ → ℕ → List Payment
+rowPayments t place = paymentsFrom t (place * 349 + 49) (howMany t place)
 
 abbrev pub bankOf : Payment → ℕ
 bankOf (credit k a) = k

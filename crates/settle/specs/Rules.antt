@@ -4,7 +4,8 @@ use mathlib.Core.Path.{_≡_}
 use mathlib.Core.Logic.{_≢_}
 use mathlib.Core.List.{List, [], _∷_}
 use lib.ListN.{length, getD}
-use Rattle.settle.specs.Payments.{Payment, credit, debit, bankOf, centsOf, paymentsOf, howMany}
+use Rattle.book.specs.Book.{mostMoney}
+use Rattle.settle.specs.Payments.{Payment, credit, debit, bankOf, centsOf, rowPayments, howMany}
 use Rattle.settle.specs.Settlement.{paid}
 
 abbrev pub sum : List ℕ → ℕ
@@ -21,34 +22,45 @@ credits [] = 0
 credits (credit k c ∷ ps) = c + credits ps
 credits (debit l k c ∷ ps) = credits ps
 
+abbrev pub All : {A : Type 0} → (A → Type 0) → List A → Type 0
+All Q [] = Unit {0}
+All Q (x ∷ xs) = Q x × All Q xs
+
+-- no repeats: `unlike x y` says that y, which stands behind x, is another
+abbrev pub NoRepeats : {A : Type 0} → (A → A → Type 0) → List A → Type 0
+NoRepeats unlike [] = Unit {0}
+NoRepeats unlike (x ∷ xs) = All (unlike x) xs × NoRepeats unlike xs
+
 -- "in a complete batch all banks differ"
 unfoldable pub Apart : ℕ → List Payment → Type 0
-Apart k [] = Unit {0}
-Apart k (p ∷ ps) = (bankOf p ≢ k) × Apart k ps
+Apart k ps = All (λ p. bankOf p ≢ k) ps
 
 unfoldable pub Distinct : List Payment → Type 0
-Distinct [] = Unit {0}
-Distinct (p ∷ ps) = Apart (bankOf p) ps × Distinct ps
+Distinct ps = NoRepeats (λ p q. bankOf q ≢ bankOf p) ps
 
--- "bank places below the bank count"; "`9999999999,99` is 999,999,999,999"
+-- "`9999999999,99` is 999,999,999,999"
+abbrev pub mostCents : ℕ
+mostCents = 999999999999
+
+-- "bank places below the bank count"
 unfoldable pub Ranged : List Payment → Type 0
 Ranged [] = Unit {0}
-Ranged (p ∷ ps) = ((bankOf p < 64) × (centsOf p ≤ 999999999999)) × Ranged ps
+Ranged (p ∷ ps) = ((bankOf p < 64) × (centsOf p ≤ mostCents)) × Ranged ps
 
 -- "Balances, their total and sub-limits run from 0 to 6,400,000,000,000,000."
 pub record Books (balances limits : List ℕ) : Type 0 where
   pub b-long : length balances ≡ 64
   pub l-long : length limits ≡ 64
-  pub bounded : sum balances ≤ 6400000000000000
+  pub bounded : sum balances ≤ mostMoney
 
 -- a batch that keeps the table rules stands at the place
 pub record Good (batches : List ℕ) (place : ℕ) : Type 0 where
   pub t-long : length batches ≡ 11168
   pub placed : place < 32
   pub few : howMany batches place ≤ 100
-  pub ranged : Ranged (paymentsOf batches place)
-  pub distinct : Distinct (paymentsOf batches place)
-  pub even : credits (paymentsOf batches place) ≡ debits (paymentsOf batches place)
+  pub ranged : Ranged (rowPayments batches place)
+  pub distinct : Distinct (rowPayments batches place)
+  pub even : credits (rowPayments batches place) ≡ debits (rowPayments batches place)
 
 -- what a look for the first uncovered debit asks
 pub record Laid (b l batches : List ℕ) (place : ℕ) : Type 0 where
@@ -57,7 +69,7 @@ pub record Laid (b l batches : List ℕ) (place : ℕ) : Type 0 where
   pub t-long : length batches ≡ 11168
   pub placed : place < 32
   pub few : howMany batches place ≤ 100
-  pub ranged : Ranged (paymentsOf batches place)
+  pub ranged : Ranged (rowPayments batches place)
 
 -- a payment that can be made now: a debit has the money, a credit has room in the word
 unfoldable pub Fits : List ℕ → Payment → Type 0
@@ -78,4 +90,4 @@ pub record Ready (b batches : List ℕ) (place : ℕ) : Type 0 where
   pub t-long : length batches ≡ 11168
   pub placed : place < 32
   pub few : howMany batches place ≤ 100
-  pub payable : AllPayable b (paymentsOf batches place)
+  pub payable : AllPayable b (rowPayments batches place)

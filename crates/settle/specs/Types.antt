@@ -3,6 +3,7 @@ use Prim.Native.Nat.{ℕ, _*_}
 use mathlib.Core.Bool.{_&&_, cond}
 use lib.Dec.{leb, ltb}
 use Rattle.chars.specs.declared.Refusal.the-variants.{OutOfRange, BrokenTables}
+use Rattle.book.specs.Book.{mostMoney}
 use Rattle.settle.specs.declared.BankOr.{BankOr}
 use Rattle.settle.specs.declared.BankOr.the-variants.{Is, Not}
 use Rattle.settle.specs.declared.BatchOr.{BatchOr}
@@ -11,7 +12,7 @@ use Rattle.settle.specs.declared.BatchOr.the-variants.{Stands, Nowhere}
 -- "Balances, their total and sub-limits run from 0 to 6,400,000,000,000,000"; 14 where one is out of range
 abbrev pub bankOr : (balance limit : ℕ) → BankOr
 bankOr balance limit =
-    cond (leb balance 6400000000000000 && leb limit 6400000000000000)
+    cond (leb balance mostMoney && leb limit mostMoney)
     (Is (record { balance = balance; limit = limit }))
     (Not OutOfRange)
 

@@ -3,7 +3,7 @@ ghost use mathlib.Core.Path.{_≡_};
 ghost use Prim.Native.Nat.{ℕ, _+_, _*_, _≤_, _<_};
 ghost use lib.ListN.{length, getD};
 ghost use Rattle.settle.specs.Cover.{covered, esa};
-ghost use Rattle.settle.specs.Payments.{paymentAt, paymentsOf, needsOf};
+ghost use Rattle.settle.specs.Payments.{paymentAt, rowPayments, needsOf};
 ghost use Rattle.settle.specs.Settlement.{accounts, uncovered, firstUncovered, paid, settled};
 ghost use Rattle.settle.specs.Rules.{Payable, Laid, Ready};
 ghost use Rattle.settle.specs.Types.{bankOr, batchOr};
@@ -146,7 +146,7 @@ fn uncovered_at(balances: &[u64], limits: &[u64], batches: &[u64], at: usize) ->
 // The first uncovered debit of the batch at a place: by its messages' arrival, in a message by the text.
 pub fn first_uncovered(balances: &[u64], limits: &[u64], batches: &[u64], place: usize) -> Verdict
     requires { ⌜ Laid (now balances) (now limits) (now batches) place ⌝ }
-    ensures { λ r. ⌜ r ≡ firstUncovered (accounts (now (balances .entry)) (now (limits .entry))) (needsOf (paymentsOf (now (batches .entry)) place)) ⌝ }
+    ensures { λ r. ⌜ r ≡ firstUncovered (accounts (now (balances .entry)) (now (limits .entry))) (needsOf (rowPayments (now (batches .entry)) place)) ⌝ }
 {
     let first = place * Batch::WIDTH + Batch::PAYMENT;
     let mut at = first;
@@ -180,7 +180,7 @@ fn pay_at(balances: &mut [u64], batches: &[u64], at: usize)
 // All payments of the batch at a place.
 pub fn settle(balances: &mut [u64], batches: &[u64], place: usize)
     requires { ⌜ Ready (now balances) (now batches) place ⌝ }
-    ensures { λ _. ⌜ now (balances .exit) ≡ settled (now (balances .entry)) (paymentsOf (now (batches .entry)) place) ⌝ }
+    ensures { λ _. ⌜ now (balances .exit) ≡ settled (now (balances .entry)) (rowPayments (now (batches .entry)) place) ⌝ }
 {
     let mut at = place * Batch::WIDTH + Batch::PAYMENT;
     let mut unpaid = batches[place * Batch::WIDTH + Batch::PAYMENTS_THERE];

@@ -1,7 +1,7 @@
 use borrow.Author.Needs.{needs}
 use native.Mathlib.Omega.{arith}
 use lib.ListN.{take}
-use Rattle.settle.specs.Payments.{paymentsOf}
+use Rattle.settle.specs.Payments.{rowPayments}
 use Rattle.settle.specs.Settlement.{accounts}
 use Rattle.queue.specs.Tests.{test, fuel}
 use Rattle.queue.proofs.RunLaws.{Inv, start, room-now, kept-le, ended, turn-on}
@@ -10,7 +10,7 @@ use Rattle.queue.proofs.run.Tie as tie
 
 abbrev Inv-loop : tie.InvT-loop
 Inv-loop quick balances₀ limits batches memory₀ queue₀ waiting tries₀ tried left₀ at₀ balances memory queue tries left at =
-    Inv quick limits batches waiting (test quick (paymentsOf batches) (fuel (take waiting queue₀)) (accounts balances₀ limits) memory₀ (take waiting queue₀)) queue₀ tries₀ tried balances memory queue tries left at
+    Inv quick limits batches waiting (test quick (rowPayments batches) (fuel (take waiting queue₀)) (accounts balances₀ limits) memory₀ (take waiting queue₀)) queue₀ tries₀ tried balances memory queue tries left at
 
 abbrev μ-loop : tie.MeasureT-loop
 μ-loop quick balances₀ limits batches memory₀ queue₀ waiting tries₀ tried left₀ at₀ balances memory queue tries left at = left

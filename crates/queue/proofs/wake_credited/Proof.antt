@@ -3,7 +3,7 @@ use mathlib.Core.Path.{_≡_}
 use mathlib.Core.List.{map}
 use Prim.Native.Nat.{_+_, _*_, _≤_}
 use lib.ListN.{length}
-use Rattle.settle.specs.Payments.{paymentsOf, paymentsFrom}
+use Rattle.settle.specs.Payments.{rowPayments, paymentsFrom}
 use Rattle.queue.specs.Memory.{wake, credited}
 use Rattle.queue.proofs.MemoryLaws.{credited-turn, credited-done}
 use Rattle.queue.proofs.wake_credited.Statement.{statement}
@@ -12,7 +12,7 @@ use Rattle.queue.proofs.wake_credited.Tie as tie
 abbrev Inv-loop : tie.InvT-loop
 Inv-loop memory₀ batches place at₀ left₀ memory at left =
     (at + 3 * left ≤ 11168) × (length memory ≡ length memory₀)
-    × (map (wake (credited (paymentsOf batches place))) memory₀ ≡ map (wake (credited (paymentsFrom batches at left))) memory)
+    × (map (wake (credited (rowPayments batches place))) memory₀ ≡ map (wake (credited (paymentsFrom batches at left))) memory)
 
 abbrev μ-loop : tie.MeasureT-loop
 μ-loop memory₀ batches place at₀ left₀ memory at left = left

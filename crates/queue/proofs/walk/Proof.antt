@@ -1,7 +1,7 @@
 use borrow.Author.Needs.{needs}
 use Prim.Native.Nat.{_-_}
 use lib.ListN.{take}
-use Rattle.settle.specs.Payments.{paymentsOf}
+use Rattle.settle.specs.Payments.{rowPayments}
 use Rattle.settle.specs.Settlement.{accounts}
 use Rattle.queue.specs.Tests as tests
 use Rattle.queue.proofs.WalkLaws.{Inv, start, head-good, room-here, step, finish}
@@ -10,7 +10,7 @@ use Rattle.queue.proofs.walk.Tie as tie
 
 abbrev Inv-loop : tie.InvT-loop
 Inv-loop quick balances₀ limits batches memory₀ queue₀ waiting tries₀ tried i₀ kept₀ at₀ balances memory queue tries i kept at =
-    Inv quick limits batches waiting (tests.walk quick (paymentsOf batches) (accounts balances₀ limits) memory₀ (take waiting queue₀)) queue₀ tries₀ tried balances memory queue tries i kept at
+    Inv quick limits batches waiting (tests.walk quick (rowPayments batches) (accounts balances₀ limits) memory₀ (take waiting queue₀)) queue₀ tries₀ tried balances memory queue tries i kept at
 
 abbrev μ-loop : tie.MeasureT-loop
 μ-loop quick balances₀ limits batches memory₀ queue₀ waiting tries₀ tried i₀ kept₀ at₀ balances memory queue tries i kept at =

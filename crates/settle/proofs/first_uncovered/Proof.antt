@@ -1,7 +1,7 @@
 use mathlib.Core.Path.{_≡_}
 use Prim.Native.Nat.{_+_, _*_, _≤_}
 use borrow.Author.Needs.{needs}
-use Rattle.settle.specs.Payments.{paymentsOf, paymentsFrom, needsOf}
+use Rattle.settle.specs.Payments.{rowPayments, paymentsFrom, needsOf}
 use Rattle.settle.specs.Settlement.{accounts, firstUncovered}
 use Rattle.settle.specs.Rules.{Ranged}
 use Rattle.settle.proofs.Laws.{ranged-head, ranged-tail, first-stops, first-goes, first-none}
@@ -11,7 +11,7 @@ use Rattle.settle.proofs.first_uncovered.Tie as tie
 abbrev Inv-loop : tie.InvT-loop
 Inv-loop balances limits batches place first at₀ left₀ at left =
     (at + 3 * left ≤ 11168) × Ranged (paymentsFrom batches at left)
-    × (firstUncovered (accounts balances limits) (needsOf (paymentsOf batches place)) ≡ firstUncovered (accounts balances limits) (needsOf (paymentsFrom batches at left)))
+    × (firstUncovered (accounts balances limits) (needsOf (rowPayments batches place)) ≡ firstUncovered (accounts balances limits) (needsOf (paymentsFrom batches at left)))
 
 abbrev μ-loop : tie.MeasureT-loop
 μ-loop balances limits batches place first at₀ left₀ at left = left

@@ -2,7 +2,7 @@ use mathlib.Core.Path.{_≡_}
 use Prim.Native.Nat.{_+_, _*_, _≤_}
 use borrow.Author.Needs.{needs}
 use lib.ListN.{length}
-use Rattle.settle.specs.Payments.{paymentsOf, paymentsFrom}
+use Rattle.settle.specs.Payments.{rowPayments, paymentsFrom}
 use Rattle.settle.specs.Settlement.{settled}
 use Rattle.settle.specs.Rules.{AllPayable}
 use Rattle.settle.proofs.Laws.{payable-head, payable-tail, settled-goes, settled-none}
@@ -12,7 +12,7 @@ use Rattle.settle.proofs.settle.Tie as tie
 abbrev Inv-loop : tie.InvT-loop
 Inv-loop balances₀ batches place at₀ unpaid₀ balances at unpaid =
     (at + 3 * unpaid ≤ 11168) × (length balances ≡ length balances₀) × AllPayable balances (paymentsFrom batches at unpaid)
-    × (settled balances₀ (paymentsOf batches place) ≡ settled balances (paymentsFrom batches at unpaid))
+    × (settled balances₀ (rowPayments batches place) ≡ settled balances (paymentsFrom batches at unpaid))
 
 abbrev μ-loop : tie.MeasureT-loop
 μ-loop balances₀ batches place at₀ unpaid₀ balances at unpaid = unpaid

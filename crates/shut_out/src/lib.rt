@@ -1,0 +1,1 @@
+// Wrong engines, and the promise that each breaks: proofs alone.
