@@ -16,6 +16,7 @@ use Rattle.put.proofs.Laws.{digits-length}
 use Rattle.scan.specs.Scan.{crlf, begins, litAt, numberAt, ten}
 use Rattle.scan.specs.declared.At.the-variants.{Next, No}
 use Rattle.scan.specs.declared.Fixed.the-variants.{Value as Digits}
+use Rattle.names.specs.Names.{forbidden}
 use Rattle.scan.proofs.Standing.{All, valueOf, past, lit-reads, codes-reads, code-reads, number-reads}
 use Rattle.values.specs.Values.{textOf, stands, forbiddenAt, referenceAt, numeralAt, wordAt, binAt}
 use Rattle.values.specs.declared.Part.{Part}
@@ -26,7 +27,6 @@ use Rattle.fields.specs.declared.Field.the-variants.{Good}
 use Rattle.fields.specs.declared.Kind.{Kind}
 use Rattle.fields.specs.declared.Kind.the-variants.{Reference, Numeral, Word, Bin}
 use Rattle.reply.proofs.Digits.{digits-all, value-back, cr-no-code, begins-before}
-use Rattle.reply.proofs.Sound.{forbidden}
 
 -- a step found the text v, its number w, and the rest after its line
 pub record Found (s : List ℕ) (f : Field) (v : List ℕ) (w : ℕ) (rest : List ℕ) : Type 0 where
@@ -117,7 +117,7 @@ module _ (s : List ℕ) where
       go false = refl
 
   pub forbidden-there : (at : ℕ) (v r : List ℕ) → drop at s ≡ v ++ (crlf ++ r) → forbiddenAt s at ≡ forbidden v
-  unfolding forbiddenAt forbidden
+  unfolding forbiddenAt
   forbidden-there at v r h =
       simp (
         stands-begins at (bytes "RITS"),

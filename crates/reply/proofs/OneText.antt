@@ -4,7 +4,7 @@ use mathlib.Core.Path.{_≡_, refl, ap, sym, _∙_}
 use mathlib.Core.Bool.{Bool, true, false, cond}
 use mathlib.Core.List.{List, [], _++_, append-nil}
 use native.Mathlib.Omega.{arith}
-use borrow.Author.Tests.{eqb-true, eqb-false, ltb-false}
+use borrow.Author.Tests.{eqb-true, eqb-false, ltb-false, lt-ltb}
 use lib.Dec.{eqb, ltb}
 use lib.ListN.{length, drop, take, drop-of-length-le}
 use lib.Seq.{take-append-add}
@@ -32,6 +32,7 @@ use Rattle.fields.specs.declared.Field.{Field}
 use Rattle.fields.specs.declared.Field.the-variants.{Good, Bad}
 use Rattle.fields.specs.declared.Kind.{Kind}
 use Rattle.fields.specs.declared.Kind.the-variants.{Reference, Numeral, Word, Bin}
+use Rattle.response.specs.Values.{isOutcome, isAnswer, isSettlement, isRecall}
 use Rattle.response.specs.Texts.{line, headText, batchText, settledText, rejectedText, outcomeText, settlementText, answerText, recallText}
 use Rattle.clock.specs.Clock.{secondOf, hhmmssOf}
 use Rattle.clock.specs.declared.Second.{Second}
@@ -60,8 +61,9 @@ use Rattle.reply.specs.declared.Reply.the-variants.{Settlement, Recall, 
 use Rattle.reply.specs.declared.ReadResponse.{ReadResponse}
 use Rattle.reply.specs.Reply.{onSecond, onOf, onHow, onWith, ending, codeOf, noPart, refused, responseNumberAt, requestReferenceAt, batchAt, settledAt, rejectedAt, endedAt, answerAt, settlementOf, recallOf, settlementAt, recallAt, head, responseAt}
 use Rattle.reply.proofs.Digits.{value-small, digits-back, moment-digits}
-use Rattle.reply.proofs.Sound.{Referred, Named, SoundOutcome, SoundAnswer, Sound, SoundRecall}
-use Rattle.reply.proofs.RoundTrip.{referred-text, stream-text, bin-text, zero-status, one-status, settlement-lines, recall-lines, settlement-short, recall-short}
+use Rattle.reply.proofs.Sound.{Referred, Named, Sound, SoundRecall}
+use Rattle.reply.proofs.Allowed.{referred-text, stream-text, bin-text, sound-settlement, sound-recall}
+use Rattle.reply.proofs.RoundTrip.{zero-status, one-status, settlement-lines, recall-lines, settlement-short, recall-short}
 use Rattle.reply.proofs.Lines.{lined, line-apart, forbidden-there}
 
 abbrev pub between : ℕ → ℕ → Part
@@ -331,12 +333,12 @@ module _ (s : List ℕ) where
         n,
       )))
 
-  pub settled-back : (at : ℕ) (status : Part) {o : Outcome} {p q : Part} {c : Cursor} → settledAt s at status ≡ How o p q c → (line ":451:" (bytes "0") ++ drop at s ≡ outcomeText o ++ drop (c .at) s) × SoundOutcome o
-  unfolding settledAt settledText
+  pub settled-back : (at : ℕ) (status : Part) {o : Outcome} {p q : Part} {c : Cursor} → settledAt s at status ≡ How o p q c → (line ":451:" (bytes "0") ++ drop at s ≡ outcomeText o ++ drop (c .at) s) × (isOutcome o ≡ true)
+  unfolding settledAt settledText isOutcome
   settled-back at status {o} {p} {q} {c} h = taken no-how (fieldAt s at (bytes ":13E:") (Numeral 12)) h (λ i d g e. day (dayOf (i .number / 1000000)) i d g refl e)
     where
       second : (k : ℕ) (i : Item) (d : Cursor) → fieldAt s at (bytes ":13E:") (Numeral 12) ≡ Good i d → dayOf (i .number / 1000000) ≡ Number k → (t : Second) → secondOf (i .number % 1000000) ≡ t → onSecond t (Unclear (wrong at)) (λ m. How (Settled k m) status (i .part) d) ≡ How o p q c
-          → (line ":451:" (bytes "0") ++ drop at s ≡ outcomeText o ++ drop (c .at) s) × SoundOutcome o
+          → (line ":451:" (bytes "0") ++ drop at s ≡ outcomeText o ++ drop (c .at) s) × (isOutcome o ≡ true)
       second k i d g e (Clocked m) f h =
           let y : Settled k m ≡ o = cc in
           let z : d ≡ c = cc in
@@ -344,51 +346,51 @@ module _ (s : List ℕ) where
           let x = day-back (i .number / 1000000) k e in
           let w = second-back (i .number % 1000000) m f in
           let v : digitsOf 12 (i .number) ≡ digitsOf 6 (dateOf k) ++ digitsOf 6 (hhmmssOf m) = moment-digits (i .number) ∙ ap (λ (l : ℕ). digitsOf 6 l ++ digitsOf 6 (i .number % 1000000)) (sym (x .0)) ∙ ap (λ (l : ℕ). digitsOf 6 (dateOf k) ++ digitsOf 6 l) (sym (w .0)) in
-          rw (← y, ← z) (ap (λ (l : List ℕ). line ":451:" (bytes "0") ++ l) (n .0 ∙ ap (λ (l : List ℕ). lined (bytes ":13E:") l ++ drop (d .at) s) v), (x .1, w .1))
+          rw (← y, ← z) (ap (λ (l : List ℕ). line ":451:" (bytes "0") ++ l) (n .0 ∙ ap (λ (l : List ℕ). lined (bytes ":13E:") l ++ drop (d .at) s) v), rw (lt-ltb k 36525 (x .1), lt-ltb m 86400 (w .1)) refl)
       second k i d g e Unclocked f h = absurd (no-how (wrong at) h)
 
       day : (x : Day) (i : Item) (d : Cursor) → fieldAt s at (bytes ":13E:") (Numeral 12) ≡ Good i d → dayOf (i .number / 1000000) ≡ x → onDay x (Unclear (wrong at)) (λ k. onSecond (secondOf (i .number % 1000000)) (Unclear (wrong at)) (λ m. How (Settled k m) status (i .part) d)) ≡ How o p q c
-          → (line ":451:" (bytes "0") ++ drop at s ≡ outcomeText o ++ drop (c .at) s) × SoundOutcome o
+          → (line ":451:" (bytes "0") ++ drop at s ≡ outcomeText o ++ drop (c .at) s) × (isOutcome o ≡ true)
       day (Number k) i d g f e = second k i d g f (secondOf (i .number % 1000000)) refl e
       day Untrue i d g f e = absurd (no-how (wrong at) e)
 
-  pub rejected-back : (at : ℕ) (status : Part) {o : Outcome} {p q : Part} {c : Cursor} → rejectedAt s at status ≡ How o p q c → (line ":451:" (bytes "1") ++ drop at s ≡ outcomeText o ++ drop (c .at) s) × SoundOutcome o
-  unfolding rejectedAt rejectedText
+  pub rejected-back : (at : ℕ) (status : Part) {o : Outcome} {p q : Part} {c : Cursor} → rejectedAt s at status ≡ How o p q c → (line ":451:" (bytes "1") ++ drop at s ≡ outcomeText o ++ drop (c .at) s) × (isOutcome o ≡ true)
+  unfolding rejectedAt rejectedText isOutcome
   rejected-back at status {o} {p} {q} {c} h = taken no-how (fieldAt s at (bytes ":432:") (Numeral 2)) h (λ i d g e.
       let y : Rejected (i .number) ≡ o = cc in
       let z : d ≡ c = cc in
       let n = numeral-stood s at (bytes ":432:") 2 g in
-      rw (← y, ← z) (ap (λ (l : List ℕ). line ":451:" (bytes "1") ++ l) (n .0), n .1))
+      rw (← y, ← z) (ap (λ (l : List ℕ). line ":451:" (bytes "1") ++ l) (n .0), lt-ltb (i .number) 100 (n .1)))
 
   -- 451 before what follows it
   status-back : (at n : ℕ) (v : List ℕ) {i : Item} {c : Cursor} → fieldAt s at (bytes ":451:") (Numeral 1) ≡ Good i c → i .number ≡ n → v ≡ digitsOf 1 n → drop at s ≡ lined (bytes ":451:") v ++ drop (c .at) s
   status-back at n v {i} {c} g e d = numeral-stood s at (bytes ":451:") 1 g .0 ∙ ap (λ (l : List ℕ). lined (bytes ":451:") l ++ drop (c .at) s) (ap (digitsOf 1) e ∙ sym d)
 
-  pub ended-back : (at : ℕ) {o : Outcome} {p q : Part} {c : Cursor} → endedAt s at ≡ How o p q c → (drop at s ≡ outcomeText o ++ drop (c .at) s) × SoundOutcome o
+  pub ended-back : (at : ℕ) {o : Outcome} {p q : Part} {c : Cursor} → endedAt s at ≡ How o p q c → (drop at s ≡ outcomeText o ++ drop (c .at) s) × (isOutcome o ≡ true)
   unfolding endedAt
   ended-back at {o} {p} {q} {c} h = taken no-how (fieldAt s at (bytes ":451:") (Numeral 1)) h (λ i d g e. go i d g (eqb (i .number) 0) refl (eqb (i .number) 1) refl e)
     where
       go : (i : Item) (d : Cursor) → fieldAt s at (bytes ":451:") (Numeral 1) ≡ Good i d → (x : Bool) → eqb (i .number) 0 ≡ x → (y : Bool) → eqb (i .number) 1 ≡ y
-          → cond x (settledAt s (d .at) (i .part)) (cond y (rejectedAt s (d .at) (i .part)) (Unclear (wrong at))) ≡ How o p q c → (drop at s ≡ outcomeText o ++ drop (c .at) s) × SoundOutcome o
+          → cond x (settledAt s (d .at) (i .part)) (cond y (rejectedAt s (d .at) (i .part)) (Unclear (wrong at))) ≡ How o p q c → (drop at s ≡ outcomeText o ++ drop (c .at) s) × (isOutcome o ≡ true)
       go i d g true e y f h = let w = settled-back (d .at) (i .part) h in (status-back at 0 (bytes "0") g (eqb-true _ _ e) zero-status ∙ w .0, w .1)
       go i d g false e true f h = let w = rejected-back (d .at) (i .part) h in (status-back at 1 (bytes "1") g (eqb-true _ _ f) one-status ∙ w .0, w .1)
       go i d g false e false f h = absurd (no-how (wrong at) h)
 
-  pub answer-back : (at : ℕ) {a : Answer} {p q : Part} {c : Cursor} → answerAt s at ≡ With a p q c → (drop at s ≡ answerText a ++ drop (c .at) s) × SoundAnswer a
-  unfolding answerAt rejectedText
+  pub answer-back : (at : ℕ) {a : Answer} {p q : Part} {c : Cursor} → answerAt s at ≡ With a p q c → (drop at s ≡ answerText a ++ drop (c .at) s) × (isAnswer a ≡ true)
+  unfolding answerAt rejectedText isAnswer
   answer-back at {a} {p} {q} {c} h = taken no-with (fieldAt s at (bytes ":451:") (Numeral 1)) h (λ i d g e. go i d g (eqb (i .number) 0) refl (eqb (i .number) 1) refl e)
     where
       go : (i : Item) (d : Cursor) → fieldAt s at (bytes ":451:") (Numeral 1) ≡ Good i d → (x : Bool) → eqb (i .number) 0 ≡ x → (y : Bool) → eqb (i .number) 1 ≡ y
-          → cond x (With Recalled (i .part) noPart d) (cond y (onGood (fieldAt s (d .at) (bytes ":432:") (Numeral 2)) Without (λ n f. With (Kept (n .number)) (i .part) (n .part) f)) (Without (wrong at))) ≡ With a p q c → (drop at s ≡ answerText a ++ drop (c .at) s) × SoundAnswer a
+          → cond x (With Recalled (i .part) noPart d) (cond y (onGood (fieldAt s (d .at) (bytes ":432:") (Numeral 2)) Without (λ n f. With (Kept (n .number)) (i .part) (n .part) f)) (Without (wrong at))) ≡ With a p q c → (drop at s ≡ answerText a ++ drop (c .at) s) × (isAnswer a ≡ true)
       go i d g true e y f h =
           let u : Recalled ≡ a = cc in
           let z : d ≡ c = cc in
-          rw (← u, ← z) (status-back at 0 (bytes "0") g (eqb-true _ _ e) zero-status, tt)
+          rw (← u, ← z) (status-back at 0 (bytes "0") g (eqb-true _ _ e) zero-status, refl)
       go i d g false e true f h = taken no-with (fieldAt s (d .at) (bytes ":432:") (Numeral 2)) h (λ n l k r.
           let u : Kept (n .number) ≡ a = cc in
           let z : l ≡ c = cc in
           let w = numeral-stood s (d .at) (bytes ":432:") 2 k in
-          rw (← u, ← z) (status-back at 1 (bytes "1") g (eqb-true _ _ f) one-status ∙ ap (λ (m : List ℕ). line ":451:" (bytes "1") ++ m) (w .0), w .1))
+          rw (← u, ← z) (status-back at 1 (bytes "1") g (eqb-true _ _ f) one-status ∙ ap (λ (m : List ℕ). line ":451:" (bytes "1") ++ m) (w .0), lt-ltb (n .number) 100 (w .1)))
       go i d g false e false f h = absurd (no-with (wrong at) h)
 
 -- ---- the whole
@@ -488,12 +490,12 @@ accepted-back s =
     kind i c g t d k false e true f = recall-back s (d .at) (head i t) (number-back s g .1) (first 134 i c g t d k (eqb-true _ _ f))
     kind i c g t d k false e false f = tt
 
--- what is read is what is written of it, and sound
-pub settlement-written : (s : List ℕ) (r : Response132) → responseAt s .reply ≡ Settlement r → (s ≡ settlementText r) × Sound r
-settlement-written s r h = rw h at (accepted-back s)
+-- what is read is what is written of it
+pub settlement-written : (s : List ℕ) (r : Response132) → responseAt s .reply ≡ Settlement r → (s ≡ settlementText r) × (isSettlement r ≡ true)
+settlement-written s r h = let b : Back s (Settlement r) = rw h at (accepted-back s) in (b .0, sound-settlement r (b .1))
 
-pub recall-written : (s : List ℕ) (r : Response134) → responseAt s .reply ≡ Recall r → (s ≡ recallText r) × SoundRecall r
-recall-written s r h = rw h at (accepted-back s)
+pub recall-written : (s : List ℕ) (r : Response134) → responseAt s .reply ≡ Recall r → (s ≡ recallText r) × (isRecall r ≡ true)
+recall-written s r h = let b : Back s (Recall r) = rw h at (accepted-back s) in (b .0, sound-recall r (b .1))
 
 -- one response has one text
 pub one-settlement : (s t : List ℕ) (r : Response132) → responseAt s .reply ≡ Settlement r → responseAt t .reply ≡ Settlement r → s ≡ t

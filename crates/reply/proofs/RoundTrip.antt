@@ -1,18 +1,21 @@
 -- A response that is written reads back as the same response.
-use Prim.Native.Nat.{ℕ, _+_, _*_, _/_, _%_, _≤_, _<_}
+use Prim.Native.Nat.{ℕ, _+_, _*_, _-_, _/_, _%_, _≤_, _<_}
 use mathlib.Core.Path.{_≡_, refl, ap, sym, _∙_}
+use mathlib.Core.Bool.{true}
 use mathlib.Core.List.{List, [], _++_, append-assoc, append-nil}
 use native.Mathlib.Omega.{arith}
-use lib.ListN.{length, drop, length-append, length-drop}
+use borrow.Author.Tests.{ltb-true}
+use lib.Dec.{ltb}
+use lib.ListN.{length, take, drop, length-append, length-drop}
 use Rattle.chars.specs.Words.{bytes}
-use Rattle.chars.specs.Chars.{isDigit, isCode}
+use Rattle.chars.specs.Chars.{isDigit}
 use Rattle.clock.specs.Clock.{hhmmssOf, secondOf}
 use Rattle.clock.proofs.Laws.{digits-in, digits-back}
 use Rattle.codes.specs.Codes.{longOf, shortText, longText}
 use Rattle.codes.specs.declared.Code.{Code}
-use Rattle.codes.proofs.Laws.{long-text, short-text}
 use Rattle.dates.specs.Dates.{dateOf, dayOf}
 use Rattle.dates.proofs.Laws.{date-back, date-small}
+use Rattle.names.proofs.Laws.{and-true}
 use Rattle.put.specs.Digits.{digitsOf}
 use Rattle.put.proofs.Laws.{digits-length}
 use Rattle.scan.proofs.Standing.{valueOf, past, lit-reads}
@@ -21,6 +24,8 @@ use Rattle.values.specs.declared.Part.{Part}
 use Rattle.fields.specs.Fields.{place}
 use Rattle.fields.specs.declared.Field.the-variants.{Good}
 use Rattle.response.specs.Texts.{line, headText, batchText, settledText, rejectedText, outcomeText, settlementText, answerText, recallText}
+use Rattle.response.specs.Values.{isOutcome, isAnswer, isSettlement, isRecall, writtenIf, afterIf}
+use Rattle.response.proofs.ValueLaws.{written-held, written-whole}
 use Rattle.response.proofs.Laws.{recalled-end, kept-end, recall-length, settlement-most}
 use Rattle.response.specs.declared.Outcome.{Outcome}
 use Rattle.response.specs.declared.Outcome.the-variants.{Settled, Rejected}
@@ -28,6 +33,7 @@ use Rattle.response.specs.declared.Answer.{Answer}
 use Rattle.response.specs.declared.Answer.the-variants.{Recalled, Kept}
 use Rattle.response.specs.declared.Settlement.{Settlement as Response132}
 use Rattle.response.specs.declared.Recall.{Recall as Response134}
+use Rattle.response.specs.declared.Written.the-variants.{End}
 use Rattle.reply.specs.Reply.{codeOf, noPart, responseNumberAt, requestReferenceAt, batchAt, endedAt, answerAt, settlementOf, recallOf, responseAt}
 use Rattle.reply.specs.declared.Batched.the-variants.{Of}
 use Rattle.reply.specs.declared.Ended.the-variants.{How}
@@ -35,23 +41,10 @@ use Rattle.reply.specs.declared.Answered.the-variants.{With}
 use Rattle.reply.specs.declared.Reply.the-variants.{Settlement, Recall}
 use Rattle.reply.specs.declared.ReadResponse.{ReadResponse}
 use Rattle.reply.proofs.Laws.{number-3, reference-2, batch-3, settled-4, rejected-2, ended-2, ended-3, answer-2, answer-4, settlement-5, recall-4, response-3, response-4}
-use Rattle.reply.proofs.Digits.{all-append, value-append, value-digits, value-back, digits-all, digits-codes, code-bytes, code-no-zero}
-use Rattle.reply.proofs.Sound.{Referred, Named, SoundOutcome, SoundAnswer, Sound, SoundRecall}
+use Rattle.reply.proofs.Digits.{all-append, value-append, value-digits, value-back, digits-all}
+use Rattle.reply.proofs.Sound.{Referred, Named, Sound, SoundRecall}
+use Rattle.reply.proofs.Allowed.{referred-text, stream-text, bin-text, settlement-sound, recall-sound}
 use Rattle.reply.proofs.Lines.{Found, lined, digits-found, numeral-found, empty-found, word-found, bin-found, reference-found}
-
--- the characters of a sound reference are its text
-pub referred-text : {c : Code} (r : Referred c) → longText c ≡ r .name
-referred-text r = ap longText (r .code) ∙ long-text (r .name) (r .few) (code-bytes (r .name) (r .codes)) (code-no-zero (r .name) (r .codes))
-
--- the characters of a sound stream and BIN are theirs
-module _ {stream : ℕ} {bin : Code} (n : Named stream bin) where
-  pub stream-text : shortText stream ≡ n .four
-  stream-text = ap shortText (n .short) ∙ short-text (n .four) (n .size) (code-bytes (n .four) (n .codes))
-
-  pub bin-text : longText bin ≡ n .four ++ n .digits
-  bin-text =
-      let all = all-append isCode (n .four) (n .digits) (n .codes) (digits-codes (n .digits) (n .numerals)) in
-      ap longText (n .long) ∙ long-text (n .four ++ n .digits) (omega (arith, length-append (n .four) (n .digits), n .size, n .more)) (code-bytes (n .four ++ n .digits) all) (code-no-zero (n .four ++ n .digits) all)
 
 -- 20 is found, and the rest after it
 record Numbered (s : List ℕ) (n : ℕ) (rest : List ℕ) : Type 0 where
@@ -146,12 +139,15 @@ module _ (s : List ℕ) where
           left = g .left;
         }
 
-  closed : (at : ℕ) (o : Outcome) → SoundOutcome o → drop at s ≡ outcomeText o → Closed s at o
-  unfolding settledText rejectedText
+  closed : (at : ℕ) (o : Outcome) → isOutcome o ≡ true → drop at s ≡ outcomeText o → Closed s at o
+  unfolding settledText rejectedText isOutcome
   closed at (Settled day second) b h =
+      let g = and-true (ltb day 36525) (ltb second 86400) b in
+      let in-century = ltb-true day 36525 (g .0) in
+      let in-day = ltb-true second 86400 (g .1) in
       let last = line ":13E:" (digitsOf 6 (dateOf day) ++ digitsOf 6 (hhmmssOf second)) in
       let ds = date-small day in
-      let ts = time-small second (b .1) in
+      let ts = time-small second in-day in
       let f = numeral-found s at (bytes ":451:") last 1 0 (omega arith) (omega arith) (h ∙ ap (λ (l : List ℕ). line ":451:" l ++ last) zero-status) in
       let g = digits-found s (f .next) (bytes ":13E:") (digitsOf 6 (dateOf day) ++ digitsOf 6 (hhmmssOf second)) [] 12 (omega arith)
       (length-append (digitsOf 6 (dateOf day)) (digitsOf 6 (hhmmssOf second)) ∙ (omega (arith, digits-length 6 (dateOf day), digits-length 6 (hhmmssOf second))))
@@ -165,14 +161,14 @@ module _ (s : List ℕ) where
         next = g .next;
         good = sym (ended-2 s at refl (f .good) refl
             (settled-4 s (f .next) status refl (g .good)
-            refl (ap (λ (n : ℕ). dayOf (n / 1000000)) v ∙ ap dayOf (moment-day (dateOf day) (hhmmssOf second) ts) ∙ date-back day (b .0))
-            refl (ap (λ (n : ℕ). secondOf (n % 1000000)) v ∙ ap secondOf (moment-time (dateOf day) (hhmmssOf second) ts) ∙ digits-back second (b .1))));
+            refl (ap (λ (n : ℕ). dayOf (n / 1000000)) v ∙ ap dayOf (moment-day (dateOf day) (hhmmssOf second) ts) ∙ date-back day in-century)
+            refl (ap (λ (n : ℕ). secondOf (n % 1000000)) v ∙ ap secondOf (moment-time (dateOf day) (hhmmssOf second) ts) ∙ digits-back second in-day)));
         left = g .left;
       }
   closed at (Rejected n) b h =
       let last = line ":432:" (digitsOf 2 n) in
       let f = numeral-found s at (bytes ":451:") last 1 1 (omega arith) (omega arith) (h ∙ ap (λ (l : List ℕ). line ":451:" l ++ last) one-status) in
-      let g = numeral-found s (f .next) (bytes ":432:") [] 2 n (omega arith) b (f .left ∙ sym (append-nil last)) in
+      let g = numeral-found s (f .next) (bytes ":432:") [] 2 n (omega arith) (ltb-true n 100 b) (f .left ∙ sym (append-nil last)) in
       let status : Part = record { start = f .start; end = f .stop } in
       record {
         status = status;
@@ -182,8 +178,8 @@ module _ (s : List ℕ) where
         left = g .left;
       }
 
-  replied : (at : ℕ) (a : Answer) → SoundAnswer a → drop at s ≡ answerText a → Replied s at a
-  unfolding rejectedText
+  replied : (at : ℕ) (a : Answer) → isAnswer a ≡ true → drop at s ≡ answerText a → Replied s at a
+  unfolding rejectedText isAnswer
   replied at Recalled b h =
       let f = numeral-found s at (bytes ":451:") [] 1 0 (omega arith) (omega arith) (h ∙ ap (line ":451:") zero-status ∙ sym (append-nil (line ":451:" (digitsOf 1 0)))) in
       record {
@@ -196,7 +192,7 @@ module _ (s : List ℕ) where
   replied at (Kept n) b h =
       let last = line ":432:" (digitsOf 2 n) in
       let f = numeral-found s at (bytes ":451:") last 1 1 (omega arith) (omega arith) (h ∙ ap (λ (l : List ℕ). line ":451:" l ++ last) one-status) in
-      let g = numeral-found s (f .next) (bytes ":432:") [] 2 n (omega arith) b (f .left ∙ sym (append-nil last)) in
+      let g = numeral-found s (f .next) (bytes ":432:") [] 2 n (omega arith) (ltb-true n 100 b) (f .left ∙ sym (append-nil last)) in
       record {
         status = record { start = f .start; end = f .stop };
         detail = record { start = g .start; end = g .stop };
@@ -238,12 +234,26 @@ reads-134 s r k h =
     (sym (response-4 s refl (f .good) refl (g .good) refl (recall-4 s (g .next) _ refl (i .good) refl (o .good) (at-end s (o .next) (o .left)) refl)))
     ∙ ap (λ (c : Code). Recall (record { number = r .number; reference = c; answer = r .answer })) (code-there s _ (i .text) (k .reference .code))
 
--- "Their reader wants fields as in a request": what is written is read, a 132 and a 134
-pub settlement-reads : (r : Response132) → Sound r → responseAt (settlementText r) .reply ≡ Settlement r
-settlement-reads r k = reads-132 (settlementText r) r k refl
+-- "Their reader wants fields as in a request": what a text can hold is read from it, a 132 and a 134
+pub settlement-reads : (r : Response132) → isSettlement r ≡ true → responseAt (settlementText r) .reply ≡ Settlement r
+settlement-reads r h = reads-132 (settlementText r) r (settlement-sound r h) refl
 
-pub recall-reads : (r : Response134) → SoundRecall r → responseAt (recallText r) .reply ≡ Recall r
-recall-reads r k = reads-134 (recallText r) r k refl
+pub recall-reads : (r : Response134) → isRecall r ≡ true → responseAt (recallText r) .reply ≡ Recall r
+recall-reads r h = reads-134 (recallText r) r (recall-sound r h) refl
+
+-- each response that is written reads back, from the part of the buffer where it was written
+module _ (out : List ℕ) (at : ℕ) {e : ℕ} where
+  pub settlement-reads-back : (r : Response132) → writtenIf (isSettlement r) out at (settlementText r) ≡ End e
+      → responseAt (take (e - at) (drop at (afterIf (isSettlement r) out at (settlementText r)))) .reply ≡ Settlement r
+  settlement-reads-back r w =
+      let h = written-held (isSettlement r) out at (settlementText r) w in
+      ap (λ (s : List ℕ). responseAt s .reply) (written-whole (isSettlement r) out at (settlementText r) w) ∙ settlement-reads r h
+
+  pub recall-reads-back : (r : Response134) → writtenIf (isRecall r) out at (recallText r) ≡ End e
+      → responseAt (take (e - at) (drop at (afterIf (isRecall r) out at (recallText r)))) .reply ≡ Recall r
+  recall-reads-back r w =
+      let h = written-held (isRecall r) out at (recallText r) w in
+      ap (λ (s : List ℕ). responseAt s .reply) (written-whole (isRecall r) out at (recallText r) w) ∙ recall-reads r h
 
 -- "105 bytes" is the longest text of a 132, and 69 bytes of a 134
 pub settlement-short : (r : Response132) → Sound r → length (settlementText r) ≤ 105

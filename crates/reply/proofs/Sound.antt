@@ -1,25 +1,17 @@
--- The responses that a text can hold.
+-- The responses that a text can hold, by the characters of their codes.
 use Prim.Native.Nat.{ℕ, _≤_, _<_}
 use mathlib.Core.Path.{_≡_}
-use mathlib.Core.Bool.{Bool, false, _||_}
+use mathlib.Core.Bool.{true, false}
 use mathlib.Core.List.{List, _++_}
 use lib.ListN.{length}
-use Rattle.chars.specs.Words.{bytes}
 use Rattle.chars.specs.Chars.{isDigit, isCode}
 use Rattle.codes.specs.Codes.{packed, longOf}
 use Rattle.codes.specs.declared.Code.{Code}
-use Rattle.scan.specs.Scan.{begins}
+use Rattle.names.specs.Names.{forbidden}
 use Rattle.scan.proofs.Standing.{All}
-use Rattle.response.specs.declared.Outcome.{Outcome}
-use Rattle.response.specs.declared.Outcome.the-variants.{Settled, Rejected}
-use Rattle.response.specs.declared.Answer.{Answer}
-use Rattle.response.specs.declared.Answer.the-variants.{Recalled, Kept}
+use Rattle.response.specs.Values.{isOutcome, isAnswer}
 use Rattle.response.specs.declared.Settlement.{Settlement}
 use Rattle.response.specs.declared.Recall.{Recall}
-
--- "not beginning RITS, ACLR or ASXC"
-unfoldable pub forbidden : List ℕ → Bool
-forbidden l = begins (bytes "RITS") l || (begins (bytes "ACLR") l || begins (bytes "ASXC") l)
 
 -- "reference, 1 to 16 of A-Z 0-9, not beginning RITS, ACLR or ASXC"
 pub record Referred (c : Code) : Type 0 where
@@ -41,22 +33,13 @@ pub record Named (stream : ℕ) (bin : Code) : Type 0 where
   pub codes : All isCode four
   pub numerals : All isDigit digits
 
--- a day of 2000 to 2099 and a second of it, or two digits
-abbrev pub SoundOutcome : Outcome → Type 0
-SoundOutcome (Settled day second) = (day < 36525) × (second < 86400)
-SoundOutcome (Rejected number) = number < 100
-
-abbrev pub SoundAnswer : Answer → Type 0
-SoundAnswer Recalled = Unit {0}
-SoundAnswer (Kept number) = number < 100
-
 pub record Sound (r : Settlement) : Type 0 where
   pub number : r .number < 10000000
   pub reference : Referred (r .reference)
   pub batch : Named (r .stream) (r .bin)
-  pub outcome : SoundOutcome (r .outcome)
+  pub outcome : isOutcome (r .outcome) ≡ true
 
 pub record SoundRecall (r : Recall) : Type 0 where
   pub number : r .number < 10000000
   pub reference : Referred (r .reference)
-  pub answer : SoundAnswer (r .answer)
+  pub answer : isAnswer (r .answer) ≡ true

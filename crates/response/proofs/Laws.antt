@@ -97,10 +97,10 @@ module _ (out text : List ℕ) (at : ℕ) {k : ℕ} {b : Bool} (room : b ≡ leb
       let e : leb (at + length text) (length out) ≡ false = rw (← size) (sym room ∙ not-true b h) in
       (simp e, simp e)
 
-  pub enough : {o : List ℕ} → not b ≡ false → o ≡ sets out at text → (End (at + k) ≡ written out at text) × (o ≡ after out at text)
-  enough h p =
-      let e : leb (at + length text) (length out) ≡ true = rw (← size) (sym room ∙ not-false b h) in
-      (simp (e, size), simp e p)
+  pub enough : {o : List ℕ} {e : ℕ} → not b ≡ false → e ≡ at + length text → o ≡ sets out at text → (End e ≡ written out at text) × (o ≡ after out at text)
+  enough h z p =
+      let f : leb (at + length text) (length out) ≡ true = rw (← size) (sym room ∙ not-false b h) in
+      (simp (f, z), simp f p)
 
 pub settlement-length : (r : Settlement) {n m k : ℕ} → n ≡ length (longText (r .reference)) → m ≡ length (longText (r .bin)) → k ≡ length (outcomeText (r .outcome))
     → 36 + n + (18 + m) + k ≡ length (settlementText r)

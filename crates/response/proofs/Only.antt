@@ -1,21 +1,23 @@
 -- Two outcomes of a writer that satisfy its contract are equal: the answer, and the buffer.
 use Prim.Native.Nat.{ℕ}
 use mathlib.Core.Path.{_≡_, sym, _∙_}
+use mathlib.Core.Bool.{Bool}
 use mathlib.Core.List.{List}
-use Rattle.response.specs.Texts.{settlementText, recallText, written, after}
+use Rattle.response.specs.Texts.{settlementText, recallText}
+use Rattle.response.specs.Values.{isSettlement, isRecall, writtenIf, afterIf}
 use Rattle.response.specs.declared.Settlement.{Settlement}
 use Rattle.response.specs.declared.Recall.{Recall}
 use Rattle.response.specs.declared.Written.{Written}
 
 -- what a writer ensures of a text
-abbrev pub Wrote : List ℕ → ℕ → List ℕ → Written → List ℕ → Type 0
-Wrote out at text w o = (w ≡ written out at text) × (o ≡ after out at text)
+abbrev pub Wrote : Bool → List ℕ → ℕ → List ℕ → Written → List ℕ → Type 0
+Wrote holds out at text w o = (w ≡ writtenIf holds out at text) × (o ≡ afterIf holds out at text)
 
-one-text : (out : List ℕ) (at : ℕ) (text : List ℕ) {w v : Written} {o p : List ℕ} → Wrote out at text w o → Wrote out at text v p → (w ≡ v) × (o ≡ p)
-one-text out at text f g = (f .0 ∙ sym (g .0), f .1 ∙ sym (g .1))
+one-text : (holds : Bool) (out : List ℕ) (at : ℕ) (text : List ℕ) {w v : Written} {o p : List ℕ} → Wrote holds out at text w o → Wrote holds out at text v p → (w ≡ v) × (o ≡ p)
+one-text holds out at text f g = (f .0 ∙ sym (g .0), f .1 ∙ sym (g .1))
 
-pub one-settlement : (out : List ℕ) (at : ℕ) (r : Settlement) {w v : Written} {o p : List ℕ} → Wrote out at (settlementText r) w o → Wrote out at (settlementText r) v p → (w ≡ v) × (o ≡ p)
-one-settlement out at r = one-text out at (settlementText r)
+pub one-settlement : (out : List ℕ) (at : ℕ) (r : Settlement) {w v : Written} {o p : List ℕ} → Wrote (isSettlement r) out at (settlementText r) w o → Wrote (isSettlement r) out at (settlementText r) v p → (w ≡ v) × (o ≡ p)
+one-settlement out at r = one-text (isSettlement r) out at (settlementText r)
 
-pub one-recall : (out : List ℕ) (at : ℕ) (r : Recall) {w v : Written} {o p : List ℕ} → Wrote out at (recallText r) w o → Wrote out at (recallText r) v p → (w ≡ v) × (o ≡ p)
-one-recall out at r = one-text out at (recallText r)
+pub one-recall : (out : List ℕ) (at : ℕ) (r : Recall) {w v : Written} {o p : List ℕ} → Wrote (isRecall r) out at (recallText r) w o → Wrote (isRecall r) out at (recallText r) v p → (w ≡ v) × (o ≡ p)
+one-recall out at r = one-text (isRecall r) out at (recallText r)

@@ -11,7 +11,8 @@ ghost use lib.Seq.{sets};
 ghost use Rattle.chars.specs.Words.{bytes};
 ghost use Rattle.codes.specs.Codes.{shortText, longText};
 ghost use Rattle.put.specs.Digits.{digitsOf};
-ghost use Rattle.response.specs.Texts.{line, headText, batchText, settledText, rejectedText, outcomeText, settlementText, answerText, recallText, written, after};
+ghost use Rattle.response.specs.Texts.{line, headText, batchText, settledText, rejectedText, outcomeText, settlementText, answerText, recallText};
+ghost use Rattle.response.specs.Values.{isOutcome, isAnswer, isSettlement, isRecall, writtenIf, afterIf};
 
 // How a batch ended: settled on a day at a second of it, or rejected with a number.
 pub enum Outcome {
@@ -49,6 +50,13 @@ pub enum Written {
 
 // The longest response: a 132 with a reference of 16 characters, a BIN of 8 and a date.
 pub const LONGEST: usize = 105;
+
+// The number after the last of seven digits, of two digits, and the day after the last of 2099.
+const NUMBERS: u64 = 10_000_000;
+
+const REFUSALS: u64 = 100;
+
+const DAYS: u64 = 36_525;
 
 // Sub types.
 const SETTLEMENT: u64 = 132;
@@ -176,9 +184,20 @@ fn outcome_length(outcome: Outcome) -> usize
     }
 }
 
-// 132: written whole from a place on, or not at all.
-pub fn write_settlement(out: &mut [u8], at: usize, r: Settlement) -> Written
-    ensures { λ w. ⌜ (w ≡ written (now (out .entry)) at (settlementText r)) × (now (out .exit) ≡ after (now (out .entry)) at (settlementText r)) ⌝ }
+// How long a 132 is.
+fn settlement_length(r: Settlement) -> usize
+    ensures { λ k. ⌜ k ≡ length (settlementText r) ⌝ }
+{
+    let n = r.reference.len();
+    let m = r.bin.len();
+    let outcome = r.outcome;
+    36 + n + (18 + m) + outcome_length(outcome)
+}
+
+// 132 into a buffer that has room for it; the place after it.
+pub fn put_settlement(out: &mut [u8], at: usize, r: Settlement) -> usize
+    requires { ⌜ at + length (settlementText r) ≤ length (now out) ⌝ }
+    ensures { λ e. ⌜ (e ≡ at + length (settlementText r)) × (now (out .exit) ≡ sets (now (out .entry)) at (settlementText r)) ⌝ }
 {
     let n = r.reference.len();
     let m = r.bin.len();
@@ -186,13 +205,54 @@ pub fn write_settlement(out: &mut [u8], at: usize, r: Settlement) -> Written
     let e = b + (18 + m);
     let outcome = r.outcome;
     let k = e + outcome_length(outcome);
-    if !has_room(out, at, k) {
-        return Written::Unfit(Refusal::ShortBuffer);
-    }
     put_head(out, at, r.number, SETTLEMENT, r.reference, n);
     put_batch(out, at + b, r.stream, r.bin, m);
     put_outcome(out, at + e, outcome);
-    Written::End(at + k)
+    at + k
+}
+
+// "13E (date, HHMMSS) after 0 or 432 (two digits) after 1"
+fn is_outcome(outcome: Outcome) -> bool
+    ensures { λ r. ⌜ r ≡ isOutcome outcome ⌝ }
+{
+    match outcome {
+        Outcome::Settled(day, second) => day < DAYS && second < Clock::DAY,
+        Outcome::Rejected(number) => number < REFUSALS,
+    }
+}
+
+// Whether a text can hold a 132.
+fn is_settlement(r: Settlement) -> bool
+    ensures { λ b. ⌜ b ≡ isSettlement r ⌝ }
+{
+    if NUMBERS <= r.number {
+        return false;
+    }
+    if !names::is_reference(r.reference) {
+        return false;
+    }
+    if !names::is_bin(r.bin) {
+        return false;
+    }
+    if r.stream != names::stream_of(r.bin) {
+        return false;
+    }
+    let outcome = r.outcome;
+    is_outcome(outcome)
+}
+
+// 132: written whole from a place on, or not at all: 87 for what no text can hold, then 07.
+pub fn write_settlement(out: &mut [u8], at: usize, r: Settlement) -> Written
+    ensures { λ w. ⌜ (w ≡ writtenIf (isSettlement r) (now (out .entry)) at (settlementText r)) × (now (out .exit) ≡ afterIf (isSettlement r) (now (out .entry)) at (settlementText r)) ⌝ }
+{
+    if !is_settlement(r) {
+        return Written::Unfit(Refusal::Malformed);
+    }
+    let k = settlement_length(r);
+    if !has_room(out, at, k) {
+        return Written::Unfit(Refusal::ShortBuffer);
+    }
+    Written::End(put_settlement(out, at, r))
 }
 
 // The lines that tell how a recall ended.
@@ -216,18 +276,63 @@ fn answer_length(answer: Answer) -> usize
     }
 }
 
-// 134: written whole from a place on, or not at all.
-pub fn write_recall(out: &mut [u8], at: usize, r: Recall) -> Written
-    ensures { λ w. ⌜ (w ≡ written (now (out .entry)) at (recallText r)) × (now (out .exit) ≡ after (now (out .entry)) at (recallText r)) ⌝ }
+// How long a 134 is.
+fn recall_length(r: Recall) -> usize
+    ensures { λ k. ⌜ k ≡ length (recallText r) ⌝ }
+{
+    let n = r.reference.len();
+    let answer = r.answer;
+    36 + n + answer_length(answer)
+}
+
+// 134 into a buffer that has room for it; the place after it.
+pub fn put_recall(out: &mut [u8], at: usize, r: Recall) -> usize
+    requires { ⌜ at + length (recallText r) ≤ length (now out) ⌝ }
+    ensures { λ e. ⌜ (e ≡ at + length (recallText r)) × (now (out .exit) ≡ sets (now (out .entry)) at (recallText r)) ⌝ }
 {
     let n = r.reference.len();
     let b = 36 + n;
     let answer = r.answer;
     let k = b + answer_length(answer);
+    put_head(out, at, r.number, RECALL, r.reference, n);
+    put_answer(out, at + b, answer);
+    at + k
+}
+
+// "and 432 after 1"
+fn is_answer(answer: Answer) -> bool
+    ensures { λ r. ⌜ r ≡ isAnswer answer ⌝ }
+{
+    match answer {
+        Answer::Recalled => true,
+        Answer::Kept(number) => number < REFUSALS,
+    }
+}
+
+// Whether a text can hold a 134.
+fn is_recall(r: Recall) -> bool
+    ensures { λ b. ⌜ b ≡ isRecall r ⌝ }
+{
+    if NUMBERS <= r.number {
+        return false;
+    }
+    if !names::is_reference(r.reference) {
+        return false;
+    }
+    let answer = r.answer;
+    is_answer(answer)
+}
+
+// 134: written whole from a place on, or not at all: 87 for what no text can hold, then 07.
+pub fn write_recall(out: &mut [u8], at: usize, r: Recall) -> Written
+    ensures { λ w. ⌜ (w ≡ writtenIf (isRecall r) (now (out .entry)) at (recallText r)) × (now (out .exit) ≡ afterIf (isRecall r) (now (out .entry)) at (recallText r)) ⌝ }
+{
+    if !is_recall(r) {
+        return Written::Unfit(Refusal::Malformed);
+    }
+    let k = recall_length(r);
     if !has_room(out, at, k) {
         return Written::Unfit(Refusal::ShortBuffer);
     }
-    put_head(out, at, r.number, RECALL, r.reference, n);
-    put_answer(out, at + b, answer);
-    Written::End(at + k)
+    Written::End(put_recall(out, at, r))
 }

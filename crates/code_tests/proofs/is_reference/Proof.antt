@@ -1,0 +1,37 @@
+use Rattle.code_tests.proofs.Laws.{plain-reference}
+use borrow.Author.Needs.{needs}
+use Rattle.code_tests.proofs.is_reference.Statement.{statement}
+use Rattle.code_tests.proofs.is_reference.Tie as tie
+
+is-plain-requires : tie.Need-is-plain-requires
+is-plain-requires c κs = search needs
+
+is-reference-requires : tie.Need-is-reference-requires
+is-reference-requires c κs = search needs
+
+returns : tie.Need-returns
+returns c = search needs
+
+is-free-requires : tie.Need-is-free-requires
+is-free-requires c κs = search needs
+
+is-reference-requires-2 : tie.Need-is-reference-requires-2
+is-reference-requires-2 c κs = search needs
+
+returns-2 : tie.Need-returns-2
+returns-2 c = search needs
+
+returns-3 : tie.Need-returns-3
+returns-3 c = search plain-reference
+
+pub is-reference-spec : {M : Type 1} → statement M
+is-reference-spec =
+    tie.close
+    (tie.spec
+    is-plain-requires
+    is-reference-requires
+    returns
+    is-free-requires
+    is-reference-requires-2
+    returns-2
+    returns-3)

@@ -1,0 +1,41 @@
+use Rattle.names.proofs.Laws.{begin-0, begin-1, begin-2, begin-3}
+use borrow.Author.Needs.{needs}
+use Rattle.names.proofs.begins_with.Statement.{statement}
+use Rattle.names.proofs.begins_with.Tie as tie
+
+byte-requires : tie.Need-byte-requires
+byte-requires c κs = search needs
+
+returns : tie.Need-returns
+returns c = search begin-0
+
+byte-requires-2 : tie.Need-byte-requires-2
+byte-requires-2 c κs = search needs
+
+returns-2 : tie.Need-returns-2
+returns-2 c = search begin-1
+
+byte-requires-3 : tie.Need-byte-requires-3
+byte-requires-3 c κs = search needs
+
+returns-3 : tie.Need-returns-3
+returns-3 c = search begin-2
+
+byte-requires-4 : tie.Need-byte-requires-4
+byte-requires-4 c κs = search needs
+
+returns-4 : tie.Need-returns-4
+returns-4 c = search begin-3
+
+pub begins-with-spec : {M : Type 1} → statement M
+begins-with-spec =
+    tie.close
+    (tie.spec
+    byte-requires
+    returns
+    byte-requires-2
+    returns-2
+    byte-requires-3
+    returns-3
+    byte-requires-4
+    returns-4)
