@@ -26,7 +26,7 @@ module _ (b : Batches) (m : List ℕ) where
   AllLie p [] = Unit {0}
   AllLie p (x ∷ xs) = Lies p x × AllLie (p + 1) xs
 
-  abbrev placeRows : ℕ → List Place → List (List ℕ)
+  abbrev pub placeRows : ℕ → List Place → List (List ℕ)
   placeRows p [] = []
   placeRows p (x ∷ xs) = placeWords b m p x ∷ placeRows (p + 1) xs
 
@@ -36,11 +36,11 @@ module _ (b : Batches) (m : List ℕ) where
   rows-many p [] = refl
   rows-many p (x ∷ xs) = ap suc (rows-many (p + 1) xs)
 
-  place-long : (p : ℕ) (x : Place) → Lies p x → length (placeWords b m p x) ≡ 349
+  pub place-long : (p : ℕ) (x : Place) → Lies p x → length (placeWords b m p x) ≡ 349
   place-long p free h = length-replicate {A = ℕ} 349 0
   place-long p (live x) h = batch-long (phaseOf b p) (rankOf b p) (getD m p 0) x (h .0)
 
-  rows-back : (p : ℕ) (xs : List Place) → AllLie p xs → rows 349 (length xs) (placesWords b m p xs) ≡ placeRows p xs
+  pub rows-back : (p : ℕ) (xs : List Place) → AllLie p xs → rows 349 (length xs) (placesWords b m p xs) ≡ placeRows p xs
   unfolding rows placesWords
   rows-back p [] h = refl
   rows-back p (x ∷ xs) h =
@@ -54,14 +54,14 @@ module _ (b : Batches) (m : List ℕ) where
 
   -- ---- places
 
-  some-phase : (p : ℕ) → eqb (phaseOf b p) 0 ≡ false
+  pub some-phase : (p : ℕ) → eqb (phaseOf b p) 0 ≡ false
   some-phase p = byBool (member p (b .queue)) (λ e. rw e) (λ e. byBool (member p (b .pending)) (λ f. rw (e, f)) (λ f. rw (e, f)))
 
-  live-back : (phase rank memory : ℕ) (x : Batch) → Fits x → eqb phase 0 ≡ false → placeIn (batchWords phase rank memory x) ≡ live x
+  pub live-back : (phase rank memory : ℕ) (x : Batch) → Fits x → eqb phase 0 ≡ false → placeIn (batchWords phase rank memory x) ≡ live x
   unfolding placeIn batchWords
   live-back phase rank memory x f e = rw (e, batch-back phase rank memory x f)
 
-  place-back : (p : ℕ) (x : Place) → Lies p x → placeIn (placeWords b m p x) ≡ x
+  pub place-back : (p : ℕ) (x : Place) → Lies p x → placeIn (placeWords b m p x) ≡ x
   unfolding placeIn
   place-back p free h = refl
   place-back p (live x) h = live-back (phaseOf b p) (rankOf b p) (getD m p 0) x (h .0) (some-phase p)
@@ -72,7 +72,7 @@ module _ (b : Batches) (m : List ℕ) where
 
   -- ---- memory
 
-  word-back : (p : ℕ) (x : Place) → Lies p x → word (placeWords b m p x) 6 ≡ getD m p 0
+  pub word-back : (p : ℕ) (x : Place) → Lies p x → word (placeWords b m p x) 6 ≡ getD m p 0
   unfolding batchWords
   word-back p free h = sym (h .2)
   word-back p (live x) h = refl
@@ -102,18 +102,18 @@ module _ (b : Batches) (m : List ℕ) where
       rank = λ f. byBool (member p (b .queue)) (λ e. absurd (false≢true (sym (h .1 e) ∙ f))) (λ e. rw (e, f));
     }
 
-    queue-all : (p : ℕ) (xs : List Place) → AllLie p xs → AllTell queuedPhase (b .queue) oq p (placeRows p xs)
+    pub queue-all : (p : ℕ) (xs : List Place) → AllLie p xs → AllTell queuedPhase (b .queue) oq p (placeRows p xs)
     queue-all p [] h = tt
     queue-all p (x ∷ xs) h = (queue-told p x (h .0), queue-all (p + 1) xs (h .1))
 
-    pending-all : (p : ℕ) (xs : List Place) → AllLie p xs → AllTell pendingPhase (b .pending) op p (placeRows p xs)
+    pub pending-all : (p : ℕ) (xs : List Place) → AllLie p xs → AllTell pendingPhase (b .pending) op p (placeRows p xs)
     pending-all p [] h = tt
     pending-all p (x ∷ xs) h = (pending-told p x (h .0), pending-all (p + 1) xs (h .1))
 
   -- ---- the whole
 
   module _ (long : length (b .places) ≡ 32) (h : AllLie 0 (b .places)) where
-    whole : batchRows (placesWords b m 0 (b .places)) ≡ placeRows 0 (b .places)
+    pub whole : batchRows (placesWords b m 0 (b .places)) ≡ placeRows 0 (b .places)
     whole = ap (λ (n : ℕ). rows 349 n (placesWords b m 0 (b .places))) (sym long) ∙ rows-back 0 (b .places) h
 
     many : 32 ≡ length (placeRows 0 (b .places))

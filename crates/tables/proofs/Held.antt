@@ -64,18 +64,21 @@ messages-lettered banks n [] h = tt
 messages-lettered banks n (m ∷ ms) h = (h .0 .lettered, messages-lettered banks n ms (h .1))
 
 -- "1 to 10 payments in a message"
-messages-small : (banks n : ℕ) (ms : List Message) → Each (RightMessage banks n) ms → length (paymentsOf ms) ≤ 10 * length ms
+pub messages-small : (banks n : ℕ) (ms : List Message) → Each (RightMessage banks n) ms → length (paymentsOf ms) ≤ 10 * length ms
 messages-small banks n [] h = omega arith
 messages-small banks n (m ∷ ms) h = omega (arith, length-append (m .payments) (paymentsOf ms), h .0 .few, messages-small banks n ms (h .1))
 
-batch-fits : (banks : ℕ) (x : Batch) → RightBatch banks x → length (x .messages) ≤ x .count → Fits x
-batch-fits banks x r l =
-    let f : length (x .messages) ≤ 10 = omega (arith, r .count .1) in
+pub messages-fit : (banks : ℕ) (x : Batch) → x .count ≤ 10 → Each (RightMessage banks (x .count)) (x .messages) → length (x .messages) ≤ x .count → Fits x
+messages-fit banks x c r l =
+    let f : length (x .messages) ≤ 10 = omega arith in
     record {
       few = f;
-      small = omega (arith, messages-small banks (x .count) (x .messages) (r .messages));
-      lettered = messages-lettered banks (x .count) (x .messages) (r .messages);
+      small = omega (arith, messages-small banks (x .count) (x .messages) r);
+      lettered = messages-lettered banks (x .count) (x .messages) r;
     }
+
+batch-fits : (banks : ℕ) (x : Batch) → RightBatch banks x → length (x .messages) ≤ x .count → Fits x
+batch-fits banks x r l = messages-fit banks x (r .count .1) (r .messages) l
 
 module _ (banks : ℕ) (b : Batches) (m : List ℕ) (s : Stood banks b) (r : RightMemory b m) where
   -- a place that is not queued holds no memory
@@ -102,7 +105,7 @@ module _ (banks : ℕ) (b : Batches) (m : List ℕ) (s : Stood banks b) (r : Rig
       there : (i : ℕ) → p + 1 + i ≡ p + suc i
       there i = omega arith
 
-  places-lie : AllLie b m 0 (b .places)
+  pub places-lie : AllLie b m 0 (b .places)
   places-lie = all-lie 0 (b .places) (λ i. let e : 0 + i ≡ i = omega arith in rw e (lies i (s .each i) refl refl))
 
   -- only a live place is in an order, and it is one of the 32

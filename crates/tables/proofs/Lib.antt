@@ -4,6 +4,7 @@ pub mod Ranking
 pub mod Batching
 pub mod Held
 pub mod Kept
+pub mod Choosing
 pub mod Reported
 pub mod Breaks
 pub mod Unbroken
@@ -12,4 +13,3 @@ pub mod MemoryLaws
 pub mod TestLaws
 pub mod HouseLaws
 pub mod MomentLaws
-pub mod MessageLaws

@@ -2,21 +2,17 @@
 use Prim.Native.Nat.{ℕ, zero, suc, _+_, _-_, _*_, _≤_, _<_}
 use mathlib.Core.Path.{_≡_, refl, sym, ap, _∙_}
 use mathlib.Core.Bool.{Bool, true, false, not}
-use mathlib.Core.List.{List, [], _∷_, _++_, map}
+use mathlib.Core.List.{List, [], _∷_, map}
 use native.Mathlib.Omega.{arith}
 use borrow.Author.Tests.{eq-eqb, ne-eqb}
 use lib.ListN.{length, getD, set, take, drop, length-drop, length-map}
 use lib.Seq.{length-take-le}
 use Rattle.codes.specs.declared.Code.{Code}
 use Rattle.dates.specs.Dates.{isRemembered}
-use Rattle.engine.specs.State.{Found, at, nowhere, noEntry}
-use Rattle.engine.specs.Memory.{holds, isUsed, isVacant, vacant, note}
-use Rattle.engine.proofs.Seeking.{seek-answers}
-use Rattle.tables.specs.declared.Sought.{Sought}
-use Rattle.tables.specs.declared.Sought.the-variants.{Here, Nowhere}
-use Rattle.tables.specs.Seeking.{foundBy}
+use Rattle.engine.specs.State.{Found, at, nowhere}
+use Rattle.engine.specs.Memory.{holds, isUsed, isVacant, vacant}
 use Rattle.tables.specs.Rows.{rows, entryIn, entriesIn}
-use Rattle.tables.proofs.RowLaws.{rows-cut, rows-end, seekRows, seek-end, seek-here, seek-on, put}
+use Rattle.tables.proofs.RowLaws.{rows-cut, rows-end, seekRows, seek-end, seek-here, seek-on}
 
 -- ---- one row
 
@@ -40,14 +36,6 @@ module _ (row : List ℕ) (today : ℕ) where
   pub vacant-low : {r : Bool} → getD row 0 0 ≡ 0 → (getD row 1 0 ≡ 0 → ⊥) → r ≡ isRemembered (getD row 2 0) today
       → not r ≡ isVacant today (entryIn row)
   vacant-low e h g = ap not g ∙ rw (eq-eqb (getD row 0 0) 0 e, ne-eqb (getD row 1 0) 0 h)
-
-pub stored : (row : List ℕ) (code : Code) (today : ℕ) → length row ≡ 3
-    → entryIn (set (set (set row 0 (code .high)) 1 (code .low)) 2 today) ≡ record { code = code; day = today }
-stored [] code today h = let z : _≡_ {A = ℕ} 0 1 = omega (arith, h) in cc
-stored (a ∷ []) code today h = let z : _≡_ {A = ℕ} 0 1 = omega (arith, h) in cc
-stored (a ∷ b ∷ []) code today h = let z : _≡_ {A = ℕ} 0 1 = omega (arith, h) in cc
-stored (a ∷ b ∷ c ∷ []) code today h = refl
-stored (a ∷ b ∷ c ∷ d ∷ r) code today h = let z : _≡_ {A = ℕ} 0 1 = omega (arith, h) in cc
 
 -- ---- whether a code is used
 
@@ -110,7 +98,7 @@ module _ (t : List ℕ) (today n i : ℕ) {x : Found} (inv : x ≡ vacantRows to
     pub vacant-on : r ≡ false → x ≡ vacantRows today n (i + 1) t
     vacant-on e = inv ∙ seek-on entryIn (isVacant today) 3 n i t more (first ∙ e)
 
--- ---- noting
+-- ---- entries and their rows
 
 pub map-set : {A B : Type 0} (f : A → B) (l : List A) (i : ℕ) (y : A) → map f (set l i y) ≡ set (map f l) i (f y)
 map-set f [] zero y = refl
@@ -126,27 +114,3 @@ rows-long w (suc n) l = ap (λ (k : ℕ). suc k) (rows-long w n (drop w l))
 pub entries-long : (n : ℕ) (t : List ℕ) → length (entriesIn n t) ≡ n
 unfolding entriesIn
 entries-long n t = length-map (rows 3 n t) entryIn ∙ rows-long 3 n t
-
-module _ (t : List ℕ) (today n : ℕ) (code : Code) (r : Sought) (is : foundBy r ≡ vacant today (entriesIn n t)) where
-  pub noted-none : r ≡ Nowhere → entriesIn n t ≡ note today code (entriesIn n t)
-  unfolding note
-  noted-none e = rw (sym is, e)
-
-  module _ (p : ℕ) (e : r ≡ Here p) where
-    there : vacant today (entriesIn n t) ≡ at p
-    there = sym is ∙ rw e
-
-    -- the row that was found is a row of the table
-    pub noted-below : p < n
-    unfolding vacant
-    noted-below = omega (arith, seek-answers (isVacant today) noEntry (entriesIn n t) p there .inside, entries-long n t)
-
-    pub noted : (t′ ws : List ℕ) → n * 3 ≤ length t → length ws ≡ length (take (p * 3 + 3 - p * 3) (drop (p * 3) t))
-        → entryIn ws ≡ record { code = code; day = today } → t′ ≡ take (p * 3) t ++ (ws ++ drop (p * 3 + 3 - p * 3) (drop (p * 3) t))
-        → entriesIn n t′ ≡ note today code (entriesIn n t)
-    unfolding note entriesIn
-    noted t′ ws k l w f =
-        let d : p * 3 + 3 - p * 3 ≡ 3 = omega arith in
-        let g : length ws ≡ 3 = l ∙ part-row t p n noted-below k in
-        let a : rows 3 n t′ ≡ set (rows 3 n t) p ws = rw (f, d) (put 3 n p t ws noted-below k g) in
-        ap (λ (x : List (List ℕ)). map entryIn x) a ∙ map-set entryIn (rows 3 n t) p ws ∙ rw (w, there)

@@ -7,8 +7,7 @@ use native.Mathlib.Omega.{arith}
 use borrow.Author.Tests.{not-true, not-false, lt-ltb, le-ltb, lt-leb, le-leb}
 use lib.Dec.{leb, ltb}
 use lib.ListN.{length, length-append}
-use Rattle.chars.specs.declared.Refusal.the-variants.{WrongMoment, ShortBuffer, BrokenTables}
-use Rattle.chars.specs.Words.{Says}
+use Rattle.chars.specs.declared.Refusal.the-variants.{WrongMoment, ShortBuffer}
 use Rattle.dates.specs.Dates.{dayOf}
 use Rattle.dates.specs.declared.Day.{Day as Date}
 use Rattle.dates.specs.declared.Day.the-variants.{Number, Untrue}
@@ -21,14 +20,12 @@ use Rattle.engine.specs.declared.Action.the-variants.{ClosingBook}
 use Rattle.engine.specs.declared.Answer.{Answer}
 use Rattle.engine.specs.declared.Answer.the-variants.{Done, Refused}
 use Rattle.engine.specs.Days.{rightDate, banksOf, closingText}
-use Rattle.engine.specs.Calls.{isOpening, rightClock, rightDay, judge}
-use Rattle.engine.specs.Rules.{RightHouse}
+use Rattle.engine.specs.Kinds.{isOpening}
+use Rattle.engine.specs.Calls.{rightClock, rightDay, judge}
 use Rattle.engine.specs.State.{withClock}
 use Rattle.tables.specs.declared.Desk.{Desk}
 use Rattle.tables.specs.Rows.{Tables, stateIn, streamsOn}
-use Rattle.tables.specs.Moment.{dayOn, movedTo, lentWith, Needs, Roomy, Judged, Entered}
-use Rattle.tables.specs.House.{houseOn}
-use Rattle.tables.proofs.TestLaws.{says-no, says-yes, says-once}
+use Rattle.tables.specs.Moment.{dayOn, movedTo, Needs, Roomy, Judged}
 
 -- (a): the day of the moved desk
 pub moved-day : (d : Desk) (clock : ℕ) (t : Tables) → stateIn (movedTo d clock) t .day ≡ withClock (stateIn d t .day) clock
@@ -101,30 +98,3 @@ module _ (d : Desk) (a : Action) (room rows : ℕ) {needed : ℕ} (n : Needs d a
 
   pub room-rows : needed ≤ room → Roomy d a room rows (leb 528 rows)
   room-rows h = record { is = λ t. rw (sym (n .is t), le-leb needed room h) }
-
--- ---- 06 before both
-
-module _ (d : Desk) (codes flags balances limits : List ℕ) (clock : ℕ) (a : Action) (room rows : ℕ) where
-  module _ (k : Bool) (s : Says (RightHouse (houseOn d codes flags) balances limits) k) where
-    pub entered-broken : not k ≡ true → Entered d codes flags balances limits clock a room rows (Refused BrokenTables)
-    entered-broken e = record { kept = false; says = says-no k s e; is = λ batches references bins quick input. refl }
-
-    -- the one test gives what the judgement requires
-    pub entered-few : not k ≡ false → (d .banks ≤ 64) × (d .n ≤ 8)
-    entered-few e =
-        let w : RightHouse (houseOn d codes flags) balances limits = says-yes k s e in
-        (w .few-banks, omega (arith, w .few-streams, each-length (streamOf (d .streams)) 0 (d .n)))
-
-    pub entered-judged : not k ≡ false → {r : Answer} → Judged d clock a room rows r → Entered d codes flags balances limits clock a room rows r
-    entered-judged e j = record {
-      kept = true;
-      says = says-yes k s e;
-      is = λ batches references bins quick input. j .is (lentWith codes flags balances limits batches references bins) quick input;
-    }
-
-  -- any two outcomes are equal
-  pub entered-determined : (r r′ : Answer) → Entered d codes flags balances limits clock a room rows r
-      → Entered d codes flags balances limits clock a room rows r′ → r ≡ r′
-  entered-determined r r′ x y =
-      let e : x .kept ≡ y .kept = says-once (RightHouse (houseOn d codes flags) balances limits) (x .kept) (y .kept) (x .says) (y .says) in
-      x .is [] [] [] false [] ∙ rw e (sym (y .is [] [] [] false []))

@@ -31,11 +31,11 @@ given-room true true false h = let z : _≡_ {A = ℕ} 0 1 = cc in absurd (omega
 given-room true false v h = let z : _≡_ {A = ℕ} 0 1 = cc in absurd (omega arith)
 given-room false u v h = let z : _≡_ {A = ℕ} 0 1 = cc in absurd (omega arith)
 
-right-room : (s : State) (c : Call) → judge s c ≡ Done → (roomNeeded (c .action) s ≤ c .room) × (rowsNeeded ≤ c .rows)
+right-room : (s : State) (c : Call) → judge s c ≡ Done → (roomNeeded (c .asked .action) s ≤ c .room) × (rowsNeeded ≤ c .rows)
 unfolding judge
 right-room s c h =
-    let g = given-room (rightClock (c .action) (s .day) (c .clock) && rightDay (c .action) (s .day)) (leb (roomNeeded (c .action) s) (c .room)) (leb rowsNeeded (c .rows)) h in
-    (leb-true (roomNeeded (c .action) s) (c .room) (g .0), leb-true rowsNeeded (c .rows) (g .1))
+    let g = given-room (rightClock (c .asked .action) (s .day) (c .asked .clock) && rightDay (c .asked .action) (s .day)) (leb (roomNeeded (c .asked .action) s) (c .room)) (leb rowsNeeded (c .rows)) h in
+    (leb-true (roomNeeded (c .asked .action) s) (c .room) (g .0), leb-true rowsNeeded (c .rows) (g .1))
 
 abbrev Fits : Call → Result → Type 0
 Fits c r = (length (r .out) ≤ c .room) × (length (r .tries) ≤ c .rows)

@@ -8,10 +8,12 @@ use native.Mathlib.Omega.{arith}
 use native.Mathlib.Numerals.{add-one}
 use borrow.Author.Fill.{fill-more}
 use borrow.Author.Tests.{eq-eqb, ne-eqb}
+use lib.Dec.{eqb}
 use lib.ListN.{length, getD, set, take, drop, replicate, length-drop, length-replicate}
 use lib.Seq.{take-at, drop-at, drop-drop, take-add, length-take-le, drop-length, getD-take, getD-drop}
-use Rattle.engine.specs.State.{Found, at, nowhere, seekFrom, isFree}
-use Rattle.tables.specs.Rows.{rows, batchRows, placeIn}
+use Rattle.codes.specs.declared.Code.{Code}
+use Rattle.engine.specs.State.{Found, at, nowhere, seekFrom, isFree, hasBin}
+use Rattle.tables.specs.Rows.{rows, batchIn, batchRows, placeIn}
 
 module _ (w : ℕ) where
   -- the row at p is the part from p * w
@@ -91,8 +93,11 @@ cleared t t′ ws place h k e f =
 -- ---- the lowest free place
 
 module _ (t : List ℕ) (p : ℕ) where
+  pub row-word : (i : ℕ) → i < 349 → getD (take 349 (drop (p * 349) t)) i 0 ≡ getD t (p * 349 + i) 0
+  row-word i h = getD-take 349 (drop (p * 349) t) i 0 h ∙ getD-drop (p * 349) t i 0
+
   phase-word : getD (take 349 (drop (p * 349) t)) 0 0 ≡ getD t (p * 349 + 0) 0
-  phase-word = getD-take 349 (drop (p * 349) t) 0 0 (omega arith) ∙ getD-drop (p * 349) t 0 0
+  phase-word = row-word 0 (omega arith)
 
   module _ {x : Found} (inv : x ≡ seekRows placeIn isFree 349 32 p t) where
     pub free-end : 32 ≤ p → nowhere ≡ x
@@ -106,3 +111,31 @@ module _ (t : List ℕ) (p : ℕ) where
     pub free-on : p < 32 → (getD t (p * 349 + 0) 0 ≡ 0 → ⊥) → x ≡ seekRows placeIn isFree 349 32 (p + 1) t
     unfolding placeIn
     free-on h e = inv ∙ seek-on placeIn isFree 349 32 p t h (rw (phase-word, ne-eqb (getD t (p * 349 + 0) 0) 0 e))
+
+  -- ---- the batch of a BIN
+
+  module _ (bin : Code) where
+    pub bin-free : getD t (p * 349 + 0) 0 ≡ 0 → false ≡ hasBin bin (placeIn (take 349 (drop (p * 349) t)))
+    unfolding placeIn
+    bin-free e = rw (phase-word, eq-eqb (getD t (p * 349 + 0) 0) 0 e)
+
+    module _ (live : getD t (p * 349 + 0) 0 ≡ 0 → ⊥) where
+      pub bin-high : (getD t (p * 349 + 2) 0 ≡ bin .high → ⊥) → false ≡ hasBin bin (placeIn (take 349 (drop (p * 349) t)))
+      unfolding placeIn batchIn
+      bin-high e = rw (phase-word, ne-eqb (getD t (p * 349 + 0) 0) 0 live, row-word 2 (omega arith), ne-eqb (getD t (p * 349 + 2) 0) (bin .high) e)
+
+      pub bin-low : getD t (p * 349 + 2) 0 ≡ bin .high → eqb (getD t (p * 349 + 3) 0) (bin .low) ≡ hasBin bin (placeIn (take 349 (drop (p * 349) t)))
+      unfolding placeIn batchIn
+      bin-low e =
+          rw (phase-word, ne-eqb (getD t (p * 349 + 0) 0) 0 live, row-word 2 (omega arith), eq-eqb (getD t (p * 349 + 2) 0) (bin .high) e, row-word 3 (omega arith))
+
+    module _ {x : Found} (inv : x ≡ seekRows placeIn (hasBin bin) 349 32 p t) where
+      pub bins-end : 32 ≤ p → nowhere ≡ x
+      bins-end h = sym (inv ∙ seek-end placeIn (hasBin bin) 349 32 p t h)
+
+      module _ (more : p < 32) {r : Bool} (is : r ≡ hasBin bin (placeIn (take 349 (drop (p * 349) t)))) where
+        pub bins-here : r ≡ true → at p ≡ x
+        bins-here e = sym (inv ∙ seek-here placeIn (hasBin bin) 349 32 p t more (sym is ∙ e))
+
+        pub bins-on : r ≡ false → x ≡ seekRows placeIn (hasBin bin) 349 32 (p + 1) t
+        bins-on e = inv ∙ seek-on placeIn (hasBin bin) 349 32 p t more (sym is ∙ e)

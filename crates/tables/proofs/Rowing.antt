@@ -57,7 +57,7 @@ payment-three : (p : Payment) (rest : List ℕ) → drop 3 (paymentWords p ++ re
 payment-three (credit k c) rest = refl
 payment-three (debit l k c) rest = refl
 
-payments-back : (row : List ℕ) (at : ℕ) (ps : List Payment) (rest : List ℕ) → Each Lettered ps → drop at row ≡ paymentsWords ps ++ rest → paymentsFrom row at (length ps) ≡ ps
+pub payments-back : (row : List ℕ) (at : ℕ) (ps : List Payment) (rest : List ℕ) → Each Lettered ps → drop at row ≡ paymentsWords ps ++ rest → paymentsFrom row at (length ps) ≡ ps
 unfolding paymentsFrom paymentsWords
 payments-back row at [] rest g h = refl
 payments-back row at (p ∷ ps) rest g h =
@@ -65,7 +65,7 @@ payments-back row at (p ∷ ps) rest g h =
     let f : drop (at + 3) row ≡ paymentsWords ps ++ rest = past row at 3 (paymentWords p ++ (paymentsWords ps ++ rest)) e ∙ payment-three p (paymentsWords ps ++ rest) in
     rw (payment-back row at p (paymentsWords ps ++ rest) (g .0) e, payments-back row (at + 3) ps rest (g .1) f)
 
-payments-append : (a b : List Payment) → paymentsWords (a ++ b) ≡ paymentsWords a ++ paymentsWords b
+pub payments-append : (a b : List Payment) → paymentsWords (a ++ b) ≡ paymentsWords a ++ paymentsWords b
 unfolding paymentsWords
 payments-append [] b = refl
 payments-append (p ∷ a) b = ap (λ (l : List ℕ). paymentWords p ++ l) (payments-append a b) ∙ sym (append-assoc (paymentWords p) (paymentsWords a) (paymentsWords b))
@@ -127,13 +127,13 @@ pub record Fits (b : Batch) : Type 0 where
   pub lettered : EachLettered (b .messages)
 
 module _ (phase rank memory : ℕ) (b : Batch) (f : Fits b) where
-  abbrev first : List ℕ
+  abbrev pub first : List ℕ
   first = filled 40 (messagesWords (b .messages))
 
-  abbrev second : List ℕ
+  abbrev pub second : List ℕ
   second = filled 300 (paymentsWords (paymentsOf (b .messages)))
 
-  first-long : length first ≡ 40
+  pub first-long : length first ≡ 40
   first-long = filled-long 40 (messagesWords (b .messages)) (omega (arith, messages-long (b .messages), f .few))
 
   second-long : length second ≡ 300

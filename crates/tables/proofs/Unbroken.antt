@@ -14,7 +14,7 @@ use Rattle.request.specs.declared.Outcome.{Outcome as Read}
 use Rattle.request.specs.declared.Outcome.the-variants.{Settlement, Recall, Refused as Unread}
 use Rattle.request.specs.declared.Reading.{Reading}
 use Rattle.book.specs.Block.{Rule as BookRule, firstBroken as firstFault}
-use Rattle.book.specs.Book.{blocksIn, streamRules, bankRules, bankBlocks, bookRules, bookCheck}
+use Rattle.book.specs.Book.{mostMoney, blocksIn, streamRules, bankRules, bankBlocks, bookRules, bookCheck}
 use Rattle.book.specs.Accounts.{dayIn}
 use Rattle.book.specs.declared.Answer.{Answer as Check}
 use Rattle.book.specs.declared.Answer.the-variants.{Sound, Fault}
@@ -25,7 +25,8 @@ use Rattle.engine.specs.declared.Answer.{Answer}
 use Rattle.engine.specs.declared.Answer.the-variants.{Done, Refused}
 use Rattle.engine.specs.State.{Found, at, nowhere, onFound, seek, Day, Batch, Place, free, live, Batches, Known, State, isFree, onLive, placeAt, paymentsAt}
 use Rattle.engine.specs.Memory.{isUsed}
-use Rattle.engine.specs.Messages.{Acted, Rule, firstBroken, streamPlace, administrator, bankPlace, assembling, waiting, today, reference, bin, streamCode, lineRules, messageRules, isComplete, isEven, completed, admitted, admit, isKnown, settling, recalling, referenceFits, binFits, housed, repeated, sent, received, message, noted}
+use Rattle.engine.specs.Messages.{SubType, is131, is133, bySubType, Acted, Rule, firstBroken, streamPlace, administrator, bankPlace, assembling, waiting, today, reference, bin, streamCode, lineRules, messageRules, isComplete, isEven, completed, onText, onSender, repeated, fits, withReference, onBin, onRules, admit, isKnown, recalling, message}
+use Rattle.engine.specs.Kinds.{Kind, opens, steps, gives, kindOf}
 use Rattle.engine.specs.Changes.{subLimit, hasDebit, status}
 use Rattle.engine.specs.Days.{isLater, checked, openingAnswer}
 use Rattle.engine.specs.Calls.{Call, Engine, rightClock, rightDay, roomNeeded, rowsNeeded, judge, begun, act, call}
@@ -107,21 +108,21 @@ module _ (s : State) (r : Reading) where
 
   completed-other : (b : Batches) (k : Known) (p : ℕ) (x : Batch) → OtherActed (completed s r b k p x)
   unfolding completed
-  completed-other b k p x = by-cond OtherActed (isComplete s r x) (by-cond OtherActed (isEven s r x) tt refl) tt
+  completed-other b k p x = by-cond OtherActed (isComplete x) (by-cond OtherActed (isEven x) tt refl) tt
 
-  admitted-other : (a : Answer) (b : Batches) (k : Known) (p : ℕ) (x : Batch) → OtherAnswer a → OtherActed (admitted s r a b k p x)
-  admitted-other Done b k p x o = completed-other b k p x
-  admitted-other (Refused f) b k p x o = o
+  ruled-other : (a : Answer) (b : Batches) (k : Known) (p : ℕ) (x : Batch) → OtherAnswer a → OtherActed (onRules s r a b k p x (completed s r b k p x))
+  ruled-other Done b k p x o = completed-other b k p x
+  ruled-other (Refused f) b k p x o = o
 
   admit-other : (stream : ℕ) (b : Batches) (k : Known) (p : ℕ) (x : Batch) → OtherActed (admit s r stream b k p x)
   unfolding admit messageRules
   admit-other stream b k p x =
-      admitted-other (firstBroken (messageRules s r stream x)) b k p _
+      ruled-other (firstBroken (messageRules s r stream x)) b k p _
       (rules-other (messageRules s r stream x) (refl, (refl, (refl, (refl, (refl, lines-other stream _ _))))))
 
-  settling-other : (stream : ℕ) (k : Known) → OtherActed (settling s r stream k)
-  unfolding settling
-  settling-other stream k =
+  bin-other : (stream : ℕ) (k : Known) → OtherActed (onBin s r k (admit s r stream))
+  unfolding onBin
+  bin-other stream k =
       by-cond OtherActed (isKnown s r)
       (by-found OtherActed (assembling (s .batches) (bin s r)) refl (λ p. by-live OtherActed (placeAt (s .batches) p) refl (λ x. admit-other stream (s .batches) k p x)))
       (by-found OtherActed (seek isFree (s .batches .places)) refl (λ p. admit-other stream _ _ p _))
@@ -130,34 +131,34 @@ module _ (s : State) (r : Reading) where
   unfolding recalling
   recalling-other k = by-found OtherActed (waiting (s .batches) (bin s r)) refl (λ p. tt)
 
-  housed-other : (o : Read) (stream : ℕ) → OtherOutcome o → OtherActed (housed s r o stream)
-  housed-other Settlement stream h = by-cond OtherActed (referenceFits s r && binFits s r) (settling-other stream (noted s r)) refl
-  housed-other Recall stream h = by-cond OtherActed (referenceFits s r) (recalling-other (noted s r)) refl
-  housed-other (Unread b) stream h = h
+  noted-other : (t : SubType) (stream : ℕ) (k : Known) → OtherActed (bySubType t (onBin s r k (admit s r stream)) (recalling s r k))
+  noted-other is131 stream k = bin-other stream k
+  noted-other is133 stream k = recalling-other k
 
-  repeated-other : (o : Read) → OtherOutcome o → OtherActed (repeated s r o)
-  repeated-other Settlement h = by-found OtherActed (assembling (s .batches) (bin s r)) refl (λ p. refl)
-  repeated-other Recall h = refl
-  repeated-other (Unread b) h = h
+  repeated-other : (t : SubType) → OtherActed (repeated s r t)
+  repeated-other is131 = by-found OtherActed (assembling (s .batches) (bin s r)) refl (λ p. refl)
+  repeated-other is133 = refl
 
-  sent-other : (sender : ℕ) → OtherReading r → OtherActed (sent s r sender)
-  unfolding sent
-  sent-other sender h =
+  text-other : (next : SubType → Acted) (o : Read) → OtherOutcome o → ((t : SubType) → OtherActed (next t)) → OtherActed (onText s r o next)
+  text-other next Settlement h f = f is131
+  text-other next Recall h f = f is133
+  text-other next (Unread b) h f = h
+
+  message-other : (sender : ℕ) → OtherReading r → OtherActed (message s sender r)
+  unfolding message onSender
+  message-other sender h =
+      text-other _ (r .outcome) h (λ t.
       by-found OtherActed (streamPlace (s .house) (streamCode s r)) refl (λ i.
       by-cond OtherActed (eqb sender (administrator (s .house) i))
-      (by-cond OtherActed (isUsed (today s) (reference s r) (s .known .references)) (repeated-other (r .outcome) h) (housed-other (r .outcome) i h))
-      refl)
-
-  received-other : (o : Read) (sender : ℕ) → OtherReading r → OtherOutcome o → OtherActed (received s r o sender)
-  received-other Settlement sender h i = sent-other sender h
-  received-other Recall sender h i = sent-other sender h
-  received-other (Unread b) sender h i = i
+      (by-cond OtherActed (isUsed (today s) (reference s r) (s .known .references)) (repeated-other t)
+      (by-cond OtherActed (fits s r t) (noted-other t i (withReference s r)) refl))
+      refl))
 
 -- ---- the other actions, and a call
 
 sub-limit-other : (s : State) (code cents : ℕ) → OtherActed (subLimit s code cents)
 unfolding subLimit
-sub-limit-other s code cents = by-found OtherActed (bankPlace (s .house) code) refl (λ p. by-cond OtherActed (leb cents 6400000000000000) tt refl)
+sub-limit-other s code cents = by-found OtherActed (bankPlace (s .house) code) refl (λ p. by-cond OtherActed (leb cents mostMoney) tt refl)
 
 status-other : (s : State) (code : ℕ) (b : Code) (letter : ℕ) → OtherActed (status s code b letter)
 unfolding status
@@ -169,9 +170,9 @@ status-other s code b letter =
     refl
 
 act-other : (s : State) (z : Action) (input : List ℕ) → OtherActed (act s z input)
-unfolding act message
+unfolding act
 act-other s Opening input = tt
-act-other s (Message sender) input = received-other s (requestAt input) (requestAt input .outcome) sender (request-other input) (request-other input)
+act-other s (Message sender) input = message-other s (requestAt input) sender (request-other input)
 act-other s (SubLimit code cents) input = sub-limit-other s code cents
 act-other s (Status code b letter) input = status-other s code b letter
 act-other s Tick input = tt
@@ -181,26 +182,22 @@ act-other s (ClosingBook d) input = tt
 judge-other : (s : State) (c : Call) → OtherAnswer (judge s c)
 unfolding judge
 judge-other s c =
-    by-cond OtherAnswer (rightClock (c .action) (s .day) (c .clock) && rightDay (c .action) (s .day))
-    (by-cond OtherAnswer (leb (roomNeeded (c .action) s) (c .room) && leb rowsNeeded (c .rows)) tt refl)
+    by-cond OtherAnswer (rightClock (c .asked .action) (s .day) (c .asked .clock) && rightDay (c .asked .action) (s .day))
+    (by-cond OtherAnswer (leb (roomNeeded (c .asked .action) s) (c .room) && leb rowsNeeded (c .rows)) tt refl)
     refl
 
 module _ (e : Engine) (c : Call) where
   acted-other : OtherActed (acted e c)
-  acted-other = act-other (begun (e .state) (c .clock)) (c .action) (c .input)
+  acted-other = act-other (begun (e .state) (c .asked .clock)) (c .asked .action) (c .asked .input)
 
-  numbered-other : (j : Answer) (z : Action) → OtherAnswer j → OtherAnswer (numberedBy j z e c)
+  numbered-other : (j : Answer) (z : Kind) → OtherAnswer j → OtherAnswer (numberedBy j z e c)
   numbered-other (Refused r) z o = o
-  numbered-other Done Opening o = opening-other (e .state .day) (c .input)
-  numbered-other Done (Message n) o = acted-other
-  numbered-other Done (SubLimit k v) o = acted-other
-  numbered-other Done (Status k b l) o = acted-other
-  numbered-other Done Tick o = acted-other
-  numbered-other Done Close o = acted-other
-  numbered-other Done (ClosingBook d) o = tt
+  numbered-other Done opens o = opening-other (e .state .day) (c .asked .input)
+  numbered-other Done steps o = acted-other
+  numbered-other Done (gives d) o = tt
 
   call-other : OtherAnswer (call e c .answer)
-  call-other = subst OtherAnswer (sym (call-number e c)) (numbered-other (judge (e .state) c) (c .action) (judge-other (e .state) c))
+  call-other = subst OtherAnswer (sym (call-number e c)) (numbered-other (judge (e .state) c) (kindOf (c .asked .action)) (judge-other (e .state) c))
 
   -- no call by the rules answers 06
   pub never-broken : call e c .answer ≡ Refused BrokenTables → ⊥

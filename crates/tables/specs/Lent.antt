@@ -7,9 +7,9 @@ use lib.ListN.{length}
 use lib.Seq.{sets}
 use Rattle.chars.specs.Words.{Says}
 use Rattle.chars.specs.declared.Refusal.the-variants.{BrokenTables}
-use Rattle.engine.specs.declared.Action.{Action}
 use Rattle.engine.specs.declared.Answer.{Answer}
 use Rattle.engine.specs.declared.Answer.the-variants.{Done, Refused}
+pub use Rattle.engine.specs.Calls.{Asked}
 use Rattle.engine.specs.Calls.{Call, Result, call, cleared}
 use Rattle.engine.specs.Rules.{Valid, RightMemory}
 use Rattle.tables.specs.declared.Desk.{Desk}
@@ -29,22 +29,8 @@ pub record Lent : Type 0 where
   pub out : List ℕ
   pub tries : List ℕ
 
--- what a call is asked, beside what is lent
-pub record Asked : Type 0 where
-  pub quick : Bool
-  pub clock : ℕ
-  pub action : Action
-  pub input : List ℕ
-
 abbrev pub callOf : Lent → Asked → Call
-callOf x a = record {
-  quick = a .quick;
-  clock = a .clock;
-  action = a .action;
-  input = a .input;
-  room = length (x .out);
-  rows = length (x .tries);
-}
+callOf x a = record { asked = a; room = length (x .out); rows = length (x .tries) }
 
 -- the answer, how much of buffer and row was written, and what is left in all that was lent
 pub record Left : Type 0 where

@@ -2,6 +2,7 @@ pub mod Rows
 pub mod Words
 pub mod Lent
 pub mod Running
+pub mod Choosing
 pub mod Seeking
 pub mod House
 pub mod Moment

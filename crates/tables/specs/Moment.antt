@@ -1,19 +1,14 @@
 -- 05 and 07 from the day's scalars alone.
 use Prim.Native.Nat.{ℕ}
 use mathlib.Core.Path.{_≡_}
-use mathlib.Core.Bool.{Bool, _&&_, cond}
+use mathlib.Core.Bool.{Bool, _&&_}
 use mathlib.Core.List.{List}
 use lib.Dec.{leb}
 use Rattle.engine.specs.declared.Action.{Action}
 use Rattle.engine.specs.declared.Answer.{Answer}
-use Rattle.engine.specs.declared.Answer.the-variants.{Refused}
-use Rattle.chars.specs.Words.{Says}
-use Rattle.chars.specs.declared.Refusal.the-variants.{BrokenTables}
 use Rattle.engine.specs.State.{Day}
 use Rattle.engine.specs.Calls.{Call, roomNeeded, rowsNeeded, judge}
 use Rattle.tables.specs.declared.Desk.{Desk}
-use Rattle.engine.specs.Rules.{RightHouse}
-use Rattle.tables.specs.House.{houseOn}
 use Rattle.tables.specs.Rows.{Tables, stateIn}
 
 -- the day of a desk
@@ -34,14 +29,8 @@ movedTo d clock = record {
 
 -- what a call is told of itself before it acts
 abbrev pub callFor : Bool → ℕ → Action → List ℕ → (room rows : ℕ) → Call
-callFor quick clock action input room rows = record {
-  quick = quick;
-  clock = clock;
-  action = action;
-  input = input;
-  room = room;
-  rows = rows;
-}
+callFor quick clock action input room rows =
+    record { asked = record { quick = quick; clock = clock; action = action; input = input }; room = room; rows = rows }
 
 -- neither needs the tables: the length of a closing book is that of its banks
 pub record Needs (d : Desk) (a : Action) (room : ℕ) : Type 0 where
@@ -66,10 +55,3 @@ lentWith codes flags balances limits batches references bins = record {
   references = references;
   bins = bins;
 }
-
--- "06, then 05, then 07, come before all others in every engine call": whether the house keeps the rules, and the answer
-pub record Entered (d : Desk) (codes flags balances limits : List ℕ) (clock : ℕ) (a : Action) (room rows : ℕ) (r : Answer) : Type 0 where
-  pub kept : Bool
-  pub says : Says (RightHouse (houseOn d codes flags) balances limits) kept
-  pub is : (batches references bins : List ℕ) (quick : Bool) (input : List ℕ)
-      → r ≡ cond kept (judge (stateIn d (lentWith codes flags balances limits batches references bins)) (callFor quick clock a input room rows)) (Refused BrokenTables)

@@ -19,14 +19,7 @@ lentTo d t k = record { desk = d; tables = t; out = k .out; tries = k .tries }
 
 -- "Each engine call but clearing carries the clock in seconds, an output buffer and a try row"
 abbrev pub callIn : Lending → Call
-callIn k = record {
-  quick = k .asked .quick;
-  clock = k .asked .clock;
-  action = k .asked .action;
-  input = k .asked .input;
-  room = length (k .out);
-  rows = length (k .tries);
-}
+callIn k = record { asked = k .asked; room = length (k .out); rows = length (k .tries) }
 
 -- each call finds the tables as the one before left them
 pub data Ran : Desk → Tables → List Lending → List Left → Type 0 where

@@ -201,7 +201,7 @@ fn streams_right(row: &[u64], n: usize) -> bool
     streams_rise(row, n)
 }
 
-fn lengths_right(codes: &[u64], flags: &[u64], balances: &[u64], limits: &[u64]) -> bool
+pub fn lengths_right(codes: &[u64], flags: &[u64], balances: &[u64], limits: &[u64]) -> bool
     ensures { λ r. ⌜ Says (Lengths (now (codes .entry)) (now (flags .entry)) (now (balances .entry)) (now (limits .entry))) r ⌝ }
 {
     if codes.len() != Bank::MOST {

@@ -10,7 +10,8 @@ ghost use mathlib.Core.Bool.{_&&_};
 ghost use Prim.Native.Nat.{ℕ, _≤_};
 ghost use Rattle.dates.specs.Dates.{dayOf};
 ghost use Rattle.engine.specs.Days.{rightDate};
-ghost use Rattle.engine.specs.Calls.{isOpening, isOpen, isClosed, rightClock, rightDay};
+ghost use Rattle.engine.specs.Kinds.{isOpening};
+ghost use Rattle.engine.specs.Calls.{isOpen, isClosed, rightClock, rightDay};
 ghost use Rattle.tables.specs.Moment.{dayOn, movedTo, Needs, Roomy, Judged};
 
 // The seconds of a day.

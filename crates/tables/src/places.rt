@@ -5,11 +5,9 @@ use settle::Batch;
 ghost use mathlib.Core.Path.{_≡_};
 ghost use mathlib.Core.List.{map};
 ghost use Prim.Native.Nat.{ℕ, _+_, _*_, _≤_, _<_};
-ghost use lib.ListN.{length, getD, set, replicate};
-ghost use Rattle.settle.specs.Payments.{paymentsFrom};
-ghost use Rattle.engine.specs.State.{seek, isFree, paymentsOf};
-ghost use Rattle.tables.specs.Arriving.{withOne};
-ghost use Rattle.tables.specs.Rows.{word, placeIn, messagesIn, batchIn, batchRows};
+ghost use lib.ListN.{length, set, take, drop, replicate};
+ghost use Rattle.engine.specs.State.{seek, isFree, hasBin};
+ghost use Rattle.tables.specs.Rows.{placeIn, batchRows};
 ghost use Rattle.tables.specs.Seeking.{foundBy};
 
 // Zeroes a row.
@@ -48,19 +46,32 @@ pub fn lowest_free(batches: &[u64]) -> Sought
     Sought::Nowhere
 }
 
-// One message more in a row with room, its n payments already behind those of the others.
-pub fn put_message(row: &mut [u64], reference: Code, number: u64, n: u64)
-    requires { ⌜ (length (now row) ≡ 349) × (getD (now row) 7 0 < 10) × (getD (now row) 8 0 + n ≤ 100) ⌝ }
-    requires { ⌜ length (paymentsOf (messagesIn (now row) 0 49 (getD (now row) 7 0))) ≡ getD (now row) 8 0 ⌝ }
-    ensures { λ _. ⌜ batchIn (now (row .exit)) ≡ withOne (batchIn (now (row .entry))) (record { reference = reference; number = number; payments = paymentsFrom (now (row .entry)) (49 + 3 * getD (now (row .entry)) 8 0) n }) ⌝ }
+// Whether a place has a live batch of the BIN.
+fn has_bin(batches: &[u64], place: usize, bin: Code) -> bool
+    requires { ⌜ (place < 32) × (length (now batches) ≡ 11168) ⌝ }
+    ensures { λ r. ⌜ r ≡ hasBin bin (placeIn (take 349 (drop (place * 349) (now (batches .entry))))) ⌝ }
 {
-    let messages = row[Batch::MESSAGES_THERE];
-    let payments = row[Batch::PAYMENTS_THERE];
-    let at = Batch::MESSAGE + Batch::MESSAGE_WIDTH * (messages as usize);
-    row[at] = reference.high;
-    row[at + 1] = reference.low;
-    row[at + 2] = number;
-    row[at + 3] = n;
-    row[Batch::MESSAGES_THERE] = messages + 1;
-    row[Batch::PAYMENTS_THERE] = payments + n;
+    let row = place * Batch::WIDTH;
+    if batches[row + Batch::PHASE] == 0 {
+        return false;
+    }
+    if batches[row + Batch::BIN] != bin.high {
+        return false;
+    }
+    batches[row + (Batch::BIN + 1)] == bin.low
+}
+
+// The place of the BIN's live batch.
+pub fn batch_of(batches: &[u64], bin: Code) -> Sought
+    requires { ⌜ length (now batches) ≡ 11168 ⌝ }
+    ensures { λ r. ⌜ foundBy r ≡ seek (hasBin bin) (map placeIn (batchRows (now (batches .entry)))) ⌝ }
+{
+    let mut place = 0;
+    while place < Batch::LIVE {
+        if has_bin(batches, place, bin) {
+            return Sought::Here(place);
+        }
+        place += 1;
+    }
+    Sought::Nowhere
 }

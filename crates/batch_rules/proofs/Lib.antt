@@ -1,0 +1,4 @@
+pub mod Ranks
+pub mod RowWords
+pub mod RowRules
+pub mod Exact

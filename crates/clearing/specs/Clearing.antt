@@ -1,0 +1,23 @@
+-- What the parts of a clearing say and leave.
+use Prim.Native.Nat.{ℕ}
+use mathlib.Core.Path.{_≡_}
+use mathlib.Core.List.{List}
+use lib.ListN.{length, replicate}
+
+-- the lengths of the tables of rows
+pub record LongRows (batches references bins : List ℕ) : Type 0 where
+  pub batches-long : length batches ≡ 11168
+  pub references-long : length references ≡ 6144
+  pub bins-long : length bins ≡ 1536
+
+-- "all zero"
+pub record WipedAccounts (codes flags balances limits codes′ flags′ balances′ limits′ : List ℕ) : Type 0 where
+  pub codes-zero : codes′ ≡ replicate (length codes) 0
+  pub flags-zero : flags′ ≡ replicate (length flags) 0
+  pub balances-zero : balances′ ≡ replicate (length balances) 0
+  pub limits-zero : limits′ ≡ replicate (length limits) 0
+
+pub record WipedRows (batches references bins batches′ references′ bins′ : List ℕ) : Type 0 where
+  pub batches-zero : batches′ ≡ replicate (length batches) 0
+  pub references-zero : references′ ≡ replicate (length references) 0
+  pub bins-zero : bins′ ≡ replicate (length bins) 0

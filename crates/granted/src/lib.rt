@@ -1,0 +1,1 @@
+// What the table rules grant to the code of the calls: proofs alone.

@@ -1,0 +1,4 @@
+pub mod Parts
+pub mod CrossLaws
+pub mod DayLaws
+pub mod WholeLaws
