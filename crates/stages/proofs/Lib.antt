@@ -1,0 +1,12 @@
+pub mod OrderLaws
+pub mod HeadLaws
+pub mod Storing
+pub mod JoinLaws
+pub mod StageLaws
+pub mod EndLaws
+pub mod Canon
+pub mod ArriveLaws
+pub mod TestLaws
+pub mod Bridge
+pub mod Meets
+pub mod LetterLaws

@@ -1,0 +1,5 @@
+pub mod PlaceLaws
+pub mod LineLaws
+pub mod MessageLaws
+pub mod Meets
+pub mod WordLaws
