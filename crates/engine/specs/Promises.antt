@@ -1,5 +1,5 @@
 -- The words of the three demands, over any calls and clearings from a start. Each is said of what a call leaves, f, so that it can be held against any
--- engine; `call` keeps them all (proofs/Promises.antt), and the engines that are shut out break one each (proofs/ShutOut.antt).
+-- engine; `call` keeps them all (proofs/Promises.antt), and the engines that are shut out break one each (crate shut_out).
 use Prim.Native.Nat.{ℕ, suc, _+_, _≤_, _<_}
 use mathlib.Core.Path.{_≡_}
 use mathlib.Core.Bool.{Bool, true, false, _&&_, cond}
