@@ -4,7 +4,7 @@ use mathlib.Core.Path.{_≡_}
 use mathlib.Core.List.{List, [], _∷_}
 use lib.ListN.{length, take, drop}
 use lib.Seq.{sets}
-use Rattle.settle.specs.Payments.{howMany}
+use Rattle.settle.specs.Payments.{tableLength, howMany}
 use Rattle.settle.specs.Settlement.{accounts}
 use Rattle.settle.specs.Rules.{Good}
 use Rattle.queue.specs.Tests.{Outcome, stays, tryOf}
@@ -12,7 +12,7 @@ use Rattle.queue.specs.declared.Step.{Step}
 
 -- a batch's row stands in the table
 pub record Stands (batches : List ℕ) (place : ℕ) : Type 0 where
-  pub t-long : length batches ≡ 11168
+  pub t-long : length batches ≡ tableLength
   pub placed : place < 32
   pub few : howMany batches place ≤ 100
 

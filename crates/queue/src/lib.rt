@@ -7,9 +7,9 @@ ghost use lib.Dec.{eqb};
 ghost use lib.ListN.{length, getD, set, take};
 ghost use Rattle.settle.specs.Payments.{paymentAt, rowPayments};
 ghost use Rattle.settle.specs.Settlement.{accounts};
-ghost use Rattle.settle.specs.Rules.{Books, Good};
+ghost use Rattle.settle.specs.Rules.{Ranged, Books, Good};
 ghost use Rattle.queue.specs.Tests.{omits, turned, turn, walk, plainTest, quickTest, test, fuel};
-ghost use Rattle.queue.specs.Memory.{wake, credited, creditedBy};
+ghost use Rattle.queue.specs.Memory.{wake, credited, markedBy, marked, isMarked};
 ghost use Rattle.queue.specs.Rows.{Stands, AllGood, Noted, Walked, Tested, most};
 
 // What a batch's memory is after something happened to a bank: 0 has it tried, else it is held at the bank one below.
@@ -42,29 +42,66 @@ pub fn wake_batch(memory: &mut [u64], place: usize)
     }
 }
 
-// One settled payment: a credit of any amount wakes.
-fn wake_paid(memory: &mut [u64], batches: &[u64], at: usize)
-    requires { ⌜ at + 3 ≤ length (now batches) ⌝ }
-    ensures { λ _. ⌜ now (memory .exit) ≡ map (wake (creditedBy (paymentAt (now (batches .entry)) at))) (now (memory .entry)) ⌝ }
+// One settled payment: the bank of a credit of any amount gets a mark.
+fn mark_paid(marks: &mut [bool], batches: &[u64], at: usize)
+    requires { ⌜ (at + 3 ≤ length (now batches)) × (getD (now batches) at 0 < length (now marks)) ⌝ }
+    ensures { λ _. ⌜ now (marks .exit) ≡ markedBy (paymentAt (now (batches .entry)) at) (now (marks .entry)) ⌝ }
 {
-    let bank = batches[at];
+    let bank = batches[at] as usize;
     if batches[at + 2] == 0 {
-        wake_bank(memory, bank);
+        marks[bank] = true;
     }
 }
 
-// The settled batch at a place: its credits wake.
-pub fn wake_credited(memory: &mut [u64], batches: &[u64], place: usize)
-    requires { ⌜ Stands (now batches) place ⌝ }
-    ensures { λ _. ⌜ now (memory .exit) ≡ map (wake (credited (rowPayments (now (batches .entry)) place))) (now (memory .entry)) ⌝ }
+// The banks that the batch at a place credits get their marks.
+fn mark_credited(marks: &mut [bool], batches: &[u64], place: usize)
+    requires { ⌜ Stands (now batches) place × Ranged (rowPayments (now batches) place) × (length (now marks) ≡ 64) ⌝ }
+    ensures { λ _. ⌜ now (marks .exit) ≡ marked (rowPayments (now (batches .entry)) place) (now (marks .entry)) ⌝ }
 {
     let mut at = place * settle::Batch::WIDTH + settle::Batch::PAYMENT;
     let mut left = batches[place * settle::Batch::WIDTH + settle::Batch::PAYMENTS_THERE];
     while 0 < left {
-        wake_paid(memory, batches, at);
+        mark_paid(marks, batches, at);
         at += settle::Batch::PAYMENT_WIDTH;
         left -= 1;
     }
+}
+
+// What a batch's memory is after something happened to the banks with a mark.
+fn woken_by(held: u64, marks: &[bool]) -> u64
+    ensures { λ r. ⌜ r ≡ wake (isMarked (now (marks .entry))) held ⌝ }
+{
+    if held == 0 {
+        return 0;
+    }
+    let bank = (held - 1) as usize;
+    if bank < marks.len() {
+        if marks[bank] {
+            return 0;
+        }
+    }
+    held
+}
+
+// Batches held at a bank with a mark are tried again.
+fn wake_marked(memory: &mut [u64], marks: &[bool])
+    ensures { λ _. ⌜ now (memory .exit) ≡ map (wake (isMarked (now (marks .entry)))) (now (memory .entry)) ⌝ }
+{
+    let mut i = 0;
+    while i < memory.len() {
+        memory[i] = woken_by(memory[i], marks);
+        i += 1;
+    }
+}
+
+// The settled batch at a place: its credits wake, in one pass over its payments and one over the memory.
+pub fn wake_credited(memory: &mut [u64], batches: &[u64], place: usize)
+    requires { ⌜ Stands (now batches) place × Ranged (rowPayments (now batches) place) ⌝ }
+    ensures { λ _. ⌜ now (memory .exit) ≡ map (wake (credited (rowPayments (now (batches .entry)) place))) (now (memory .entry)) ⌝ }
+{
+    let mut marks = [false; settle::Bank::MOST];
+    mark_credited(&mut marks, batches, place);
+    wake_marked(memory, &marks);
 }
 
 // What the turn of a queued batch came to.

@@ -1,7 +1,7 @@
-use Rattle.queue.proofs.MemoryLaws.{paid-wakes, paid-sleeps}
+use Rattle.queue.proofs.MemoryLaws.{paid-marks, paid-skips}
 use borrow.Author.Needs.{needs}
-use Rattle.queue.proofs.wake_paid.Statement.{statement}
-use Rattle.queue.proofs.wake_paid.Tie as tie
+use Rattle.queue.proofs.mark_paid.Statement.{statement}
+use Rattle.queue.proofs.mark_paid.Tie as tie
 
 mul-bank : tie.Need-mul-bank
 mul-bank c = search needs
@@ -18,20 +18,20 @@ mul-if1 c = search needs
 shared-slice-read-if1 : tie.Need-shared-slice-read-if1
 shared-slice-read-if1 c = search needs
 
-wake-bank-requires : tie.Need-wake-bank-requires
-wake-bank-requires c κs = search needs
+slice-write-marks : tie.Need-slice-write-marks
+slice-write-marks c = search needs
 
 same-length : tie.Need-same-length
 same-length c = search needs
 
 returns : tie.Need-returns
-returns c = search (needs, paid-wakes)
+returns c = search (needs, paid-marks)
 
 returns-2 : tie.Need-returns-2
-returns-2 c = search (needs, paid-sleeps)
+returns-2 c = search (needs, paid-skips)
 
-pub wake-paid-spec : {M : Type 1} → statement M
-wake-paid-spec =
+pub mark-paid-spec : {M : Type 1} → statement M
+mark-paid-spec =
     tie.close
     (tie.spec
     mul-bank
@@ -39,7 +39,7 @@ wake-paid-spec =
     add-if1
     mul-if1
     shared-slice-read-if1
-    wake-bank-requires
+    slice-write-marks
     same-length
     returns
     returns-2)
