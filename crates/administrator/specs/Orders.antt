@@ -8,8 +8,8 @@ use lib.ListN.{length, getD}
 use lib.Seq.{sets}
 use Rattle.chars.specs.Words.{bytes}
 use Rattle.chars.specs.Chars.{isCode}
-use Rattle.clock.specs.Clock.{hhmmOf}
-use Rattle.codes.specs.Codes.{shortText, longText, spelled}
+use Rattle.clock.specs.Clock.{minutesOfDay, hhmmOf}
+use Rattle.codes.specs.Codes.{shortEnd, shortText, longText, spelled}
 use Rattle.codes.specs.declared.Code.{Code}
 use Rattle.put.specs.Digits.{digitsOf}
 use Rattle.response.specs.Texts.{written, after}
@@ -59,7 +59,7 @@ nameText c = held (proper (spelled c)) (longText c)
 
 -- a stream, a bank or four letters
 unfoldable pub fourText : ℕ → List ℕ
-fourText v = held (ltb v 4294967296) (shortText v)
+fourText v = held (ltb v shortEnd) (shortText v)
 
 -- "nn/nn: number, count"
 unfoldable pub numbersText : ℕ → ℕ → List ℕ
@@ -67,7 +67,7 @@ numbersText n m = fixed 2 n ++ (bytes "/" ++ fixed 2 m)
 
 -- "activation HHMM, 00 to 23 and 00 to 59"
 unfoldable pub timeText : ℕ → List ℕ
-timeText m = held (ltb m 1440) (digitsOf 4 (hhmmOf m))
+timeText m = held (ltb m minutesOfDay) (digitsOf 4 (hhmmOf m))
 
 -- "We write an amount with no needless leading zero and two digits after the comma."
 unfoldable pub amountText : ℕ → List ℕ

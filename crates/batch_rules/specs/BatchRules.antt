@@ -7,6 +7,7 @@ use lib.Dec.{eqb}
 use lib.ListN.{length, getD, set, take, drop}
 use Rattle.chars.specs.Words.{Says}
 use Rattle.codes.specs.declared.Code.{Code}
+use Rattle.clock.specs.Clock.{minutesOfDay}
 use Rattle.book.specs.Book.{each}
 use Rattle.book.specs.Range.{Each}
 use Rattle.settle.specs.Payments.{Payment, bankOf, paymentsFrom}
@@ -54,7 +55,7 @@ pub record RightHead (count : ℕ) (h : Head) : Type 0 where
 pub record RightTop (row : List ℕ) : Type 0 where
   pub bin : isBin (codeAt row 2) ≡ true
   pub count : (1 ≤ word row 4) × (word row 4 ≤ 10)
-  pub minute : word row 5 ≤ 1440
+  pub minute : word row 5 ≤ minutesOfDay
   pub there : (1 ≤ word row 7) × (word row 7 ≤ word row 4)
 
 pub record RightHeads (row : List ℕ) : Type 0 where

@@ -6,8 +6,8 @@ use mathlib.Core.List.{List, [], _∷_}
 use lib.Dec.{ltb}
 use lib.ListN.{length}
 use Rattle.chars.specs.Chars.{isCode}
-use Rattle.codes.specs.Codes.{shortText}
-use Rattle.dates.specs.Dates.{sum}
+use Rattle.codes.specs.Codes.{shortEnd, shortText}
+use Rattle.dates.specs.Dates.{daysOfCentury, sum}
 pub use Rattle.names.specs.Names.{allAre}
 use Rattle.book.specs.declared.Field.the-variants.{Code, Flags, Balance, Limit}
 use Rattle.book.specs.Book.{mostMoney}
@@ -20,7 +20,7 @@ Each P (x ∷ xs) = P x × Each P xs
 
 -- "4 of A-Z 0-9", as a number
 abbrev pub isShort : ℕ → Bool
-isShort v = ltb v 4294967296 && allAre isCode (shortText v)
+isShort v = ltb v shortEnd && allAre isCode (shortText v)
 
 -- "Codes rise strictly."
 abbrev pub Rising : List ℕ → Type 0
@@ -34,7 +34,7 @@ streamCodes (x ∷ xs) = x .code ∷ streamCodes xs
 
 pub record InRange (day : ℕ) (streams : List Stream) (banks : List Bank) : Type 0 where
   -- "a true date of 2000 to 2099"
-  pub date : day < 36525
+  pub date : day < daysOfCentury
   -- "1 to 64 banks, 1 to 8 streams"
   pub some-streams : 1 ≤ length streams
   pub few-streams : length streams ≤ 8

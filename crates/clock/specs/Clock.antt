@@ -9,9 +9,16 @@ use Rattle.clock.specs.declared.Minute.the-variants.{Number as MinuteNum
 use Rattle.clock.specs.declared.Second.{Second}
 use Rattle.clock.specs.declared.Second.the-variants.{Number as SecondNumber, Untrue as NoSecond}
 
+-- "0 to 86,399", "00 to 23 and 00 to 59"
+abbrev pub secondsOfDay : ℕ
+secondsOfDay = 86400
+
+abbrev pub minutesOfDay : ℕ
+minutesOfDay = 1440
+
 -- "clock not in 0 to 86,399" is refused
 unfoldable pub clockOf : ℕ → Moment
-clockOf seconds = cond (ltb seconds 86400) (At (record { seconds = seconds })) Never
+clockOf seconds = cond (ltb seconds secondsOfDay) (At (record { seconds = seconds })) Never
 
 -- a minute of the day has begun when its first second is there
 unfoldable pub hasBegun : ℕ → ℕ → Bool
@@ -24,7 +31,7 @@ minuteOf hhmm =
 
 -- HHMM of a minute of the day; 0 past the last
 unfoldable pub hhmmOf : ℕ → ℕ
-hhmmOf minute = cond (ltb minute 1440) (100 * (minute / 60) + minute % 60) 0
+hhmmOf minute = cond (ltb minute minutesOfDay) (100 * (minute / 60) + minute % 60) 0
 
 -- "HHMMSS", a true time: its second of the day
 unfoldable pub secondOf : ℕ → Second
@@ -36,4 +43,4 @@ secondOf hhmmss =
 -- HHMMSS of a second of the day; 0 past the last
 unfoldable pub hhmmssOf : ℕ → ℕ
 hhmmssOf seconds =
-    cond (ltb seconds 86400) (10000 * (seconds / 3600) + (100 * (seconds / 60 % 60) + seconds % 60)) 0
+    cond (ltb seconds secondsOfDay) (10000 * (seconds / 3600) + (100 * (seconds / 60 % 60) + seconds % 60)) 0

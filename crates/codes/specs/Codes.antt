@@ -15,6 +15,10 @@ packOn (suc w) v (x ∷ l) = packOn w (v * 256 + x) l
 abbrev pub packed : ℕ → List ℕ → ℕ
 packed w l = packOn w 0 l
 
+-- four characters as one number stay below it
+abbrev pub shortEnd : ℕ
+shortEnd = 4294967296
+
 -- a bank or a stream: four characters as one number
 unfoldable pub shortAt : List ℕ → ℕ → ℕ
 shortAt s at = packed 4 (drop at s)

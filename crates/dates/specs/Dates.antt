@@ -66,10 +66,14 @@ monthDay m (days ∷ more) place =
 abbrev pub yearAt : ℕ → ℕ
 yearAt k = 4 * k / 1461
 
+-- "a true date of 2000 to 2099"
+abbrev pub daysOfCentury : ℕ
+daysOfCentury = 36525
+
 -- YYMMDD of a day number; 0 past 2099-12-31
 unfoldable pub dateOf : ℕ → ℕ
 dateOf k =
-    cond (ltb k 36525) (10000 * yearAt k + monthDay 0 (months (yearAt k)) (k - yearStart (yearAt k))) 0
+    cond (ltb k daysOfCentury) (10000 * yearAt k + monthDay 0 (months (yearAt k)) (k - yearStart (yearAt k))) 0
 
 -- "today or on one of the 14 days before"
 unfoldable pub isRemembered : ℕ → ℕ → Bool

@@ -18,7 +18,7 @@ use Rattle.settle.specs.Payments.{Payment}
 use Rattle.chars.specs.declared.Refusal.the-variants.{WrongMoment, ShortBuffer}
 use Rattle.engine.specs.declared.Answer.{Answer}
 use Rattle.engine.specs.declared.Answer.the-variants.{Done, Refused}
-use Rattle.engine.specs.Kinds.{Kind, opens, steps, gives, kindOf, isClose}
+use Rattle.engine.specs.Kinds.{Kind, opens, steps, gives, kindOf, isClose, ownOf}
 use Rattle.engine.specs.State.{free, Batches, State, noMemory, paymentsAt, withPlace}
 use Rattle.engine.specs.Messages.{Acted}
 use Rattle.engine.specs.Ending.{emptied, afterTest}
@@ -48,14 +48,14 @@ module _ (e : Engine) (c : Call) (t : True (paymentsAt (e .state .batches)) (e .
   s = begun (e .state) (c .asked .clock)
 
   abbrev a : Acted
-  a = act s (c .asked .action) (c .asked .input)
+  a = act s (ownOf (c .asked .action)) (c .asked .input)
 
   true-begun : True (paymentsAt (s .batches)) (s .books) (e .memory)
   unfolding begun join
   true-begun = t
 
   pub true-acted : True (paymentsAt (a .batches)) (a .books) (woken (a .wakes) (e .memory))
-  true-acted = true-moved s a (e .memory) (moved s (c .asked .action) (c .asked .input)) true-begun
+  true-acted = true-moved s a (e .memory) (moved s (ownOf (c .asked .action)) (c .asked .input)) true-begun
 
   pub true-tested : (q : Bool) → True (paymentsAt (a .batches)) (tested q a (e .memory) .books) (tested q a (e .memory) .memory)
   unfolding tested
@@ -90,7 +90,7 @@ module _ (s : State) (m n : List ℕ) (c : Call) (x y : Bool) where
   unfolding stepped tested
   stepped-alike g h =
       let b : State = begun s (c .asked .clock) in
-      let a : Acted = act b (c .asked .action) (c .asked .input) in
+      let a : Acted = act b (ownOf (c .asked .action)) (c .asked .input) in
       ends-alike b a (tested x a m) (tested y a n)
       (tests-agree (paymentsAt (a .batches)) x y (fuel (a .batches .queue)) (a .books) (woken (a .wakes) m) (woken (a .wakes) n) (a .batches .queue)
       (λ e. true-acted one (by x c) g) (λ e. true-acted two (by y c) h))
@@ -146,7 +146,7 @@ module _ (e : Engine) (c : Call) (f : Faithful e) where
   s₁ = begun (e .state) (c .asked .clock)
 
   abbrev a₁ : Acted
-  a₁ = act s₁ (c .asked .action) (c .asked .input)
+  a₁ = act s₁ (ownOf (c .asked .action)) (c .asked .input)
 
   abbrev o₁ : Outcome
   o₁ = tested (c .asked .quick) a₁ (e .memory)

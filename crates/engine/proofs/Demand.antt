@@ -22,7 +22,7 @@ use Rattle.book.specs.Accounts.{banksIn}
 use Rattle.book.specs.declared.Field.the-variants.{Balance}
 use Rattle.engine.specs.declared.Answer.{Answer}
 use Rattle.engine.specs.declared.Answer.the-variants.{Done, Refused}
-use Rattle.engine.specs.Kinds.{Kind, opens, steps, gives, kindOf, isClose}
+use Rattle.engine.specs.Kinds.{Kind, opens, steps, gives, kindOf, isClose, ownOf}
 use Rattle.engine.specs.State.{Place, State, placePayments, paymentsAt}
 use Rattle.engine.specs.Messages.{Acted}
 use Rattle.engine.specs.Ending.{afterTest}
@@ -119,7 +119,7 @@ module _ (readers : Readers) (e : Engine) (c : Call) (k : Kept (e .state)) (f : 
 
   same : a .books .balances ≡ e .state .books .balances
   unfolding begun
-  same = same-money s (requestAt (c .asked .input)) (did s (c .asked .action) (c .asked .input))
+  same = same-money s (requestAt (c .asked .input)) (did s (ownOf (c .asked .action)) (c .asked .input))
 
   paid : Trail (paymentsAt (a .batches)) (a .books) (o .done) (o .books)
   unfolding tested

@@ -19,10 +19,9 @@ use Rattle.response.specs.declared.Outcome.the-variants.{Rejected}
 use Rattle.response.specs.declared.Answer.the-variants.{Recalled, Kept}
 use Rattle.book.specs.Book.{mostMoney}
 use Rattle.queue.specs.Promise.{limited}
-use Rattle.engine.specs.declared.Action.{Action}
-use Rattle.engine.specs.declared.Action.the-variants.{Opening, Message, SubLimit, Status, Tick, Close, ClosingBook}
 use Rattle.engine.specs.declared.Answer.{Answer}
 use Rattle.engine.specs.declared.Answer.the-variants.{Done, Refused}
+use Rattle.engine.specs.Kinds.{Own, receives, changesLimit, changesStatus, nothing}
 use Rattle.engine.specs.State.{Found, at, nowhere, onFound, seek, isFree, Batch, Place, free, live, onLive, Batches, Known, State, placeAt, placeMessages, paymentsAt, withPlace}
 use Rattle.engine.specs.Memory.{isUsed, vacant}
 use Rattle.engine.specs.Replies.{Reply, settlement, recall, repliesTo}
@@ -177,16 +176,13 @@ module _ (s : State) (r : Reading) where
       by-cond Did (hasDebit k (paymentsAt (s .batches) p)) (λ _. letters k letter p bin m (is-waiting (s .batches) bin p f)) (λ _. sent (idle _)))))
       (λ _. sent (idle _))
 
-  did-action : (x : Action) (input : List ℕ) → requestAt input ≡ r → Did (act s x input)
+  did-own : (x : Own) (input : List ℕ) → requestAt input ≡ r → Did (act s x input)
   unfolding act
-  did-action Opening input e = sent (idle _)
-  did-action (Message sender) input e = rw e (sent (did-message sender))
-  did-action (SubLimit code cents) input e = did-limit code cents
-  did-action (Status code bin letter) input e = did-status code bin letter
-  did-action Tick input e = sent (idle _)
-  did-action Close input e = sent (idle _)
-  did-action (ClosingBook date) input e = sent (idle _)
+  did-own (receives sender) input e = rw e (sent (did-message sender))
+  did-own (changesLimit code cents) input e = did-limit code cents
+  did-own (changesStatus code bin letter) input e = did-status code bin letter
+  did-own nothing input e = sent (idle _)
 
 -- every action
-pub did : (s : State) (x : Action) (input : List ℕ) → Did s (requestAt input) (act s x input)
-did s x input = did-action s (requestAt input) x input refl
+pub did : (s : State) (x : Own) (input : List ℕ) → Did s (requestAt input) (act s x input)
+did s x input = did-own s (requestAt input) x input refl

@@ -25,7 +25,7 @@ use Rattle.queue.proofs.Promises.{fresh-none}
 use Rattle.book.specs.Range.{Each}
 use Rattle.engine.specs.declared.Answer.{Answer}
 use Rattle.engine.specs.declared.Answer.the-variants.{Done, Refused}
-use Rattle.engine.specs.Kinds.{Kind, opens, steps, gives, kindOf, isClose}
+use Rattle.engine.specs.Kinds.{Kind, opens, steps, gives, kindOf, isClose, ownOf}
 use Rattle.engine.specs.State.{Place, free, Batches, Known, Batch, State, noBatches, noMemory, placePayments, paymentsAt}
 use Rattle.engine.specs.Joining.{keep, byTime, time, isDue, join}
 use Rattle.engine.specs.Messages.{Acted, Waking, bank, place, ended, toTail, mayQueue, withMessage}
@@ -214,7 +214,7 @@ module _ (e : Engine) (c : Call) (h : RightMemory (e .state .batches) (e .memory
   s₁ = begun (e .state) (c .asked .clock)
 
   abbrev a₁ : Acted
-  a₁ = act s₁ (c .asked .action) (c .asked .input)
+  a₁ = act s₁ (ownOf (c .asked .action)) (c .asked .input)
 
   abbrev o₁ : Outcome
   o₁ = tested (c .asked .quick) a₁ (e .memory)
@@ -226,7 +226,7 @@ module _ (e : Engine) (c : Call) (h : RightMemory (e .state .batches) (e .memory
       (omega (arith, i .0, times-append p (e .state .batches .queue) (byTime (time (c .asked .clock) (e .state .batches)) [] (keep (isDue (c .asked .clock) (e .state .batches)) (e .state .batches .pending)))), i .1)
 
   acted-holds : Holds (a₁ .batches .queue) (paymentsAt (a₁ .batches)) (woken (a₁ .wakes) (e .memory))
-  acted-holds = acted-held s₁ (requestAt (c .asked .input)) a₁ (e .memory) (moved s₁ (c .asked .action) (c .asked .input)) (still-queued s₁ (requestAt (c .asked .input)) (did s₁ (c .asked .action) (c .asked .input))) begun-held
+  acted-holds = acted-held s₁ (requestAt (c .asked .input)) a₁ (e .memory) (moved s₁ (ownOf (c .asked .action)) (c .asked .input)) (still-queued s₁ (requestAt (c .asked .input)) (did s₁ (ownOf (c .asked .action)) (c .asked .input))) begun-held
 
   pub tested-holds : Holds (a₁ .batches .queue) (paymentsAt (a₁ .batches)) (o₁ .memory)
   unfolding tested

@@ -16,7 +16,7 @@ use Rattle.queue.specs.Tests.{Outcome, fuel}
 use Rattle.book.specs.Range.{Each}
 use Rattle.engine.specs.declared.Answer.{Answer}
 use Rattle.engine.specs.declared.Answer.the-variants.{Done, Refused}
-use Rattle.engine.specs.Kinds.{Kind, opens, steps, gives, kindOf, isClose}
+use Rattle.engine.specs.Kinds.{Kind, opens, steps, gives, kindOf, isClose, ownOf}
 use Rattle.engine.specs.State.{State, fresh, noBatches, paymentsAt}
 use Rattle.engine.specs.Messages.{Acted}
 use Rattle.engine.specs.Days.{columnOf, opened, checked, openingAnswer}
@@ -98,7 +98,7 @@ module _ (readers : Readers) (e : Engine) (c : Call) (k : Kept (e .state)) where
   s = begun (e .state) (c .asked .clock)
 
   abbrev a : Acted
-  a = act s (c .asked .action) (c .asked .input)
+  a = act s (ownOf (c .asked .action)) (c .asked .input)
 
   abbrev o : Outcome
   o = tested (c .asked .quick) a (e .memory)
@@ -114,10 +114,10 @@ module _ (readers : Readers) (e : Engine) (c : Call) (k : Kept (e .state)) where
 
   -- after (c)
   pub acted-stood : Stood (s .house .banks) (a .batches)
-  acted-stood = places-kept s begun-stood (requestAt (c .asked .input)) (did s (c .asked .action) (c .asked .input)) (readers .texts (c .asked .input) .settlement)
+  acted-stood = places-kept s begun-stood (requestAt (c .asked .input)) (did s (ownOf (c .asked .action)) (c .asked .input)) (readers .texts (c .asked .input) .settlement)
 
   pub acted-house : RightHouse (s .house) (a .books .balances) (a .books .limits)
-  acted-house = house-kept s (requestAt (c .asked .input)) (did s (c .asked .action) (c .asked .input)) begun-house
+  acted-house = house-kept s (requestAt (c .asked .input)) (did s (ownOf (c .asked .action)) (c .asked .input)) begun-house
 
   -- after (d)
   pub tested-stood : Stood (s .house .banks) (left s a o)

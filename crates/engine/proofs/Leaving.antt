@@ -22,7 +22,7 @@ use Rattle.engine.specs.declared.Action.{Action}
 use Rattle.engine.specs.declared.Action.the-variants.{Opening, Message, SubLimit, Status, Tick, Close, ClosingBook}
 use Rattle.engine.specs.declared.Answer.{Answer}
 use Rattle.engine.specs.declared.Answer.the-variants.{Done, Refused}
-use Rattle.engine.specs.Kinds.{Kind, isClose}
+use Rattle.engine.specs.Kinds.{Kind, isClose, Own, receives, changesLimit, changesStatus, nothing, ownOf}
 use Rattle.engine.specs.State.{Found, at, nowhere, onFound, seek, isFree, Batch, Place, free, live, onLive, Batches, Known, State, placeAt, paymentsAt, paymentsOf, withPlace}
 use Rattle.engine.specs.Memory.{isUsed}
 use Rattle.engine.specs.Joining.{keep}
@@ -232,19 +232,16 @@ module _ (s : State) (r : Reading) (h : Stood (s .house .banks) (s .batches)) wh
       (λ p _. by-cond (λ q. untouched s q) (hasDebit k (paymentsAt (s .batches) p)) (λ _. left-done (λ q. untouched s q) _ refl) (λ _. left-at (λ q. untouched s q) NothingThere _ refl refl))))
       (λ _. left-at (λ q. untouched s q) WrongEsa _ refl refl)
 
-  action-left : (x : Action) (input : List ℕ) → requestAt input ≡ r → Left (leftBy s r x) (act s x input)
+  own-left : (x : Own) (input : List ℕ) → requestAt input ≡ r → Left (leftBy s r x) (act s x input)
   unfolding act message
-  action-left Opening input e = left-done (leftBy s r Opening) _ refl
-  action-left (Message sender) input e = rw e (text-left sender (r .outcome))
-  action-left (SubLimit code cents) input e = limit-left code cents
-  action-left (Status code c letter) input e = status-left code c letter
-  action-left Tick input e = left-done (leftBy s r Tick) _ refl
-  action-left Close input e = left-done (leftBy s r Close) _ refl
-  action-left (ClosingBook date) input e = left-done (leftBy s r (ClosingBook date)) _ refl
+  own-left (receives sender) input e = rw e (text-left sender (r .outcome))
+  own-left (changesLimit code cents) input e = limit-left code cents
+  own-left (changesStatus code c letter) input e = status-left code c letter
+  own-left nothing input e = left-done (leftBy s r nothing) _ refl
 
 -- ---- a call
 
-close-done : (s : State) (x : Action) (input : List ℕ) → isClose x ≡ true → act s x input .answer ≡ Done
+close-done : (s : State) (x : Action) (input : List ℕ) → isClose x ≡ true → act s (ownOf x) input .answer ≡ Done
 unfolding act
 close-done s Opening input e = refl
 close-done s (Message sender) input e = absurd (false≢true e)
@@ -259,13 +256,13 @@ module _ (readers : Readers) (e : Engine) (c : Call) (v : Valid (e .state)) wher
   s₁ = begun (e .state) (c .asked .clock)
 
   ends-left : (t : Bool) → isClose (c .asked .action) ≡ t → (q : Refusal) → cond t (closes s₁ (acted e c) (outcome e c)) (goesOn s₁ (acted e c) (outcome e c)) .answer ≡ Refused q
-      → cond t (closes s₁ (acted e c) (outcome e c)) (goesOn s₁ (acted e c) (outcome e c)) ≡ finished e c (leftBy s₁ (requestAt (c .asked .input)) (c .asked .action) q)
+      → cond t (closes s₁ (acted e c) (outcome e c)) (goesOn s₁ (acted e c) (outcome e c)) ≡ finished e c (leftBy s₁ (requestAt (c .asked .input)) (ownOf (c .asked .action)) q)
   unfolding closes goesOn
   ends-left true i q h = not-done (sym (close-done s₁ (c .asked .action) (c .asked .input) i) ∙ h)
   ends-left false i q h =
-      ap (finished e c) (action-left s₁ (requestAt (c .asked .input)) (begun-stood readers e c (valid-kept (e .state) v)) (c .asked .action) (c .asked .input) refl q h)
+      ap (finished e c) (own-left s₁ (requestAt (c .asked .input)) (begun-stood readers e c (valid-kept (e .state) v)) (ownOf (c .asked .action)) (c .asked .input) refl q h)
 
-  stepped-left : (q : Refusal) → stepped e c .answer ≡ Refused q → stepped e c ≡ finished e c (leftBy s₁ (requestAt (c .asked .input)) (c .asked .action) q)
+  stepped-left : (q : Refusal) → stepped e c .answer ≡ Refused q → stepped e c ≡ finished e c (leftBy s₁ (requestAt (c .asked .input)) (ownOf (c .asked .action)) q)
   unfolding stepped
   stepped-left q h = ends-left (isClose (c .asked .action)) refl q h
 

@@ -12,7 +12,7 @@ use Rattle.settle.specs.Settlement.{Accounts}
 use Rattle.queue.specs.Promise.{True, limited}
 use Rattle.queue.proofs.MemoryLaws.{byBool}
 use Rattle.queue.proofs.Agree.{forgets, true-limit}
-use Rattle.engine.specs.declared.Action.{Action}
+use Rattle.engine.specs.Kinds.{Own}
 use Rattle.engine.specs.State.{Batch, Place, free, live, Batches, Known, State, placeAt, paymentsAt}
 use Rattle.engine.specs.Messages.{firstBatch, Acted, bank, place, ended, withMessage}
 use Rattle.engine.specs.Changes.{withLetter}
@@ -59,7 +59,7 @@ module _ (s : State) where
   moved-did r (sent (rejects f b k p x j)) = one p refl refl (ended-beside b p (start-beside r (j .start)))
 
   -- every action
-  pub moved : (x : Action) (input : List ℕ) → Moved s (act s x input)
+  pub moved : (x : Own) (input : List ℕ) → Moved s (act s x input)
   moved x input = moved-did (requestAt input) (did s x input)
 
 -- ---- the memory stays true

@@ -22,11 +22,9 @@ use Rattle.queue.proofs.MemoryLaws.{byBool}
 use Rattle.queue.proofs.Agree.{forgets}
 use Rattle.queue.proofs.History.{replay-append, replay-length, test-replays, test-told}
 use Rattle.queue.proofs.Promises.{fresh-none}
-use Rattle.engine.specs.declared.Action.{Action}
-use Rattle.engine.specs.declared.Action.the-variants.{Opening, Message, SubLimit, Status, Tick, Close, ClosingBook}
 use Rattle.engine.specs.declared.Answer.{Answer}
 use Rattle.engine.specs.declared.Answer.the-variants.{Done, Refused}
-use Rattle.engine.specs.Kinds.{Kind, opens, steps, gives, kindOf, isClose}
+use Rattle.engine.specs.Kinds.{Kind, opens, steps, gives, kindOf, isClose, Own, receives, changesLimit, changesStatus, nothing, ownOf}
 use Rattle.engine.specs.State.{Batch, Place, free, live, Batches, Known, State, noBatches, noMemory, hasBin, placeAt, paymentsAt, withPlace}
 use Rattle.engine.specs.Messages.{Acted, bankPlace, waiting, ended, message}
 use Rattle.engine.specs.Changes.{subLimit, hasDebit, withLetter, status}
@@ -157,18 +155,18 @@ module _ (s : State) (h : Stood (s .house .banks) (s .batches)) (m : List ℕ) (
   told-replays r (rejects f b k p x j) =
       anew-one (s .batches) (ended b p) m p n (ended-beside s b p (start-beside s r (j .start))) (λ _. unqueued p (started r (j .start)))
 
-  message-quiet : (sender : ℕ) (q : Answer) → accepted s (Message sender) q ≡ []
+  message-quiet : (sender : ℕ) (q : Answer) → accepted s (receives sender) q ≡ []
   message-quiet sender Done = refl
   message-quiet sender (Refused r) = refl
 
-  limit-replays : (code cents : ℕ) → By (subLimit s code cents) (accepted s (SubLimit code cents) (subLimit s code cents .answer))
+  limit-replays : (code cents : ℕ) → By (subLimit s code cents) (accepted s (changesLimit code cents) (subLimit s code cents .answer))
   unfolding subLimit woken replay afterEvent
   limit-replays code cents =
       byFound (bankPlace (s .house) code)
       (λ k e. byBool (leb cents mostMoney) (λ f. rw (e, f) (rw e (ap (map (wake (eqb k))) still))) (λ f. rw (e, f) still))
       (λ e. rw e still)
 
-  letter-replays : (code : ℕ) (bin : Code) (letter : ℕ) → By (status s code bin letter) (accepted s (Status code bin letter) (status s code bin letter .answer))
+  letter-replays : (code : ℕ) (bin : Code) (letter : ℕ) → By (status s code bin letter) (accepted s (changesStatus code bin letter) (status s code bin letter .answer))
   unfolding status woken replay afterEvent
   letter-replays code bin letter =
       byBool (member letter (bytes "ADP"))
@@ -189,15 +187,12 @@ module _ (s : State) (h : Stood (s .house .banks) (s .batches)) (m : List ℕ) (
       there : (p : ℕ) (x : Place) → Waiting (s .batches) bin p → getD (set (s .batches .places) p x) p free ≡ x
       there p x w = getD-set-same (s .batches .places) p x free (w .there .inside)
 
-  acts : (x : Action) (input : List ℕ) → By (act s x input) (accepted s x (act s x input .answer))
+  acts : (x : Own) (input : List ℕ) → By (act s x input) (accepted s x (act s x input .answer))
   unfolding act woken
-  acts Opening input = still
-  acts (Message sender) input = rw (message-quiet sender (message s sender (requestAt input) .answer)) (told-replays (requestAt input) (did-message s (requestAt input) sender))
-  acts (SubLimit code cents) input = limit-replays code cents
-  acts (Status code bin letter) input = letter-replays code bin letter
-  acts Tick input = still
-  acts Close input = still
-  acts (ClosingBook date) input = still
+  acts (receives sender) input = rw (message-quiet sender (message s sender (requestAt input) .answer)) (told-replays (requestAt input) (did-message s (requestAt input) sender))
+  acts (changesLimit code cents) input = limit-replays code cents
+  acts (changesStatus code bin letter) input = letter-replays code bin letter
+  acts nothing input = still
 
 -- ---- one call
 
@@ -225,7 +220,7 @@ module _ (readers : Readers) (e : Engine) (c : Call) (v : Valid (e .state)) (r :
   acted-memory : woken (a .wakes) (e .memory) ≡ replay (actedEvents e c ++ es) noMemory
   unfolding actedEvents
   acted-memory =
-      acts s (begun-stood readers e c kept) (e .memory) (r .long) (begun-held e c r) (c .asked .action) (c .asked .input)
+      acts s (begun-stood readers e c kept) (e .memory) (r .long) (begun-held e c r) (ownOf (c .asked .action)) (c .asked .input)
       ∙ ap (replay (actedEvents e c)) h
       ∙ sym (replay-append (actedEvents e c) es noMemory)
 

@@ -21,7 +21,7 @@ use Rattle.engine.specs.declared.Phase.the-variants.{Fresh, Open, Closed
 use Rattle.engine.specs.declared.Action.the-variants.{Close}
 use Rattle.engine.specs.declared.Answer.{Answer}
 use Rattle.engine.specs.declared.Answer.the-variants.{Done, Refused}
-use Rattle.engine.specs.Kinds.{Kind, opens, steps, gives, kindOf, isClose}
+use Rattle.engine.specs.Kinds.{Kind, opens, steps, gives, kindOf, isClose, ownOf}
 use Rattle.engine.specs.State.{sameCode, noCode, noEntry, Place, Entry, State, noBatches}
 use Rattle.engine.specs.Joining.{join}
 use Rattle.engine.specs.Messages.{Acted, today}
@@ -125,7 +125,7 @@ module _ (readers : Readers) (e : Engine) (c : Call) (v : Valid (e .state)) (x :
   module _ (i : Opened (e .state)) where
     acted-owed : timesIn x (notedOn (today s) (a .known .references)) ≡ timesIn x l + (told x (a .replies) + waits x (a .batches .places))
     unfolding begun join
-    acted-owed = omega (arith, h, balanced s (requestAt (c .asked .input)) (readers .texts (c .asked .input)) x (did s (c .asked .action) (c .asked .input)))
+    acted-owed = omega (arith, h, balanced s (requestAt (c .asked .input)) (readers .texts (c .asked .input)) x (did s (ownOf (c .asked .action)) (c .asked .input)))
 
     replies-told : told x (replies s a o) + waits x (left s a o .places) ≡ told x (a .replies) + waits x (a .batches .places)
     unfolding replies left afterTest

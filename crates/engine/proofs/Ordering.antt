@@ -9,7 +9,7 @@ use lib.ListN.{length, getD, set, replicate}
 use lib.Seq.{getD-set-same}
 use borrow.Author.Tests.{eqb-true, eqb-false, leb-true, le-leb, ne-eqb, not-true}
 use Rattle.chars.specs.Words.{member}
-use Rattle.clock.specs.Clock.{hasBegun}
+use Rattle.clock.specs.Clock.{secondsOfDay, minutesOfDay, hasBegun}
 use Rattle.terms.specs.declared.Activation.{Activation}
 use Rattle.terms.specs.declared.Activation.the-variants.{AtOnce, Minute}
 use Rattle.request.specs.Request.{requestAt}
@@ -21,8 +21,8 @@ use Rattle.engine.specs.declared.Phase.{Phase}
 use Rattle.engine.specs.declared.Phase.the-variants.{Fresh, Open, Closed}
 use Rattle.engine.specs.declared.Answer.{Answer}
 use Rattle.engine.specs.declared.Answer.the-variants.{Done, Refused}
-use Rattle.engine.specs.Kinds.{Kind, opens, steps, gives, kindOf, isOpens, isOpening, isClose}
-use Rattle.engine.specs.State.{secondsOfDay, paymentsAt, Batch, Place, free, live, Batches, Known, State, isFree, onLive, placeAt, noBatches, withPlace}
+use Rattle.engine.specs.Kinds.{Kind, opens, steps, gives, kindOf, isOpens, isOpening, isClose, ownOf}
+use Rattle.engine.specs.State.{paymentsAt, Batch, Place, free, live, Batches, Known, State, isFree, onLive, placeAt, noBatches, withPlace}
 use Rattle.engine.specs.Joining.{minuteOf, placeMinute, keep, byTime, time, isDue, join}
 use Rattle.engine.specs.Messages.{Acted, waits, isComplete, ended, mayQueue, toTail, withMessage}
 use Rattle.engine.specs.Changes.{withLetter}
@@ -31,7 +31,7 @@ use Rattle.engine.specs.Calls.{Call, Engine, isOpen, isClosed, rightDay,
 use Rattle.engine.specs.Days.{opened, openingAnswer}
 use Rattle.engine.specs.Answered.{acted, outcome}
 use Rattle.engine.specs.Rules.{RightMinute, Valid}
-use Rattle.engine.specs.Waiting.{minutesOfDay, allPlaces, isLive, isNew, hasStarted, joinedIn, completedNow, OrderKept, Resting, OrderedBy, Ordered}
+use Rattle.engine.specs.Waiting.{allPlaces, isLive, isNew, hasStarted, joinedIn, completedNow, OrderKept, Resting, OrderedBy, Ordered}
 use Rattle.engine.proofs.Truth.{or-right, and-true}
 use Rattle.engine.proofs.Refusals.{not-done}
 use Rattle.engine.proofs.Agreement.{right-day}
@@ -368,7 +368,7 @@ module _ (readers : Readers) (e : Engine) (c : Call) (v : Valid (e .state)) (g :
 
   module _ (end : Batches) (dead : (q : ℕ) → placeAt (a .batches) q ≡ free → isLive end q ≡ false) where
     acted-order : Order s h (isLive end) a
-    acted-order = did-order s h (isLive end) (requestAt (c .asked .input)) (did s (c .asked .action) (c .asked .input)) dead
+    acted-order = did-order s h (isLive end) (requestAt (c .asked .input)) (did s (ownOf (c .asked .action)) (c .asked .input)) dead
 
     in-queue : keep (isLive end) (a .batches .queue)
         ≡ keep (isLive end) ((e .state .batches .queue ++ joinedIn (c .asked .clock) (e .state .batches)) ++ keep (hasStarted (c .asked .clock) (a .batches)) (completedNow e c))
@@ -424,7 +424,7 @@ module _ (readers : Readers) (e : Engine) (c : Call) (v : Valid (e .state)) (g :
   unfolding begun
   acted-started k j =
       did-started s h (join-started (c .asked .clock) (e .state .day .clock) (e .state .batches) (not-early (e .state) c j k) g)
-      (requestAt (c .asked .input)) (did s (c .asked .action) (c .asked .input))
+      (requestAt (c .asked .input)) (did s (ownOf (c .asked .action)) (c .asked .input))
 
   ends-ordered : (t : Bool) → kindOf (c .asked .action) ≡ steps → judge (e .state) c ≡ Done → OrderKept e c (cond t (closes s a o) (goesOn s a o))
   unfolding closes goesOn tested left afterTest

@@ -10,7 +10,7 @@ use Rattle.queue.specs.Tests.{Outcome}
 use Rattle.book.specs.Range.{Each}
 use Rattle.engine.specs.declared.Answer.{Answer}
 use Rattle.engine.specs.declared.Answer.the-variants.{Done, Refused}
-use Rattle.engine.specs.Kinds.{Kind, opens, steps, gives, kindOf, isClose}
+use Rattle.engine.specs.Kinds.{Kind, opens, steps, gives, kindOf, isClose, ownOf}
 use Rattle.engine.specs.State.{State}
 use Rattle.engine.specs.Messages.{Acted}
 use Rattle.engine.specs.Ending.{settledReplies}
@@ -29,7 +29,7 @@ module _ (readers : Readers) (e : Engine) (c : Call) (v : Valid (e .state)) wher
   s = begun (e .state) (c .asked .clock)
 
   abbrev a : Acted
-  a = act s (c .asked .action) (c .asked .input)
+  a = act s (ownOf (c .asked .action)) (c .asked .input)
 
   abbrev o : Outcome
   o = tested (c .asked .quick) a (e .memory)
@@ -43,7 +43,7 @@ module _ (readers : Readers) (e : Engine) (c : Call) (v : Valid (e .state)) wher
     unfolding replies begun
     replies-right =
         each-append (s .house .banks) (λ y. Fits y) (a .replies) (settledReplies (s .day) (a .batches) (o .done))
-        (acted-fit s (begun-stood readers e c (k readers e c v)) (requestAt (c .asked .input)) (readers .texts (c .asked .input)) (did s (c .asked .action) (c .asked .input)))
+        (acted-fit s (begun-stood readers e c (k readers e c v)) (requestAt (c .asked .input)) (readers .texts (c .asked .input)) (did s (ownOf (c .asked .action)) (c .asked .input)))
         (settled-fit (s .house .banks) (a .batches) (acted-stood readers e c (k readers e c v)) (s .day) (h .date) t (o .done))
 
     -- all replies of a call with a test have values that a text can hold

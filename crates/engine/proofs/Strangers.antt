@@ -16,6 +16,7 @@ use Rattle.engine.specs.declared.Action.{Action}
 use Rattle.engine.specs.declared.Action.the-variants.{Opening, Message, SubLimit, Status, Tick, Close, ClosingBook}
 use Rattle.engine.specs.declared.Answer.{Answer}
 use Rattle.engine.specs.declared.Answer.the-variants.{Done, Refused}
+use Rattle.engine.specs.Kinds.{receives, changesLimit, changesStatus, ownOf}
 use Rattle.engine.specs.State.{Found, at, nowhere, onFound, State}
 use Rattle.engine.specs.Messages.{SubType, is131, is133, Acted, streamCode, streamPlace, administrator, untouched, leaving, onText, onSender, message}
 use Rattle.engine.specs.Calls.{Call, Engine, Result, judge, begun, act, tested, replies, left, goesOn, stepped, judged, call}
@@ -75,11 +76,11 @@ module _ (e : Engine) (c : Call) where
   stepped-alike a i = rw (i .same) (idle-alike (i .fault))
 
   -- an action of a message or a change that touches nothing
-  judged-alike : (j : Answer) (x : Action) → Asks x → Idle s (act s x (c .asked .input)) → Alike (judged j e (asking x c)) (judged j e (asking Tick c))
+  judged-alike : (j : Answer) (x : Action) → Asks x → Idle s (act s (ownOf x) (c .asked .input)) → Alike (judged j e (asking x c)) (judged j e (asking Tick c))
   unfolding stepped act
-  judged-alike Done (Message n) k h = stepped-alike (act s (Message n) (c .asked .input)) h
-  judged-alike Done (SubLimit n v) k h = stepped-alike (act s (SubLimit n v) (c .asked .input)) h
-  judged-alike Done (Status n b l) k h = stepped-alike (act s (Status n b l) (c .asked .input)) h
+  judged-alike Done (Message n) k h = stepped-alike (act s (receives n) (c .asked .input)) h
+  judged-alike Done (SubLimit n v) k h = stepped-alike (act s (changesLimit n v) (c .asked .input)) h
+  judged-alike Done (Status n b l) k h = stepped-alike (act s (changesStatus n b l) (c .asked .input)) h
   judged-alike (Refused r) x k h = record { out = refl; tries = refl; engine = refl }
 
   same-judge : (x : Action) → Asks x → judge (e .state) (asking x c) ≡ judge (e .state) (asking Tick c)
@@ -88,7 +89,7 @@ module _ (e : Engine) (c : Call) where
   same-judge (SubLimit n v) k = refl
   same-judge (Status n b l) k = refl
 
-  pub idle-is-a-tick : (x : Action) → Asks x → Idle s (act s x (c .asked .input)) → Alike (call e (asking x c)) (call e (asking Tick c))
+  pub idle-is-a-tick : (x : Action) → Asks x → Idle s (act s (ownOf x) (c .asked .input)) → Alike (call e (asking x c)) (call e (asking Tick c))
   unfolding call
   idle-is-a-tick x k h = rw (same-judge x k) (judged-alike (judge (e .state) (asking Tick c)) x k h)
 

@@ -7,7 +7,7 @@ use Rattle.queue.specs.Tests.{Outcome}
 use Rattle.queue.proofs.Promises.{tries-fit}
 use Rattle.engine.specs.declared.Answer.{Answer}
 use Rattle.engine.specs.declared.Answer.the-variants.{Done, Refused}
-use Rattle.engine.specs.Kinds.{Kind, opens, steps, gives, kindOf, isClose}
+use Rattle.engine.specs.Kinds.{Kind, opens, steps, gives, kindOf, isClose, ownOf}
 use Rattle.engine.specs.State.{State, paymentsAt}
 use Rattle.engine.specs.Messages.{Acted}
 use Rattle.engine.specs.Days.{openingAnswer}
@@ -20,7 +20,7 @@ module _ (readers : Readers) (e : Engine) (c : Call) (k : Kept (e .state)) where
   s = begun (e .state) (c .asked .clock)
 
   abbrev a : Acted
-  a = act s (c .asked .action) (c .asked .input)
+  a = act s (ownOf (c .asked .action)) (c .asked .input)
 
   abbrev o : Outcome
   o = tested (c .asked .quick) a (e .memory)

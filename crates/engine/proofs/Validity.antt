@@ -20,7 +20,7 @@ use Rattle.engine.specs.declared.Phase.{Phase}
 use Rattle.engine.specs.declared.Phase.the-variants.{Fresh, Open, Closed}
 use Rattle.engine.specs.declared.Answer.{Answer}
 use Rattle.engine.specs.declared.Answer.the-variants.{Done, Refused}
-use Rattle.engine.specs.Kinds.{Kind, opens, steps, gives, kindOf, isOpening, isClose}
+use Rattle.engine.specs.Kinds.{Kind, opens, steps, gives, kindOf, isOpening, isClose, ownOf}
 use Rattle.engine.specs.State.{Batch, Place, live, noEntry, State, fresh, noBatches, paymentsAt}
 use Rattle.engine.specs.Messages.{Acted, today}
 use Rattle.engine.specs.Joining.{join}
@@ -122,7 +122,7 @@ module _ (readers : Readers) (e : Engine) (c : Call) (v : Valid (e .state)) wher
   s = begun (e .state) (c .asked .clock)
 
   abbrev a : Acted
-  a = act s (c .asked .action) (c .asked .input)
+  a = act s (ownOf (c .asked .action)) (c .asked .input)
 
   abbrev o : Outcome
   o = tested (c .asked .quick) a (e .memory)
@@ -130,19 +130,19 @@ module _ (readers : Readers) (e : Engine) (c : Call) (v : Valid (e .state)) wher
   module _ (h : Opened (e .state)) where
     pub acted-known : RightKnown (today s) (a .known)
     unfolding begun
-    acted-known = known-kept s (requestAt (c .asked .input)) (readers .texts (c .asked .input)) (h .known) (did s (c .asked .action) (c .asked .input))
+    acted-known = known-kept s (requestAt (c .asked .input)) (readers .texts (c .asked .input)) (h .known) (did s (ownOf (c .asked .action)) (c .asked .input))
 
     acted-binned : Binned (remembered (today s) (a .known .bins)) (a .batches .places)
     unfolding begun join
     acted-binned =
-        bins-kept s (requestAt (c .asked .input)) (readers .texts (c .asked .input)) (binned _ (e .state .batches .places) (h .bins-differ) (h .bins-remembered)) (did s (c .asked .action) (c .asked .input))
+        bins-kept s (requestAt (c .asked .input)) (readers .texts (c .asked .input)) (binned _ (e .state .batches .places) (h .bins-differ) (h .bins-remembered)) (did s (ownOf (c .asked .action)) (c .asked .input))
 
     pub left-binned : Binned (remembered (today s) (a .known .bins)) (left s a o .places)
     unfolding left afterTest
     left-binned = bins-emptied _ (o .done) (a .batches .places) acted-binned
 
     pub acted-counted : Counted s a
-    acted-counted = counted s (requestAt (c .asked .input)) (readers .texts (c .asked .input)) (did s (c .asked .action) (c .asked .input))
+    acted-counted = counted s (requestAt (c .asked .input)) (readers .texts (c .asked .input)) (did s (ownOf (c .asked .action)) (c .asked .input))
 
     pub done-once : (p : ℕ) → times p (o .done) ≤ 1
     unfolding tested

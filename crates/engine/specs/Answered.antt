@@ -8,7 +8,7 @@ use Rattle.codes.specs.declared.Code.{Code}
 use Rattle.queue.specs.Tests.{Outcome}
 use Rattle.engine.specs.declared.Answer.{Answer}
 use Rattle.engine.specs.declared.Answer.the-variants.{Done, Refused}
-use Rattle.engine.specs.Kinds.{Kind, kindOf, onKind, isClose}
+use Rattle.engine.specs.Kinds.{Kind, kindOf, onKind, isClose, ownOf}
 use Rattle.engine.specs.State.{sameCode, noCode, Message, Place, Entry, State, placeMessages}
 use Rattle.engine.specs.Replies.{Reply, settlement, recall}
 use Rattle.engine.specs.Messages.{Acted}
@@ -19,7 +19,7 @@ use Rattle.engine.specs.Calls.{Call, Engine, judge, begun, act, tested, 
 
 -- a call's action, and its test
 abbrev pub acted : Engine → Call → Acted
-acted e c = act (begun (e .state) (c .asked .clock)) (c .asked .action) (c .asked .input)
+acted e c = act (begun (e .state) (c .asked .clock)) (ownOf (c .asked .action)) (c .asked .input)
 
 abbrev pub outcome : Engine → Call → Outcome
 outcome e c = tested (c .asked .quick) (acted e c) (e .memory)

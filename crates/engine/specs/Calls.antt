@@ -7,18 +7,18 @@ use lib.ListN.{length, set}
 use Rattle.chars.specs.declared.Refusal.{Refusal}
 use Rattle.chars.specs.declared.Refusal.the-variants.{WrongMoment, ShortBuffer}
 use Rattle.dates.specs.Dates.{dayOf}
+use Rattle.clock.specs.Clock.{secondsOfDay}
 use Rattle.request.specs.Request.{requestAt}
 use Rattle.queue.specs.Memory.{wake, forgotten}
 use Rattle.queue.specs.Tests.{Outcome, test, fuel}
 use Rattle.engine.specs.declared.Phase.{Phase}
 use Rattle.engine.specs.declared.Phase.the-variants.{Fresh, Open, Closed}
 use Rattle.engine.specs.declared.Action.{Action}
-use Rattle.engine.specs.declared.Action.the-variants.{Opening, Message, SubLimit, Status, Tick, Close, ClosingBook}
 use Rattle.engine.specs.declared.Answer.{Answer}
 use Rattle.engine.specs.declared.Answer.the-variants.{Done, Refused}
-use Rattle.engine.specs.State.{Day, secondsOfDay, Batches, State, fresh, noMemory, noBatches, paymentsAt, withClock, withTexts, withPhase}
+use Rattle.engine.specs.State.{Day, Batches, State, fresh, noMemory, noBatches, paymentsAt, withClock, withTexts, withPhase}
 use Rattle.engine.specs.Replies.{Reply, textsFrom}
-use Rattle.engine.specs.Kinds.{Kind, kindOf, onKind, isOpening, isClose}
+use Rattle.engine.specs.Kinds.{Kind, kindOf, onKind, isOpening, isClose, Own, receives, changesLimit, changesStatus, nothing, ownOf}
 use Rattle.engine.specs.Joining.{join}
 use Rattle.engine.specs.Messages.{Acted, Waking, bank, place, message, leaving}
 use Rattle.engine.specs.Changes.{subLimit, status}
@@ -109,14 +109,11 @@ begun s clock = record {
 }
 
 -- (c) the call's own action
-unfoldable pub act : State → Action → List ℕ → Acted
-act s Opening input = leaving s Done [] [] (s .batches) (s .known)
-act s (Message sender) input = message s sender (requestAt input)
-act s (SubLimit code cents) input = subLimit s code cents
-act s (Status code bin letter) input = status s code bin letter
-act s Tick input = leaving s Done [] [] (s .batches) (s .known)
-act s Close input = leaving s Done [] [] (s .batches) (s .known)
-act s (ClosingBook date) input = leaving s Done [] [] (s .batches) (s .known)
+unfoldable pub act : State → Own → List ℕ → Acted
+act s (receives sender) input = message s sender (requestAt input)
+act s (changesLimit code cents) input = subLimit s code cents
+act s (changesStatus code bin letter) input = status s code bin letter
+act s nothing input = leaving s Done [] [] (s .batches) (s .known)
 
 -- what an action wakes
 abbrev pub woke : Waking → List ℕ → List ℕ
@@ -181,7 +178,7 @@ refused e r = record { answer = Refused r; out = []; tries = []; engine = e }
 unfoldable pub stepped : Engine → Call → Result
 stepped e c =
     let s : State = begun (e .state) (c .asked .clock) in
-    let a : Acted = act s (c .asked .action) (c .asked .input) in
+    let a : Acted = act s (ownOf (c .asked .action)) (c .asked .input) in
     let o : Outcome = tested (c .asked .quick) a (e .memory) in
     cond (isClose (c .asked .action)) (closes s a o) (goesOn s a o)
 

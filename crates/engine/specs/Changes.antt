@@ -7,6 +7,7 @@ use Rattle.chars.specs.Words.{bytes, member}
 use Rattle.chars.specs.declared.Refusal.the-variants.{NothingThere, OutOfRange, UnknownBank, WrongEsa}
 use Rattle.codes.specs.declared.Code.{Code}
 use Rattle.settle.specs.Payments.{Payment, credit, debit}
+use Rattle.settle.specs.Cover.{firstLetter}
 use Rattle.book.specs.Book.{mostMoney}
 use Rattle.queue.specs.Promise.{limited}
 use Rattle.engine.specs.declared.Answer.the-variants.{Done}
@@ -29,7 +30,7 @@ hasDebit k (debit l j c ∷ ps) = eqb j k || hasDebit k ps
 
 -- a debit's four letters with another in the first place, which is ESA's
 unfoldable pub withEsa : (letter letters : ℕ) → ℕ
-withEsa letter letters = letter * 16777216 + letters % 16777216
+withEsa letter letters = letter * firstLetter + letters % firstLetter
 
 -- the debit of a bank, relabelled
 unfoldable pub relabel : (bank letter : ℕ) → List Payment → List Payment

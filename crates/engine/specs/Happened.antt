@@ -4,26 +4,21 @@ use mathlib.Core.Path.{_≡_}
 use mathlib.Core.Bool.{Bool, true, false, cond}
 use mathlib.Core.List.{List, [], _∷_, _++_}
 use Rattle.queue.specs.History.{Event, limitChanged, changed, triedEvents, Tries}
-use Rattle.engine.specs.declared.Action.{Action}
-use Rattle.engine.specs.declared.Action.the-variants.{Opening, Message, SubLimit, Status, Tick, Close, ClosingBook}
 use Rattle.engine.specs.declared.Answer.{Answer}
 use Rattle.engine.specs.declared.Answer.the-variants.{Done, Refused}
-use Rattle.engine.specs.Kinds.{Kind, opens, steps, gives, kindOf, onKind}
+use Rattle.engine.specs.Kinds.{Kind, opens, steps, gives, kindOf, onKind, Own, receives, changesLimit, changesStatus, nothing, ownOf}
 use Rattle.engine.specs.State.{onFound, Place, free, live, Batches, State, placeAt, paymentsAt}
 use Rattle.engine.specs.Messages.{bankPlace, waiting}
 use Rattle.engine.specs.Calls.{Call, Engine, Result, judge, begun, call}
 use Rattle.engine.specs.Answered.{acted}
 
 -- "no accepted sub-limit change, and the batch no accepted status change": what an action that is accepted says of a bank or of a batch
-abbrev pub accepted : State → Action → Answer → List Event
+abbrev pub accepted : State → Own → Answer → List Event
 accepted s x (Refused r) = []
-accepted s Opening Done = []
-accepted s (Message sender) Done = []
-accepted s (SubLimit code cents) Done = onFound (bankPlace (s .house) code) [] (λ k. limitChanged k ∷ [])
-accepted s (Status code bin letter) Done = onFound (waiting (s .batches) bin) [] (λ p. changed p ∷ [])
-accepted s Tick Done = []
-accepted s Close Done = []
-accepted s (ClosingBook date) Done = []
+accepted s (receives sender) Done = []
+accepted s (changesLimit code cents) Done = onFound (bankPlace (s .house) code) [] (λ k. limitChanged k ∷ [])
+accepted s (changesStatus code bin letter) Done = onFound (waiting (s .batches) bin) [] (λ p. changed p ∷ [])
+accepted s nothing Done = []
 
 -- a place that was ended or newly filled begins anew: among the first n those where a batch stands in one and none in the other
 abbrev pub isAnew : Place → Place → Bool
@@ -41,7 +36,7 @@ module _ (e : Engine) (c : Call) where
   unfoldable pub actedEvents : List Event
   actedEvents =
       let s : State = begun (e .state) (c .asked .clock) in
-      accepted s (c .asked .action) (acted e c .answer) ++ anew 32 (s .batches) (acted e c .batches)
+      accepted s (ownOf (c .asked .action)) (acted e c .answer) ++ anew 32 (s .batches) (acted e c .batches)
 
   -- and its tries, and the places that these end; the close ends all
   abbrev pub steppedEvents : Result → List Event

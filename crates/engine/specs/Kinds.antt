@@ -1,6 +1,8 @@
--- Three kinds of action: one opens the day with a book, one gives a book, and all others take the steps (a) to (d).
+-- Three kinds of action: one opens the day with a book, one gives a book, and all others take the steps (a) to (d). And what a call with steps
+-- does of its own.
 use Prim.Native.Nat.{ℕ}
 use mathlib.Core.Bool.{Bool, true, false}
+use Rattle.codes.specs.declared.Code.{Code}
 use Rattle.engine.specs.declared.Action.{Action}
 use Rattle.engine.specs.declared.Action.the-variants.{Opening, Message, SubLimit, Status, Tick, Close, ClosingBook}
 
@@ -38,3 +40,20 @@ isClose (Status k b l) = false
 isClose Tick = false
 isClose Close = true
 isClose (ClosingBook date) = false
+
+-- "(c) the call's own action": a message, a sub-limit change, a status change; a tick and the close do nothing of their own
+pub data Own : Type 0 where
+  receives : (sender : ℕ) → Own
+  changesLimit : (code cents : ℕ) → Own
+  changesStatus : (code : ℕ) (bin : Code) (letter : ℕ) → Own
+  nothing : Own
+
+-- a call without steps has none
+abbrev pub ownOf : Action → Own
+ownOf Opening = nothing
+ownOf (Message sender) = receives sender
+ownOf (SubLimit code cents) = changesLimit code cents
+ownOf (Status code bin letter) = changesStatus code bin letter
+ownOf Tick = nothing
+ownOf Close = nothing
+ownOf (ClosingBook date) = nothing

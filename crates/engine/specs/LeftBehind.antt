@@ -15,10 +15,8 @@ use Rattle.request.specs.declared.Outcome.the-variants.{Settlement, Recall, Ref
 use Rattle.request.specs.declared.Reading.{Reading}
 use Rattle.response.specs.declared.Outcome.the-variants.{Rejected}
 use Rattle.response.specs.declared.Answer.the-variants.{Kept}
-use Rattle.engine.specs.declared.Action.{Action}
-use Rattle.engine.specs.declared.Action.the-variants.{Opening, Message as Text, SubLimit, Status, Tick, Close, ClosingBook}
 use Rattle.engine.specs.declared.Answer.the-variants.{Done, Refused}
-use Rattle.engine.specs.Kinds.{steps, kindOf}
+use Rattle.engine.specs.Kinds.{steps, kindOf, Own, receives, changesLimit, changesStatus, nothing, ownOf}
 use Rattle.engine.specs.State.{onFound, seek, isFree, Message, free, Known, State, placeAt, placeMessages, placeBin}
 use Rattle.engine.specs.Replies.{settlement, recall, repliesTo}
 use Rattle.engine.specs.Messages.{Acted, place, leaving, untouched, isThere, streamPlace, assembling, reference, bin, streamCode, isKnown, withReference, withBin, arrived}
@@ -69,14 +67,11 @@ module _ (s : State) (r : Reading) where
   textLeft (Unread b) q = untouched s q
 
   -- a change that is refused leaves "clock, queue test"; a tick and the close are not refused
-  abbrev pub leftBy : Action → Refusal → Acted
-  leftBy Opening q = untouched s q
-  leftBy (Text sender) q = textLeft (r .outcome) q
-  leftBy (SubLimit code cents) q = untouched s q
-  leftBy (Status code bin letter) q = untouched s q
-  leftBy Tick q = untouched s q
-  leftBy Close q = untouched s q
-  leftBy (ClosingBook date) q = untouched s q
+  abbrev pub leftBy : Own → Refusal → Acted
+  leftBy (receives sender) q = textLeft (r .outcome) q
+  leftBy (changesLimit code cents) q = untouched s q
+  leftBy (changesStatus code bin letter) q = untouched s q
+  leftBy nothing q = untouched s q
 
 -- a call whose action left `a` runs its queue test
 abbrev pub finished : Engine → Call → Acted → Result
@@ -84,4 +79,4 @@ finished e c a = goesOn (begun (e .state) (c .asked .clock)) a (tested (c .asked
 
 abbrev pub LeftBehind : Engine → Call → Result → Type 0
 LeftBehind e c r = judge (e .state) c ≡ Done → kindOf (c .asked .action) ≡ steps → (q : Refusal) → r .answer ≡ Refused q
-    → r ≡ finished e c (leftBy (begun (e .state) (c .asked .clock)) (requestAt (c .asked .input)) (c .asked .action) q)
+    → r ≡ finished e c (leftBy (begun (e .state) (c .asked .clock)) (requestAt (c .asked .input)) (ownOf (c .asked .action)) q)

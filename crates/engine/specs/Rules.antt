@@ -7,9 +7,10 @@ use mathlib.Core.List.{List, [], _∷_, _++_}
 use lib.Dec.{eqb}
 use lib.ListN.{length, getD, take, drop}
 use Rattle.chars.specs.Words.{member}
-use Rattle.codes.specs.Codes.{shortText}
+use Rattle.codes.specs.Codes.{shortEnd, shortText}
 use Rattle.codes.specs.declared.Code.{Code}
-use Rattle.dates.specs.Dates.{isRemembered}
+use Rattle.dates.specs.Dates.{daysOfCentury, isRemembered}
+use Rattle.clock.specs.Clock.{secondsOfDay, minutesOfDay}
 pub use Rattle.names.specs.Names.{isWhole, isReference, isBin}
 use Rattle.values.specs.Letters.{isStatus, isFourth}
 use Rattle.terms.specs.declared.Activation.{Activation}
@@ -21,7 +22,7 @@ use Rattle.settle.specs.Rules.{All, NoRepeats, mostCents, sum, credits, debits,
 use Rattle.queue.specs.Promise.{Once}
 use Rattle.engine.specs.declared.Phase.{Phase}
 use Rattle.engine.specs.declared.Phase.the-variants.{Fresh, Open, Closed}
-use Rattle.engine.specs.State.{secondsOfDay, House, Message, Batch, Place, free, live, Batches, Entry, Known, State, fresh, sameCode, noCode, noEntry, paymentsOf, placePayments, placeMessages, placeAt}
+use Rattle.engine.specs.State.{House, Message, Batch, Place, free, live, Batches, Entry, mostReferences, mostBins, Known, State, fresh, sameCode, noCode, noEntry, paymentsOf, placePayments, placeMessages, placeAt}
 use Rattle.engine.specs.Changes.{hasDebit}
 
 -- ---- "each stored value one that book, text or clock allows"
@@ -38,7 +39,7 @@ pub record Priced (banks : ℕ) (p : Payment) : Type 0 where
 -- a debit has letters, a credit none
 abbrev pub Lettered : Payment → Type 0
 Lettered (credit k c) = Unit {0}
-Lettered (debit l k c) = (l < 4294967296) × (areLetters (shortText l) ≡ true)
+Lettered (debit l k c) = (l < shortEnd) × (areLetters (shortText l) ≡ true)
 
 -- ---- the house
 
@@ -74,7 +75,7 @@ numbers (m ∷ ms) = m .number ∷ numbers ms
 
 abbrev pub RightMinute : Activation → Type 0
 RightMinute AtOnce = Unit {0}
-RightMinute (Minute m) = m < 1440
+RightMinute (Minute m) = m < minutesOfDay
 
 pub record RightMessage (banks count : ℕ) (m : Message) : Type 0 where
   pub reference : isReference (m .reference) ≡ true
@@ -165,8 +166,8 @@ liveMessages [] = 0
 liveMessages (p ∷ ps) = length (placeMessages p) + liveMessages ps
 
 pub record RightKnown (last : ℕ) (k : Known) : Type 0 where
-  pub references-long : length (k .references) ≡ 2048
-  pub bins-long : length (k .bins) ≡ 512
+  pub references-long : length (k .references) ≡ mostReferences
+  pub bins-long : length (k .bins) ≡ mostBins
   pub references : Each (RightEntry isReference last) (k .references)
   pub bins : Each (RightEntry isBin last) (k .bins)
   -- "no reference or BIN remembered twice"
@@ -176,7 +177,7 @@ pub record RightKnown (last : ℕ) (k : Known) : Type 0 where
 -- ---- the whole
 
 pub record Opened (s : State) : Type 0 where
-  pub date : s .day .date < 36525
+  pub date : s .day .date < daysOfCentury
   pub clock : s .day .clock < secondsOfDay
   pub some-streams : 1 ≤ length (s .house .streams)
   pub some-banks : 1 ≤ s .house .banks

@@ -43,10 +43,6 @@ pub record Day : Type 0 where
   pub clock : ℕ
   pub texts : ℕ
 
--- "clock .. in 0 to 86,399"
-abbrev pub secondsOfDay : ℕ
-secondsOfDay = 86400
-
 -- what the opening book says of streams and banks: of the 64 codes and flags the first `banks` are in use. A flag is 1 if the bank is
 -- suspended, and twice its stream bits
 pub record House : Type 0 where
@@ -85,6 +81,12 @@ pub record Entry : Type 0 where
   pub day : ℕ
 
 -- "2,048 remembered references, 512 remembered BINs"
+abbrev pub mostReferences : ℕ
+mostReferences = 2048
+
+abbrev pub mostBins : ℕ
+mostBins = 512
+
 pub record Known : Type 0 where
   pub references : List Entry
   pub bins : List Entry
@@ -110,7 +112,7 @@ fresh = record {
   house = record { streams = []; banks = 0; codes = replicate 64 0; flags = replicate 64 0 };
   books = accounts (replicate 64 0) (replicate 64 0);
   batches = noBatches;
-  known = record { references = replicate 2048 noEntry; bins = replicate 512 noEntry };
+  known = record { references = replicate mostReferences noEntry; bins = replicate mostBins noEntry };
 }
 
 -- "all zero": one number for each batch place

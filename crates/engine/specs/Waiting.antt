@@ -4,7 +4,7 @@ use mathlib.Core.Path.{_≡_}
 use mathlib.Core.Bool.{Bool, true, false, _&&_, not, cond}
 use mathlib.Core.List.{List, [], _++_}
 use lib.Dec.{eqb}
-use Rattle.clock.specs.Clock.{hasBegun}
+use Rattle.clock.specs.Clock.{minutesOfDay, hasBegun}
 use Rattle.book.specs.Book.{each}
 use Rattle.queue.specs.Promise.{All}
 use Rattle.engine.specs.declared.Answer.{Answer}
@@ -20,9 +20,6 @@ use Rattle.engine.specs.Answered.{acted}
 unfoldable pub minuteByMinute : (time : ℕ → ℕ) → (m n : ℕ) → List ℕ → List ℕ
 minuteByMinute time m zero ps = []
 minuteByMinute time m (suc n) ps = keep (λ p. eqb (time p) m) ps ++ minuteByMinute time (m + 1) n ps
-
-abbrev pub minutesOfDay : ℕ
-minutesOfDay = 1440
 
 -- the 32 places
 abbrev pub allPlaces : List ℕ

@@ -4,8 +4,10 @@ use mathlib.Core.Path.{_≡_}
 use mathlib.Core.List.{List}
 use mathlib.Core.Logic.{_⊎_}
 use lib.ListN.{length, getD}
-use Rattle.codes.specs.Codes.{packed, longOf, shortText, longText}
+use Rattle.codes.specs.Codes.{packed, longOf, shortEnd, shortText, longText}
 use Rattle.codes.specs.declared.Code.{Code}
+use Rattle.dates.specs.Dates.{daysOfCentury}
+use Rattle.clock.specs.Clock.{minutesOfDay}
 use Rattle.values.proofs.Grammar.{IsReference, IsWord, IsBin, IsLetters}
 use Rattle.terms.specs.declared.Activation.{Activation}
 use Rattle.terms.specs.declared.Activation.the-variants.{AtOnce, Minute}
@@ -13,6 +15,7 @@ use Rattle.payments.specs.declared.Payment.{Payment}
 use Rattle.payments.specs.Payments.{nothing, payment}
 use Rattle.request.specs.declared.Head.{Head}
 use Rattle.request.specs.declared.Reading.{Reading}
+use Rattle.settle.specs.Rules.{mostCents}
 
 abbrev pub noPayment : Payment
 noPayment = payment nothing nothing nothing nothing
@@ -25,7 +28,7 @@ pub record Spells (v : List ℕ) (c : Code) : Type 0 where
 -- the four characters of a stream, a bank or of letters
 pub record SpellsFour (v : List ℕ) (n : ℕ) : Type 0 where
   pub word : n ≡ packed 4 v
-  pub small : n < 4294967296
+  pub small : n < shortEnd
   pub text : shortText n ≡ v
 
 pub record GivenReference (c : Code) : Type 0 where
@@ -59,12 +62,12 @@ GivenSide side letters = ((side ≡ 0) × (letters ≡ 0)) ⊎ ((side ≡ 1) × 
 
 pub record GivesPayment (p : Payment) : Type 0 where
   pub side : GivenSide (p .side .number) (p .letters .number)
-  pub money : p .amount .number ≤ 999999999999
+  pub money : p .amount .number ≤ mostCents
   pub bank : GivenFour (p .bank .number)
 
 abbrev pub InDay : Activation → Type 0
 InDay AtOnce = Unit {0}
-InDay (Minute m) = m < 1440
+InDay (Minute m) = m < minutesOfDay
 
 pub record GivesSettlement (r : Reading) : Type 0 where
   pub head : GivesHead (r .head)
@@ -72,7 +75,7 @@ pub record GivesSettlement (r : Reading) : Type 0 where
   pub first : 1 ≤ r .terms .number
   pub number : r .terms .number ≤ r .terms .count
   pub count : r .terms .count ≤ 10
-  pub day : r .terms .date .number < 36525
+  pub day : r .terms .date .number < daysOfCentury
   pub minute : InDay (r .terms .activation)
   pub some : 1 ≤ r .n
   pub few : r .n ≤ 10

@@ -4,6 +4,8 @@ use mathlib.Core.Bool.{Bool, true, _&&_, cond}
 use mathlib.Core.List.{List}
 use lib.Dec.{eqb, ltb}
 use Rattle.chars.specs.declared.Refusal.the-variants.{Malformed}
+use Rattle.clock.specs.Clock.{secondsOfDay}
+use Rattle.dates.specs.Dates.{daysOfCentury}
 use Rattle.names.specs.Names.{isReference, isBin, binStream}
 use Rattle.response.specs.Texts.{written, after}
 use Rattle.response.specs.declared.Outcome.{Outcome}
@@ -25,7 +27,7 @@ isTwo n = ltb n 100
 
 -- "13E (date, HHMMSS)", of a day of 2000 to 2099, or "432 (two digits)"
 unfoldable pub isOutcome : Outcome → Bool
-isOutcome (Settled day second) = ltb day 36525 && ltb second 86400
+isOutcome (Settled day second) = ltb day daysOfCentury && ltb second secondsOfDay
 isOutcome (Rejected number) = isTwo number
 
 -- "and 432 after 1"

@@ -19,6 +19,10 @@ unfoldable pub paymentsFrom : List ℕ → (at count : ℕ) → List Payment
 paymentsFrom t at zero = []
 paymentsFrom t at (suc n) = paymentAt t at ∷ paymentsFrom t (at + 3) n
 
+-- the batches' table: 32 rows of 349 words
+abbrev pub tableLength : ℕ
+tableLength = 11168
+
 -- a batch's row is 349 words wide: how many payments there are stands in word 8, the first of them at word 49
 abbrev pub howMany : List ℕ → ℕ → ℕ
 howMany t place = getD t (place * 349 + 8) 0

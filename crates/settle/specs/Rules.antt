@@ -5,7 +5,7 @@ use mathlib.Core.Logic.{_≢_}
 use mathlib.Core.List.{List, [], _∷_}
 use lib.ListN.{length, getD}
 use Rattle.book.specs.Book.{mostMoney}
-use Rattle.settle.specs.Payments.{Payment, credit, debit, bankOf, centsOf, rowPayments, howMany}
+use Rattle.settle.specs.Payments.{Payment, credit, debit, bankOf, centsOf, tableLength, rowPayments, howMany}
 use Rattle.settle.specs.Settlement.{paid}
 
 abbrev pub sum : List ℕ → ℕ
@@ -55,7 +55,7 @@ pub record Books (balances limits : List ℕ) : Type 0 where
 
 -- a batch that keeps the table rules stands at the place
 pub record Good (batches : List ℕ) (place : ℕ) : Type 0 where
-  pub t-long : length batches ≡ 11168
+  pub t-long : length batches ≡ tableLength
   pub placed : place < 32
   pub few : howMany batches place ≤ 100
   pub ranged : Ranged (rowPayments batches place)
@@ -66,7 +66,7 @@ pub record Good (batches : List ℕ) (place : ℕ) : Type 0 where
 pub record Laid (b l batches : List ℕ) (place : ℕ) : Type 0 where
   pub b-long : length b ≡ 64
   pub l-long : length l ≡ 64
-  pub t-long : length batches ≡ 11168
+  pub t-long : length batches ≡ tableLength
   pub placed : place < 32
   pub few : howMany batches place ≤ 100
   pub ranged : Ranged (rowPayments batches place)
@@ -87,7 +87,7 @@ AllPayable b (p ∷ ps) = Payable b p × AllPayable (paid b p) ps
 
 -- what a settlement asks
 pub record Ready (b batches : List ℕ) (place : ℕ) : Type 0 where
-  pub t-long : length batches ≡ 11168
+  pub t-long : length batches ≡ tableLength
   pub placed : place < 32
   pub few : howMany batches place ≤ 100
   pub payable : AllPayable b (rowPayments batches place)

@@ -20,11 +20,10 @@ use Rattle.queue.specs.declared.Step.the-variants.{Omitted, Failed, Passed}
 use Rattle.queue.specs.History.{Event}
 use Rattle.queue.specs.Promise.{Stuck, brought, taken, broughtBy, takenBy}
 use Rattle.queue.proofs.History.{tries-one}
-use Rattle.engine.specs.declared.Action.{Action}
 use Rattle.engine.specs.declared.Action.the-variants.{Opening, Message, SubLimit, Tick, Close}
 use Rattle.engine.specs.declared.Answer.{Answer}
 use Rattle.engine.specs.declared.Answer.the-variants.{Done, Refused}
-use Rattle.engine.specs.Kinds.{Kind, opens, steps, gives, kindOf, onKind, isOpening, isClose}
+use Rattle.engine.specs.Kinds.{Kind, opens, steps, gives, kindOf, onKind, isOpening, isClose, Own, ownOf}
 use Rattle.engine.specs.State.{onFound, seek, isFree, free, live, withPlace, Batches, Known, State, fresh, noEntry, noBatches, paymentsAt as placed}
 use Rattle.engine.specs.Messages.{Acted, Waking, place, firstBatch, withMessage}
 use Rattle.engine.specs.Joining.{keep}
@@ -61,11 +60,11 @@ abbrev pub inventing : (Call → List ℕ) → Engine → Call → Result
 inventing l e c = record { answer = call e c .answer; out = call e c .out; tries = l c; engine = call e c .engine }
 
 -- the engine with an action or a test of its own
-module _ (acting : State → Action → List ℕ → Acted) (testing : Bool → Acted → List ℕ → Outcome) where
+module _ (acting : State → Own → List ℕ → Acted) (testing : Bool → Acted → List ℕ → Outcome) where
   abbrev pub steppedBy : Engine → Call → Result
   steppedBy e c =
       let s : State = begun (e .state) (c .asked .clock) in
-      let a : Acted = acting s (c .asked .action) (c .asked .input) in
+      let a : Acted = acting s (ownOf (c .asked .action)) (c .asked .input) in
       let o : Outcome = testing (c .asked .quick) a (e .memory) in
       cond (isClose (c .asked .action)) (closes s a o) (goesOn s a o)
 
@@ -82,7 +81,7 @@ module _ (acting : State → Action → List ℕ → Acted) (testing : Bool → 
 abbrev pub callWith : (Bool → Acted → List ℕ → Outcome) → Engine → Call → Result
 callWith testing = callBy act testing
 
-abbrev pub callActing : (State → Action → List ℕ → Acted) → Engine → Call → Result
+abbrev pub callActing : (State → Own → List ℕ → Acted) → Engine → Call → Result
 callActing acting = callBy acting tested
 
 -- with its own action and test it is the engine
@@ -151,7 +150,7 @@ abbrev pub more : List Waking → List Waking
 more [] = []
 more (w ∷ ws) = place 0 ∷ w ∷ ws
 
-abbrev pub wakingOthers : State → Action → List ℕ → Acted
+abbrev pub wakingOthers : State → Own → List ℕ → Acted
 wakingOthers s x input =
     let a : Acted = act s x input in
     record { answer = a .answer; replies = a .replies; wakes = more (a .wakes); books = a .books; batches = a .batches; known = a .known }
@@ -160,7 +159,7 @@ wakingOthers s x input =
 abbrev pub onNumber : ℕ → Answer → Acted → Acted → Acted
 onNumber n a x y = cond (eqb (answerNumber a) n) x y
 
-abbrev pub leavingInstead : ℕ → (State → List ℕ → Batches) → State → Action → List ℕ → Acted
+abbrev pub leavingInstead : ℕ → (State → List ℕ → Batches) → State → Own → List ℕ → Acted
 leavingInstead n f s x input =
     let a : Acted = act s x input in
     onNumber n (a .answer) (record { answer = a .answer; replies = a .replies; wakes = a .wakes; books = a .books; batches = f s input; known = a .known }) a
@@ -175,13 +174,13 @@ begunStays s input =
 abbrev pub allEmptied : State → List ℕ → Batches
 allEmptied s input = noBatches
 
-abbrev pub writingInstead : ℕ → State → Action → List ℕ → Acted
+abbrev pub writingInstead : ℕ → State → Own → List ℕ → Acted
 writingInstead n s x input =
     let a : Acted = act s x input in
     onNumber n (a .answer) (record { answer = a .answer; replies = []; wakes = a .wakes; books = a .books; batches = a .batches; known = a .known }) a
 
 -- a complete batch is queued, whether or not its minute has begun
-abbrev pub queueing : State → Action → List ℕ → Acted
+abbrev pub queueing : State → Own → List ℕ → Acted
 queueing s x input =
     let a : Acted = act s x input in
     record {

@@ -187,7 +187,7 @@ module _ (d : Desk) (t : Tables) where
 abbrev none : List ℕ
 none = replicate 11168 0
 
-none-words : (m : List ℕ) → placesWords noBatches m 0 (noBatches .places) ≡ none
+pub none-words : (m : List ℕ) → placesWords noBatches m 0 (noBatches .places) ≡ none
 none-words m = places-none noBatches m 0 32
 
 blank-batches : batchesIn none ≡ noBatches

@@ -6,6 +6,8 @@ use mathlib.Core.List.{List, map}
 use lib.ListN.{length, drop}
 use Rattle.book.specs.Range.{Each}
 use Rattle.codes.specs.declared.Code.{Code}
+use Rattle.dates.specs.Dates.{daysOfCentury}
+use Rattle.clock.specs.Clock.{secondsOfDay}
 use Rattle.engine.specs.State.{Place}
 use Rattle.engine.specs.declared.Phase.{Phase}
 use Rattle.engine.specs.declared.Phase.the-variants.{Fresh, Open, Closed}
@@ -48,8 +50,8 @@ pub record NoTables (d : Desk) (t : Tables) : Type 0 where
 
 -- the day's scalars and the house
 pub record DeskRules (d : Desk) (codes flags balances limits : List ℕ) : Type 0 where
-  pub date : d .date < 36525
-  pub clock : d .clock < 86400
+  pub date : d .date < daysOfCentury
+  pub clock : d .clock < secondsOfDay
   pub some-streams : 1 ≤ d .n
   pub some-banks : 1 ≤ d .banks
   pub streams-long : length (d .streams) ≡ 16

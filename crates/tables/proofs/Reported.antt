@@ -31,7 +31,7 @@ given-room true true false h = let z : _≡_ {A = ℕ} 0 1 = cc in absurd (omega
 given-room true false v h = let z : _≡_ {A = ℕ} 0 1 = cc in absurd (omega arith)
 given-room false u v h = let z : _≡_ {A = ℕ} 0 1 = cc in absurd (omega arith)
 
-right-room : (s : State) (c : Call) → judge s c ≡ Done → (roomNeeded (c .asked .action) s ≤ c .room) × (rowsNeeded ≤ c .rows)
+pub right-room : (s : State) (c : Call) → judge s c ≡ Done → (roomNeeded (c .asked .action) s ≤ c .room) × (rowsNeeded ≤ c .rows)
 unfolding judge
 right-room s c h =
     let g = given-room (rightClock (c .asked .action) (s .day) (c .asked .clock) && rightDay (c .asked .action) (s .day)) (leb (roomNeeded (c .asked .action) s) (c .room)) (leb rowsNeeded (c .rows)) h in

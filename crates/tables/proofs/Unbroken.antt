@@ -19,14 +19,12 @@ use Rattle.book.specs.Accounts.{dayIn}
 use Rattle.book.specs.declared.Answer.{Answer as Check}
 use Rattle.book.specs.declared.Answer.the-variants.{Sound, Fault}
 use Rattle.book.specs.Range.{Each}
-use Rattle.engine.specs.declared.Action.{Action}
-use Rattle.engine.specs.declared.Action.the-variants.{Opening, Message, SubLimit, Status, Tick, Close, ClosingBook}
 use Rattle.engine.specs.declared.Answer.{Answer}
 use Rattle.engine.specs.declared.Answer.the-variants.{Done, Refused}
 use Rattle.engine.specs.State.{Found, at, nowhere, onFound, seek, Day, Batch, Place, free, live, Batches, Known, State, isFree, onLive, placeAt, paymentsAt}
 use Rattle.engine.specs.Memory.{isUsed}
 use Rattle.engine.specs.Messages.{SubType, is131, is133, bySubType, Acted, Rule, firstBroken, streamPlace, administrator, bankPlace, assembling, waiting, today, reference, bin, streamCode, lineRules, messageRules, isComplete, isEven, completed, onText, onSender, repeated, fits, withReference, onBin, onRules, admit, isKnown, recalling, message}
-use Rattle.engine.specs.Kinds.{Kind, opens, steps, gives, kindOf}
+use Rattle.engine.specs.Kinds.{Kind, opens, steps, gives, kindOf, Own, receives, changesLimit, changesStatus, nothing, ownOf}
 use Rattle.engine.specs.Changes.{subLimit, hasDebit, status}
 use Rattle.engine.specs.Days.{isLater, checked, openingAnswer}
 use Rattle.engine.specs.Calls.{Call, Engine, rightClock, rightDay, roomNeeded, rowsNeeded, judge, begun, act, call}
@@ -169,15 +167,12 @@ status-other s code b letter =
     by-cond OtherActed (hasDebit k (paymentsAt (s .batches) p)) tt refl)))
     refl
 
-act-other : (s : State) (z : Action) (input : List ℕ) → OtherActed (act s z input)
+act-other : (s : State) (z : Own) (input : List ℕ) → OtherActed (act s z input)
 unfolding act
-act-other s Opening input = tt
-act-other s (Message sender) input = message-other s (requestAt input) sender (request-other input)
-act-other s (SubLimit code cents) input = sub-limit-other s code cents
-act-other s (Status code b letter) input = status-other s code b letter
-act-other s Tick input = tt
-act-other s Close input = tt
-act-other s (ClosingBook d) input = tt
+act-other s (receives sender) input = message-other s (requestAt input) sender (request-other input)
+act-other s (changesLimit code cents) input = sub-limit-other s code cents
+act-other s (changesStatus code b letter) input = status-other s code b letter
+act-other s nothing input = tt
 
 judge-other : (s : State) (c : Call) → OtherAnswer (judge s c)
 unfolding judge
@@ -188,7 +183,7 @@ judge-other s c =
 
 module _ (e : Engine) (c : Call) where
   acted-other : OtherActed (acted e c)
-  acted-other = act-other (begun (e .state) (c .asked .clock)) (c .asked .action) (c .asked .input)
+  acted-other = act-other (begun (e .state) (c .asked .clock)) (ownOf (c .asked .action)) (c .asked .input)
 
   numbered-other : (j : Answer) (z : Kind) → OtherAnswer j → OtherAnswer (numberedBy j z e c)
   numbered-other (Refused r) z o = o

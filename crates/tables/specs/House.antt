@@ -4,6 +4,7 @@ use mathlib.Core.Path.{_≡_}
 use mathlib.Core.Bool.{true}
 use mathlib.Core.List.{List}
 use lib.ListN.{length, take, drop}
+use Rattle.book.specs.Book.{mostMoney}
 use Rattle.book.specs.Accounts.{Stream}
 use Rattle.settle.specs.Rules.{sum}
 use Rattle.book.specs.Range.{Each, Rising, isShort, streamCodes}
@@ -22,7 +23,7 @@ abbrev pub AllZero : List ℕ → Type 0
 AllZero l = Each (λ x. x ≡ 0) l
 
 abbrev pub Limits : List ℕ → Type 0
-Limits l = Each (λ x. x ≤ 6400000000000000) l
+Limits l = Each (λ x. x ≤ mostMoney) l
 
 -- "a stream bit with no stream" is not there
 abbrev pub Flagged : (streams : ℕ) → List ℕ → Type 0
@@ -56,4 +57,4 @@ pub record ZeroPast (banks : ℕ) (codes flags balances limits : List ℕ) : Typ
 -- "Balances, their total and sub-limits"
 pub record RightMoney (balances limits : List ℕ) : Type 0 where
   pub limits-right : Limits limits
-  pub total : sum balances ≤ 6400000000000000
+  pub total : sum balances ≤ mostMoney

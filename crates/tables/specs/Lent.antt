@@ -7,6 +7,7 @@ use lib.ListN.{length}
 use lib.Seq.{sets}
 use Rattle.chars.specs.Words.{Says}
 use Rattle.chars.specs.declared.Refusal.the-variants.{BrokenTables}
+use Rattle.settle.specs.Payments.{tableLength}
 use Rattle.engine.specs.declared.Answer.{Answer}
 use Rattle.engine.specs.declared.Answer.the-variants.{Done, Refused}
 pub use Rattle.engine.specs.Calls.{Asked}
@@ -71,7 +72,7 @@ pub record Long (t : Tables) : Type 0 where
   pub flags : length (t .flags) ≡ 64
   pub balances : length (t .balances) ≡ 64
   pub limits : length (t .limits) ≡ 64
-  pub batches : length (t .batches) ≡ 11168
+  pub batches : length (t .batches) ≡ tableLength
   pub references : length (t .references) ≡ 6144
   pub bins : length (t .bins) ≡ 1536
 

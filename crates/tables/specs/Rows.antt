@@ -12,7 +12,7 @@ use Rattle.book.specs.Accounts.{Stream}
 use Rattle.closing.specs.Closing.{streamOf}
 use Rattle.settle.specs.Payments.{paymentsFrom}
 use Rattle.settle.specs.Settlement.{accounts}
-use Rattle.engine.specs.State.{onFound, seek, Message, Batch, Place, free, live, Batches, Entry, State}
+use Rattle.engine.specs.State.{onFound, seek, Message, Batch, Place, free, live, Batches, Entry, mostReferences, mostBins, State}
 use Rattle.engine.specs.Calls.{Engine}
 use Rattle.tables.specs.declared.Desk.{Desk}
 
@@ -122,7 +122,7 @@ stateIn d t = record {
   house = record { streams = streamsOn d; banks = d .banks; codes = t .codes; flags = t .flags };
   books = accounts (t .balances) (t .limits);
   batches = batchesIn (t .batches);
-  known = record { references = entriesIn 2048 (t .references); bins = entriesIn 512 (t .bins) };
+  known = record { references = entriesIn mostReferences (t .references); bins = entriesIn mostBins (t .bins) };
 }
 
 unfoldable pub engineIn : Desk → Tables → Engine
