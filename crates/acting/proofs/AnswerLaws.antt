@@ -41,7 +41,7 @@ use Rattle.deciding.specs.declared.Course.{Course}
 use Rattle.deciding.specs.declared.Course.the-variants.{Untouched, Repeated, Alone, Comes, Begins, RecallsNone, Recalls}
 use Rattle.tables.specs.declared.Desk.{Desk}
 use Rattle.acting.specs.Acting.{actedWith}
-use Rattle.acting.specs.Doing.{stateOn, Ends, Stays, Left, Actable, referenceOf, binOf}
+use Rattle.acting.specs.Doing.{stateOn, Ends, Stays, InRows, Actable, referenceOf, binOf}
 use Rattle.acting.proofs.TakeLaws.{rejected-sound, replies-many}
 
 -- ---- one text
@@ -139,25 +139,25 @@ module _ (d : Desk) (codes flags : List ℕ) (t q : List ℕ) (nq : ℕ) (w : Li
     abbrev s : State
     s = stateOn d codes flags b n o
 
-    pub untouched-so : (c : Course) (f : Refusal) → c ≡ Untouched f → Left (actedWith s r z c) m out 0 (d .texts) (Refused f) t q nq w nw m out 0 (d .texts)
+    pub untouched-so : (c : Course) (f : Refusal) → c ≡ Untouched f → InRows (actedWith s r z c) m out 0 (d .texts) (Refused f) t q nq w nw m out 0 (d .texts)
     unfolding actedWith woken
     untouched-so c f e = rw e (record { answered = refl; batches = record { ready = k .ready; is = refl }; memory = refl; replies = wrote-none out 0 (d .texts) })
 
     pub alone-so : (c : Course) (j : ℕ) (a : Answer) (nq′ nw′ : ℕ) (out′ : List ℕ) (to texts′ : ℕ) → c ≡ Alone j
         → Stays (Refused Malformed) (settlement (referenceOf r) (binOf r) (Rejected (numberOf Malformed)) ∷ []) nq nw out (d .texts) a nq′ nw′ out′ to texts′
-        → Left (actedWith s r z c) m out 0 (d .texts) a t q nq′ w nw′ m out′ to texts′
+        → InRows (actedWith s r z c) m out 0 (d .texts) a t q nq′ w nw′ m out′ to texts′
     unfolding actedWith woken
     alone-so c j a nq′ nw′ out′ to texts′ e h = rw (e, h .queued, h .pending) (record { answered = h .answered; batches = record { ready = k .ready; is = refl }; memory = refl; replies = h .replies })
 
     pub none-so : (c : Course) (j : ℕ) (a : Answer) (nq′ nw′ : ℕ) (out′ : List ℕ) (to texts′ : ℕ) → c ≡ RecallsNone j
         → Stays (Refused NothingThere) (recall (referenceOf r) (Kept (numberOf NothingThere)) ∷ []) nq nw out (d .texts) a nq′ nw′ out′ to texts′
-        → Left (actedWith s r z c) m out 0 (d .texts) a t q nq′ w nw′ m out′ to texts′
+        → InRows (actedWith s r z c) m out 0 (d .texts) a t q nq′ w nw′ m out′ to texts′
     unfolding actedWith woken
     none-so c j a nq′ nw′ out′ to texts′ e h = rw (e, h .queued, h .pending) (record { answered = h .answered; batches = record { ready = k .ready; is = refl }; memory = refl; replies = h .replies })
 
     pub repeated-so : (c : Course) (p : ℕ) (a : Answer) (t′ q′ : List ℕ) (nq′ : ℕ) (w′ : List ℕ) (nw′ : ℕ) (m′ out′ : List ℕ) (to texts′ : ℕ) → c ≡ Repeated p → assembling b (binOf r) ≡ at p
         → (a ≡ Refused UsedReference) × Ends (repliesAt t p (Rejected (numberOf UsedReference))) b p m out 0 (d .texts) t′ q′ nq′ w′ nw′ m′ out′ to texts′
-        → Left (actedWith s r z c) m out 0 (d .texts) a t′ q′ nq′ w′ nw′ m′ out′ to texts′
+        → InRows (actedWith s r z c) m out 0 (d .texts) a t′ q′ nq′ w′ nw′ m′ out′ to texts′
     unfolding actedWith woken
     repeated-so c p a t′ q′ nq′ w′ nw′ m′ out′ to texts′ e f h =
         let g : placeBin (placeAt b p) ≡ binOf r = bin-of (binOf r) (placeAt b p) (is-assembling b (binOf r) p f .there .yes) in
@@ -165,7 +165,7 @@ module _ (d : Desk) (codes flags : List ℕ) (t q : List ℕ) (nq : ℕ) (w : Li
 
     pub recalled-so : (c : Course) (p j : ℕ) (a : Answer) (t′ q′ : List ℕ) (nq′ : ℕ) (w′ : List ℕ) (nw′ : ℕ) (m′ out′ : List ℕ) (to texts′ : ℕ) → c ≡ Recalls p j → waiting b (binOf r) ≡ at p
         → (a ≡ Done) × Ends ((recall (referenceOf r) Recalled ∷ []) ++ repliesAt t p (Rejected (numberOf WasRecalled))) b p m out 0 (d .texts) t′ q′ nq′ w′ nw′ m′ out′ to texts′
-        → Left (actedWith s r z c) m out 0 (d .texts) a t′ q′ nq′ w′ nw′ m′ out′ to texts′
+        → InRows (actedWith s r z c) m out 0 (d .texts) a t′ q′ nq′ w′ nw′ m′ out′ to texts′
     unfolding actedWith woken
     recalled-so c p j a t′ q′ nq′ w′ nw′ m′ out′ to texts′ e f h =
         let g : placeBin (placeAt b p) ≡ binOf r = bin-of (binOf r) (placeAt b p) (is-waiting b (binOf r) p f .there .yes) in

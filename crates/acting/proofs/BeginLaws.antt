@@ -16,7 +16,7 @@ use Rattle.settle.specs.Settlement.{Accounts}
 use Rattle.settle.specs.Rules.{Distinct}
 use Rattle.queue.proofs.MemoryLaws.{byBool}
 use Rattle.engine.specs.declared.Answer.{Answer}
-use Rattle.engine.specs.State.{at, seek, Batch, Place, free, live, Batches, Known, State, isFree, hasBin, placeAt, withPlace}
+use Rattle.engine.specs.State.{at, seek, Batch, Place, free, live, Batches, Known, State, isFree, placeAt, withPlace}
 use Rattle.engine.specs.Messages.{Acted, assembling, waiting, waits, firstBatch, admit}
 use Rattle.engine.specs.Rules.{RightMinute, isReference}
 use Rattle.engine.proofs.Counting.{times}
@@ -31,29 +31,19 @@ use Rattle.stages.specs.Heads.{headed, bareRow, Neat, NeatTable}
 use Rattle.stages.specs.Stages.{seen, Ready, placesIn}
 use Rattle.stages.specs.Arriving.{newRow}
 use Rattle.stages.proofs.ArriveLaws.{Placed, placed-so}
+use Rattle.steps.proofs.LiveRows.{not-free, live-at, place-in, live-batch, neat-row, placed-became}
 use Rattle.replies.specs.Writing.{Legible}
 use Rattle.deciding.specs.declared.Course.{Course}
 use Rattle.deciding.specs.declared.Course.the-variants.{Repeated, Alone, Comes, Begins, RecallsNone, Recalls}
 use Rattle.acting.specs.Acting.{actedWith}
-use Rattle.acting.specs.Doing.{stateOn, batchAt, Left, Actable, Takeable, Beginnable, Apt, binOf, referenceOf}
-use Rattle.acting.proofs.TakeLaws.{place-in, live-batch, neat-row, batch-now, live-now, legible-now, ready-now, seen-now}
+use Rattle.acting.specs.Doing.{stateOn, batchAt, InRows, Actable, Takeable, Beginnable, Apt, binOf, referenceOf}
+use Rattle.acting.proofs.TakeLaws.{batch-now, live-now, legible-now}
 use Rattle.acting.proofs.AnswerLaws.{act-legible}
 
 -- ---- a batch that is being assembled
 
-record LiveAt (x : Place) : Type 0 where
-  batch : Batch
-  is : x ≡ live batch
-
-live-at : (c : Code) (x : Place) → hasBin c x ≡ true → LiveAt x
-live-at c free h = absurd (false≢true h)
-live-at c (live y) h = record { batch = y; is = refl }
-
-no-live : {X : Type 0} {x : Batch} → free ≡ live x → X
-no-live e = let z : _≡_ {A = ℕ} 0 1 = cc in absurd (omega arith)
-
 takes-at : (banks : ℕ) (x : Batch) {y : Place} {i j : ℕ} → Standing banks y i j → y ≡ live x → i ≡ 0 → j ≡ 0 → Takes banks x
-takes-at banks x vacant e m n = no-live e
+takes-at banks x vacant e m n = not-free e
 takes-at banks x (building {b = b} r l) e m n = let g : b ≡ x = cc in subst (λ (z : Batch). Takes banks z) g (takes banks b r l)
 takes-at banks x (awaits r c g) e m n = absurd (omega arith)
 takes-at banks x (stands r c) e m n = absurd (omega arith)
@@ -93,8 +83,8 @@ module _ (d : Desk) (codes flags : List ℕ) (t q : List ℕ) (nq : ℕ) (w : Li
 
   pub comes-so : (c : Course) (p i j : ℕ) → c ≡ Comes p i j → Takeable d codes flags r t q nq w nw p out
       → (m : List ℕ) (a : Answer) (t′ q′ : List ℕ) (nq′ : ℕ) (w′ : List ℕ) (nw′ : ℕ) (m′ out′ : List ℕ) (to texts′ : ℕ)
-      → ((e : Batches) (n : Accounts) (o z : Known) → Left (admit (stateOn d codes flags e n o) r i b z p (batchAt t p)) m out 0 (d .texts) a t′ q′ nq′ w′ nw′ m′ out′ to texts′)
-      → (n : Accounts) (o z : Known) → Left (actedWith (stateOn d codes flags b n o) r z c) m out 0 (d .texts) a t′ q′ nq′ w′ nw′ m′ out′ to texts′
+      → ((e : Batches) (n : Accounts) (o z : Known) → InRows (admit (stateOn d codes flags e n o) r i b z p (batchAt t p)) m out 0 (d .texts) a t′ q′ nq′ w′ nw′ m′ out′ to texts′)
+      → (n : Accounts) (o z : Known) → InRows (actedWith (stateOn d codes flags b n o) r z c) m out 0 (d .texts) a t′ q′ nq′ w′ nw′ m′ out′ to texts′
   unfolding actedWith
   comes-so c p i j e f m a t′ q′ nq′ w′ nw′ m′ out′ to texts′ h n o z = rw (e, f .there) (h b n o z)
 
@@ -106,8 +96,8 @@ module _ (d : Desk) (codes flags : List ℕ) (t q : List ℕ) (nq : ℕ) (w : Li
 
   pub begins-so : (c : Course) (p i j l : ℕ) → c ≡ Begins p i j l
       → (m : List ℕ) (a : Answer) (t′ q′ : List ℕ) (nq′ : ℕ) (w′ : List ℕ) (nw′ : ℕ) (m′ out′ : List ℕ) (to texts′ : ℕ)
-      → ((e : Batches) (n : Accounts) (o z : Known) → Left (admit (stateOn d codes flags e n o) r i (withPlace b p (live (firstBatch (stateOn d codes flags e n o) r))) z p (firstBatch (stateOn d codes flags e n o) r)) m out 0 (d .texts) a t′ q′ nq′ w′ nw′ m′ out′ to texts′)
-      → (n : Accounts) (o z : Known) → Left (actedWith (stateOn d codes flags b n o) r z c) m out 0 (d .texts) a t′ q′ nq′ w′ nw′ m′ out′ to texts′
+      → ((e : Batches) (n : Accounts) (o z : Known) → InRows (admit (stateOn d codes flags e n o) r i (withPlace b p (live (firstBatch (stateOn d codes flags e n o) r))) z p (firstBatch (stateOn d codes flags e n o) r)) m out 0 (d .texts) a t′ q′ nq′ w′ nw′ m′ out′ to texts′)
+      → (n : Accounts) (o z : Known) → InRows (actedWith (stateOn d codes flags b n o) r z c) m out 0 (d .texts) a t′ q′ nq′ w′ nw′ m′ out′ to texts′
   unfolding actedWith
   begins-so c p i j l e m a t′ q′ nq′ w′ nw′ m′ out′ to texts′ h n o z = rw e (h b n o z)
 
@@ -150,7 +140,7 @@ module _ (d : Desk) (codes flags : List ℕ) (r : Reading) (t q : List ℕ) (nq 
       let f : placeIn row ≡ free = sym (place-in t p) ∙ k .free-there in
       byBool (eqb (word row 0) 0)
       (λ e. let g : headed 1 0 0 row ≡ row = rw e in sym g ∙ n ∙ ap bareRow f)
-      (λ e. let g : placeIn row ≡ live (batchAt t p) = rw e in no-live (sym f ∙ g))
+      (λ e. let g : placeIn row ≡ live (batchAt t p) = rw e in not-free (sym f ∙ g))
 
   abbrev first : Batch
   first = record { bin = binOf r; count = r .terms .count; activation = r .terms .activation; messages = [] }
@@ -170,7 +160,7 @@ module _ (d : Desk) (codes flags : List ℕ) (r : Reading) (t q : List ℕ) (nq 
     pub first-takeable : Takeable d codes flags r t′ q nq w nw p out
     unfolding Distinct
     first-takeable = record {
-      ready = ready-now t q nq w nw p (k .ready) (k .legible) (k .below) first (omega arith) t′ l placed-first;
+      ready = placed-became t q nq w nw p first t′ (k .ready) placed-first .ready;
       legible = legible-now t q nq w nw p (k .ready) (k .legible) (k .below) first (omega arith) t′ l placed-first;
       below = k .below;
       there = live-now t q nq w nw p (k .ready) (k .legible) (k .below) first (omega arith) t′ l placed-first;
@@ -195,15 +185,15 @@ module _ (d : Desk) (codes flags : List ℕ) (r : Reading) (t q : List ℕ) (nq 
     }
 
     pub first-so : (stream : ℕ) (m : List ℕ) (ans : Answer) (t″ q″ : List ℕ) (nq″ : ℕ) (w″ : List ℕ) (nw″ : ℕ) (m″ out″ : List ℕ) (to texts″ : ℕ)
-        → ((c : Batches) (n : Accounts) (o z : Known) → Left (admit (stateOn d codes flags c n o) r stream (seen t′ q nq w nw) z p (batchAt t′ p)) m out 0 (d .texts) ans t″ q″ nq″ w″ nw″ m″ out″ to texts″)
+        → ((c : Batches) (n : Accounts) (o z : Known) → InRows (admit (stateOn d codes flags c n o) r stream (seen t′ q nq w nw) z p (batchAt t′ p)) m out 0 (d .texts) ans t″ q″ nq″ w″ nw″ m″ out″ to texts″)
         → (c : Batches) (n : Accounts) (o z : Known)
-        → Left (admit (stateOn d codes flags c n o) r stream (withPlace (seen t q nq w nw) p (live (firstBatch (stateOn d codes flags c n o) r))) z p (firstBatch (stateOn d codes flags c n o) r)) m out 0 (d .texts) ans t″ q″ nq″ w″ nw″ m″ out″ to texts″
+        → InRows (admit (stateOn d codes flags c n o) r stream (withPlace (seen t q nq w nw) p (live (firstBatch (stateOn d codes flags c n o) r))) z p (firstBatch (stateOn d codes flags c n o) r)) m out 0 (d .texts) ans t″ q″ nq″ w″ nw″ m″ out″ to texts″
     first-so stream m ans t″ q″ nq″ w″ nw″ m″ out″ to texts″ h c n o z =
         let s : State = stateOn d codes flags c n o in
         let g : admit s r stream (seen t′ q nq w nw) z p (batchAt t′ p) ≡ admit s r stream (withPlace (seen t q nq w nw) p (live first)) z p first =
         ap (λ (y : Batch). admit s r stream (seen t′ q nq w nw) z p y) (sym batch-first)
-        ∙ ap (λ (y : Batches). admit s r stream y z p first) (seen-now t q nq w nw p (k .ready) (k .legible) (k .below) first (omega arith) t′ l placed-first) in
-        subst (λ (y : Acted). Left y m out 0 (d .texts) ans t″ q″ nq″ w″ nw″ m″ out″ to texts″) g (h c n o z)
+        ∙ ap (λ (y : Batches). admit s r stream y z p first) (placed-became t q nq w nw p first t′ (k .ready) placed-first .is) in
+        subst (λ (y : Acted). InRows y m out 0 (d .texts) ans t″ q″ nq″ w″ nw″ m″ out″ to texts″) g (h c n o z)
 
 -- ---- what a course was chosen for
 

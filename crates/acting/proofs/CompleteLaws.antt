@@ -35,7 +35,7 @@ use Rattle.batch_rules.specs.BatchRules.{paymentsIn}
 use Rattle.batch_rules.proofs.RowWords.{messages-many}
 use Rattle.replies.specs.Writing.{Wrote, Legible, repliesAt}
 use Rattle.replies.proofs.Laws.{wrote-none}
-use Rattle.acting.specs.Doing.{batchAt, Ends, Left, Completable}
+use Rattle.acting.specs.Doing.{batchAt, Ends, InRows, Completable}
 
 -- a place that is set to what stands there
 same-place : (ps : List Place) (p : ℕ) (x : Place) → getD ps p free ≡ x → set ps p x ≡ ps
@@ -80,7 +80,7 @@ module _ (t q : List ℕ) (nq : ℕ) (w : List ℕ) (nw p : ℕ) (out : List ℕ
 
   module _ (s : State) (g : Reading) (k : Known) where
     pub not-complete : (m m′ : List ℕ) → (getD t (p * 349 + 7) 0 ≡ getD t (p * 349 + 4) 0 → ⊥) → m′ ≡ set m p 0
-        → Left (completed s g b k p x) m out 0 texts Done t q nq w nw m′ out 0 texts
+        → InRows (completed s g b k p x) m out 0 texts Done t q nq w nw m′ out 0 texts
     unfolding completed
     not-complete m m′ n e =
         let i : isComplete x ≡ false = ne-eqb (length (x .messages)) (x .count) (λ z. n (messages-there ∙ z ∙ sym count-there)) in
@@ -104,7 +104,7 @@ module _ (t q : List ℕ) (nq : ℕ) (w : List ℕ) (nw p : ℕ) (out : List ℕ
 
       pub uneven : (m : List ℕ) (a : Answer) (t′ q′ : List ℕ) (nq′ : ℕ) (w′ : List ℕ) (nw′ : ℕ) (m′ out′ : List ℕ) (to texts′ : ℕ) → not r ≡ true
           → (a ≡ Refused Unequal) × Ends (repliesAt t p (Rejected (numberOf Unequal))) b p m out 0 texts t′ q′ nq′ w′ nw′ m′ out′ to texts′
-          → Left (completed s g b k p x) m out 0 texts a t′ q′ nq′ w′ nw′ m′ out′ to texts′
+          → InRows (completed s g b k p x) m out 0 texts a t′ q′ nq′ w′ nw′ m′ out′ to texts′
       unfolding completed
       uneven m a t′ q′ nq′ w′ nw′ m′ out′ to texts′ n h =
           rw (all-there, even, not-true r n) (record {
@@ -116,7 +116,7 @@ module _ (t q : List ℕ) (nq : ℕ) (w : List ℕ) (nw p : ℕ) (out : List ℕ
 
       pub tails : (clock : ℕ) → s .day .clock ≡ clock → (m : List ℕ) (q′ : List ℕ) (nq′ : ℕ) (w′ : List ℕ) (nw′ : ℕ) (m′ : List ℕ) → not r ≡ false
           → Became (tailed (dueAt t clock p) b p) t q′ nq′ w′ nw′ → m′ ≡ set m p 0
-          → Left (completed s g b k p x) m out 0 texts Done t q′ nq′ w′ nw′ m′ out 0 texts
+          → InRows (completed s g b k p x) m out 0 texts Done t q′ nq′ w′ nw′ m′ out 0 texts
       unfolding completed
       tails clock f m q′ nq′ w′ nw′ m′ n h e =
           let y : withPlace b p (live x) ≡ b = ap (λ (ps : List Place). record { places = ps; pending = b .pending; queue = b .queue }) (same-place (b .places) p (live x) (c .there)) in

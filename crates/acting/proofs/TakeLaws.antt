@@ -1,12 +1,12 @@
 -- A message before its batch, and in it.
-use Prim.Native.Nat.{ℕ, zero, suc, _+_, _*_, _-_, _≤_, _<_}
+use Prim.Native.Nat.{ℕ, suc, _+_, _*_, _-_, _≤_, _<_}
 use mathlib.Core.Path.{_≡_, refl, sym, ap, subst, _∙_}
 use mathlib.Core.Bool.{Bool, true, false, cond}
 use mathlib.Core.List.{List, [], _∷_, _++_, map}
 use native.Mathlib.Omega.{arith}
-use borrow.Author.Tests.{eq-eqb, ne-eqb, eqb-true, eqb-false, lt-ltb}
+use borrow.Author.Tests.{eqb-true, eqb-false, lt-ltb}
 use lib.Dec.{eqb}
-use lib.ListN.{length, getD, set, take, drop, length-append, length-set, length-map, List·getD-map}
+use lib.ListN.{length, getD, set, take, drop, length-append, length-set, length-map}
 use lib.Seq.{getD-set-same, getD-set-other, set-set}
 use Rattle.chars.specs.Refusals.{numberOf}
 use Rattle.chars.specs.declared.Refusal.{Refusal}
@@ -36,11 +36,8 @@ use Rattle.tables.specs.Words.{batchWords}
 use Rattle.tables.specs.Arriving.{withOne}
 use Rattle.tables.proofs.Rowing.{Fits}
 use Rattle.tables.proofs.Held.{messages-fit, messages-small}
-use Rattle.tables.proofs.RowLaws.{row-at}
-use Rattle.batch_rules.proofs.Exact.{rows-wide}
 use Rattle.batch_rules.proofs.RowWords.{messages-many}
 use Rattle.batch_rules.proofs.RowRules.{each-join}
-use Rattle.stages.specs.Heads.{Neat, NeatTable}
 use Rattle.stages.specs.Stages.{seen, Ready, Became, placesIn}
 use Rattle.stages.specs.Arriving.{Roomy, messageOf, rowWith}
 use Rattle.stages.proofs.HeadLaws.{word-at, rows-many}
@@ -48,48 +45,10 @@ use Rattle.stages.proofs.ArriveLaws.{payments-many, Placed, placed-so}
 use Rattle.steps.specs.Steps.{Counted, stateOf}
 use Rattle.steps.proofs.Meets.{counted, message-any}
 use Rattle.steps.proofs.WordLaws.{arrived-any}
+use Rattle.steps.proofs.LiveRows.{live-word, live-batch, wide, neat-row, row-counted, lent, placed-became}
 use Rattle.replies.specs.Writing.{Wrote, Room, Legible, batchesOn, repliesAt}
 use Rattle.replies.proofs.Laws.{room-of, replies-append}
-use Rattle.acting.specs.Doing.{stateOn, houseState, batchAt, Ends, Left, Completable, Takeable, Fair}
-
--- a row of a neat table is neat
-neat-at : (rs : List (List ℕ)) (p : ℕ) → Each Neat rs → p < length rs → Neat (getD rs p [])
-neat-at [] p h l = absurd (omega arith)
-neat-at (r ∷ rs) zero h l = h .0
-neat-at (r ∷ rs) (suc p) h l = neat-at rs p (h .1) (omega arith)
-
-not-free : {X : Type 0} {x : Batch} → free ≡ live x → X
-not-free e = let z : _≡_ {A = ℕ} 0 1 = cc in absurd (omega arith)
-
--- the place that a row says
-pub place-in : (t : List ℕ) (p : ℕ) → getD (placesIn t) p free ≡ placeIn (getD (batchRows t) p [])
-unfolding placeIn
-place-in t p = List·getD-map placeIn (batchRows t) p []
-
-pub live-word : (t : List ℕ) (p : ℕ) {x : Batch} → getD (placesIn t) p free ≡ live x → word (getD (batchRows t) p []) 0 ≡ 0 → ⊥
-unfolding placeIn
-live-word t p e z = not-free (sym (place-in t p ∙ rw (eq-eqb (word (getD (batchRows t) p []) 0) 0 z)) ∙ e)
-
-pub live-batch : (t : List ℕ) (p : ℕ) {x : Batch} → getD (placesIn t) p free ≡ live x → x ≡ batchAt t p
-unfolding placeIn
-live-batch t p {x} e =
-    let f : getD (placesIn t) p free ≡ live (batchAt t p) = place-in t p ∙ rw (ne-eqb (word (getD (batchRows t) p []) 0) 0 (live-word t p e)) in
-    let g : live x ≡ live (batchAt t p) = sym e ∙ f in
-    cc
-
--- a row of a neat table whose batch fits
-module _ (t : List ℕ) (n : NeatTable t) (p : ℕ) (b : p < 32) where
-  pub wide : length (getD (batchRows t) p []) ≡ 349
-  wide = rows-wide 32 p t (omega (arith, n .long)) b
-
-  pub neat-row : Neat (getD (batchRows t) p [])
-  neat-row = neat-at (batchRows t) p (n .rows) (omega (arith, rows-many 349 32 t))
-
-  pub row-counted : {x : Batch} → getD (placesIn t) p free ≡ live x → Fits (batchAt t p) → Counted (getD (batchRows t) p [])
-  row-counted e f = counted (getD (batchRows t) p []) wide neat-row (live-word t p e) f
-
-  pub lent : take (p * 349 + 349 - p * 349) (drop (p * 349) t) ≡ getD (batchRows t) p []
-  lent = let d : p * 349 + 349 - p * 349 ≡ 349 = omega arith in rw d (sym (row-at 349 32 p t [] b))
+use Rattle.acting.specs.Doing.{stateOn, houseState, batchAt, Ends, InRows, Completable, Takeable, Fair}
 
 pub rejected-sound : (f : Refusal) → isOutcome (Rejected (numberOf f)) ≡ true
 unfolding isOutcome
@@ -133,12 +92,6 @@ module _ (t q : List ℕ) (nq : ℕ) (w : List ℕ) (nw p : ℕ) (ready : Ready 
 
   pub legible-now : Legible t′
   legible-now = record { long = l ∙ few .long; few = few-at }
-
-  pub ready-now : Ready t′ q nq w nw
-  ready-now = record { table = h .table; queue = ready .queue; pending = ready .pending }
-
-  pub seen-now : seen t′ q nq w nw ≡ withPlace (seen t q nq w nw) p (live y)
-  seen-now = ap (λ (ps : List Place). record { places = ps; pending = take nw w; queue = take nq q }) (h .places)
 
 -- every amount of a message that the rules allow
 cents-of : (banks : ℕ) (ps : List Payment) → Each (Priced banks) ps → Each (λ z. centsOf z ≤ mostCents) ps
@@ -212,7 +165,7 @@ module _ (d : Desk) (codes flags : List ℕ) (r : Reading) (t q : List ℕ) (nq 
       pub rejected : (bin : Code) → bin ≡ x .bin → (m : List ℕ) (ans : Answer) (t′ q′ : List ℕ) (nq′ : ℕ) (w′ : List ℕ) (nw′ : ℕ) (m′ out′ : List ℕ) (to texts′ : ℕ)
           → (ans ≡ Refused f) × Ends (repliesAt t p (Rejected (numberOf f)) ++ (settlement (r .head .reference .code) bin (Rejected (numberOf f)) ∷ [])) b p m out 0 (d .texts) t′ q′ nq′ w′ nw′ m′ out′ to texts′
           → (c : Batches) (n : Accounts) (o z : Known)
-          → Left (admit (stateOn d codes flags c n o) r stream b z p x) m out 0 (d .texts) ans t′ q′ nq′ w′ nw′ m′ out′ to texts′
+          → InRows (admit (stateOn d codes flags c n o) r stream b z p x) m out 0 (d .texts) ans t′ q′ nq′ w′ nw′ m′ out′ to texts′
       unfolding admit woken repliesTo
       rejected bin g m ans t′ q′ nq′ w′ nw′ m′ out′ to texts′ h c n o z =
           rw (judged c n o, e) (record {
@@ -228,9 +181,9 @@ module _ (d : Desk) (codes flags : List ℕ) (r : Reading) (t q : List ℕ) (nq 
     admitted c n o z e = rw (judged c n o, e)
 
     pub accepted : a ≡ Done → (m : List ℕ) (ans : Answer) (t′ q′ : List ℕ) (nq′ : ℕ) (w′ : List ℕ) (nw′ : ℕ) (m′ out′ : List ℕ) (to texts′ : ℕ)
-        → ((c : Batches) (n : Accounts) (o z : Known) → Left (completed (stateOn d codes flags c n o) r b z p (withMessage (stateOn d codes flags c n o) r x)) m out 0 (d .texts) ans t′ q′ nq′ w′ nw′ m′ out′ to texts′)
+        → ((c : Batches) (n : Accounts) (o z : Known) → InRows (completed (stateOn d codes flags c n o) r b z p (withMessage (stateOn d codes flags c n o) r x)) m out 0 (d .texts) ans t′ q′ nq′ w′ nw′ m′ out′ to texts′)
         → (c : Batches) (n : Accounts) (o z : Known)
-        → Left (admit (stateOn d codes flags c n o) r stream b z p x) m out 0 (d .texts) ans t′ q′ nq′ w′ nw′ m′ out′ to texts′
+        → InRows (admit (stateOn d codes flags c n o) r stream b z p x) m out 0 (d .texts) ans t′ q′ nq′ w′ nw′ m′ out′ to texts′
     accepted e m ans t′ q′ nq′ w′ nw′ m′ out′ to texts′ h c n o z = rw (admitted c n o z e) (h c n o z)
 
   -- ---- the row with the message in it
@@ -288,7 +241,7 @@ module _ (d : Desk) (codes flags : List ℕ) (r : Reading) (t q : List ℕ) (nq 
 
       pub completable : Completable t′ q nq w nw p out (d .texts)
       completable = record {
-        ready = ready-now t q nq w nw p (k .ready) (k .legible) (k .below) x′ ten t′ l placed;
+        ready = placed-became t q nq w nw p x′ t′ (k .ready) placed .ready;
         legible = legible-now t q nq w nw p (k .ready) (k .legible) (k .below) x′ ten t′ l placed;
         below = k .below;
         there = live-now t q nq w nw p (k .ready) (k .legible) (k .below) x′ ten t′ l placed;
@@ -305,15 +258,15 @@ module _ (d : Desk) (codes flags : List ℕ) (r : Reading) (t q : List ℕ) (nq 
           (sym (arrived-any (stateOn d codes flags c n o) r) ∙ arrived-any (houseState d codes flags) r)
 
       pub taken : (m : List ℕ) (ans : Answer) (t″ q″ : List ℕ) (nq″ : ℕ) (w″ : List ℕ) (nw″ : ℕ) (m″ out″ : List ℕ) (to texts″ : ℕ)
-          → ((s : State) (g : Reading) (o : Known) → s .day .clock ≡ d .clock → Left (completed s g (seen t′ q nq w nw) o p (batchAt t′ p)) m out 0 (d .texts) ans t″ q″ nq″ w″ nw″ m″ out″ to texts″)
+          → ((s : State) (g : Reading) (o : Known) → s .day .clock ≡ d .clock → InRows (completed s g (seen t′ q nq w nw) o p (batchAt t′ p)) m out 0 (d .texts) ans t″ q″ nq″ w″ nw″ m″ out″ to texts″)
           → (c : Batches) (n : Accounts) (o z : Known)
-          → Left (completed (stateOn d codes flags c n o) r b z p (withMessage (stateOn d codes flags c n o) r x)) m out 0 (d .texts) ans t″ q″ nq″ w″ nw″ m″ out″ to texts″
+          → InRows (completed (stateOn d codes flags c n o) r b z p (withMessage (stateOn d codes flags c n o) r x)) m out 0 (d .texts) ans t″ q″ nq″ w″ nw″ m″ out″ to texts″
       taken m ans t″ q″ nq″ w″ nw″ m″ out″ to texts″ h c n o z =
           let s : State = stateOn d codes flags c n o in
-          let v : seen t′ q nq w nw ≡ withPlace b p (live x′) = seen-now t q nq w nw p (k .ready) (k .legible) (k .below) x′ ten t′ l placed in
+          let v : seen t′ q nq w nw ≡ withPlace b p (live x′) = placed-became t q nq w nw p x′ t′ (k .ready) placed .is in
           let g : completed s r (seen t′ q nq w nw) z p (batchAt t′ p) ≡ completed s r b z p (withMessage s r x) =
           ap (λ (y : Batch). completed s r (seen t′ q nq w nw) z p y) (sym batch′)
           ∙ ap (λ (y : Batches). completed s r y z p x′) v
           ∙ placed-completes s r b z p x′
           ∙ ap (λ (y : Batch). completed s r b z p y) (sym (same-message c n o)) in
-          subst (λ (a : Acted). Left a m out 0 (d .texts) ans t″ q″ nq″ w″ nw″ m″ out″ to texts″) g (h s r z refl)
+          subst (λ (a : Acted). InRows a m out 0 (d .texts) ans t″ q″ nq″ w″ nw″ m″ out″ to texts″) g (h s r z refl)

@@ -14,7 +14,7 @@ use Rattle.settle.specs.Rules.{mostCents}
 use Rattle.settle.specs.Settlement.{Accounts, accounts}
 use Rattle.book.specs.Range.{Each}
 use Rattle.engine.specs.declared.Answer.{Answer}
-use Rattle.engine.specs.State.{at, seek, Batch, free, live, Batches, Known, State, isFree, placeAt, paymentsOf, noBatches}
+use Rattle.engine.specs.State.{at, seek, free, live, Batches, Known, State, isFree, placeAt, paymentsOf, noBatches}
 use Rattle.engine.specs.Replies.{Reply}
 use Rattle.engine.specs.Messages.{Acted, ended, withMessage, assembling, waiting}
 use Rattle.engine.specs.Calls.{woken}
@@ -24,9 +24,10 @@ use Rattle.engine.proofs.Standing.{Stood}
 use Rattle.tables.specs.declared.Desk.{Desk}
 use Rattle.tables.specs.House.{houseOn}
 use Rattle.tables.specs.Moment.{dayOn}
-use Rattle.tables.specs.Rows.{batchIn, batchRows}
+use Rattle.tables.specs.Rows.{batchRows}
 use Rattle.stages.specs.Stages.{seen, Ready, Became}
 use Rattle.steps.specs.Steps.{Counted}
+pub use Rattle.steps.specs.Steps.{batchAt}
 use Rattle.deciding.specs.declared.Course.{Course}
 use Rattle.deciding.specs.declared.Course.the-variants.{Untouched, Repeated, Alone, Comes, Begins, RecallsNone, Recalls}
 use Rattle.replies.specs.Writing.{Wrote, Room, Legible, repliesAt}
@@ -39,10 +40,6 @@ stateOn d codes flags b n k = record { day = dayOn d; house = houseOn d codes fl
 abbrev pub houseState : Desk → (codes flags : List ℕ) → State
 houseState d codes flags = stateOn d codes flags noBatches (accounts [] []) (record { references = []; bins = [] })
 
--- the batch in the row of a place
-abbrev pub batchAt : List ℕ → ℕ → Batch
-batchAt t p = batchIn (getD (batchRows t) p [])
-
 -- a batch was ended, and these replies were written
 pub record Ends (rs : List Reply) (b : Batches) (p : ℕ) (m out : List ℕ) (from texts : ℕ) (t q : List ℕ) (nq : ℕ) (w : List ℕ) (nw : ℕ) (m′ out′ : List ℕ) (to texts′ : ℕ) : Type 0 where
   pub batches : Became (ended b p) t q nq w nw
@@ -50,7 +47,7 @@ pub record Ends (rs : List Reply) (b : Batches) (p : ℕ) (m out : List ℕ) (fr
   pub replies : Wrote out from texts rs out′ to texts′
 
 -- what an action leaves stands in the rows, in the memory and in the buffer
-pub record Left (a : Acted) (m out : List ℕ) (from texts : ℕ) (answer : Answer) (t q : List ℕ) (nq : ℕ) (w : List ℕ) (nw : ℕ) (m′ out′ : List ℕ) (to texts′ : ℕ) : Type 0 where
+pub record InRows (a : Acted) (m out : List ℕ) (from texts : ℕ) (answer : Answer) (t q : List ℕ) (nq : ℕ) (w : List ℕ) (nw : ℕ) (m′ out′ : List ℕ) (to texts′ : ℕ) : Type 0 where
   pub answered : answer ≡ a .answer
   pub batches : Became (a .batches) t q nq w nw
   pub memory : m′ ≡ woken (a .wakes) m

@@ -11,7 +11,7 @@ ghost use Rattle.engine.specs.State.{Known, State};
 ghost use Rattle.engine.specs.Messages.{completed};
 ghost use Rattle.request.specs.declared.Reading.{Reading};
 ghost use Rattle.stages.specs.Stages.{seen};
-ghost use Rattle.acting.specs.Doing.{Left, Completable, batchAt};
+ghost use Rattle.acting.specs.Doing.{InRows, Completable, batchAt};
 
 // A batch that has just taken a message.
 pub fn complete(
@@ -27,7 +27,7 @@ pub fn complete(
     out: &mut [u8],
 ) -> Acted
     requires { ⌜ Completable (now batches) (now queue) nq (now pending) nw place (now out) texts ⌝ }
-    ensures { λ r. ⌜ ((s : State) (g : Reading) (k : Known) → s .day .clock ≡ clock → Left (completed s g (seen (now (batches .entry)) (now (queue .entry)) nq (now (pending .entry)) nw) k place (batchAt (now (batches .entry)) place)) (now (memory .entry)) (now (out .entry)) 0 texts (r .answer) (now (batches .exit)) (now (queue .exit)) (r .queued) (now (pending .exit)) (r .pending) (now (memory .exit)) (now (out .exit)) (r .at) (r .texts)) ⌝ }
+    ensures { λ r. ⌜ ((s : State) (g : Reading) (k : Known) → s .day .clock ≡ clock → InRows (completed s g (seen (now (batches .entry)) (now (queue .entry)) nq (now (pending .entry)) nw) k place (batchAt (now (batches .entry)) place)) (now (memory .entry)) (now (out .entry)) 0 texts (r .answer) (now (batches .exit)) (now (queue .exit)) (r .queued) (now (pending .exit)) (r .pending) (now (memory .exit)) (now (out .exit)) (r .at) (r .texts)) ⌝ }
 {
     let a = place * Batch::WIDTH;
     let e = a + Batch::WIDTH;

@@ -15,7 +15,7 @@ ghost use Rattle.settle.specs.Settlement.{Accounts};
 ghost use Rattle.engine.specs.State.{Known};
 ghost use Rattle.stages.specs.Stages.{seen};
 ghost use Rattle.acting.specs.Acting.{actedWith};
-ghost use Rattle.acting.specs.Doing.{stateOn, Left, Actable, Apt};
+ghost use Rattle.acting.specs.Doing.{stateOn, InRows, Actable, Apt};
 
 // What an action has left: its answer, how many wait, the place reached in the buffer and the texts of the day.
 pub struct Acted {
@@ -43,7 +43,7 @@ pub fn perform(
 ) -> Acted
     requires { ⌜ Actable desk (now codes) (now flags) (now batches) (now queue) nq (now pending) nw (now out) ⌝ }
     requires { ⌜ Apt (seen (now batches) (now queue) nq (now pending) nw) r course ⌝ }
-    ensures { λ y. ⌜ ((n : Accounts) (o k : Known) → Left (actedWith (stateOn desk (now (codes .entry)) (now (flags .entry)) (seen (now (batches .entry)) (now (queue .entry)) nq (now (pending .entry)) nw) n o) r k course) (now (memory .entry)) (now (out .entry)) 0 (desk .texts) (y .answer) (now (batches .exit)) (now (queue .exit)) (y .queued) (now (pending .exit)) (y .pending) (now (memory .exit)) (now (out .exit)) (y .at) (y .texts)) ⌝ }
+    ensures { λ y. ⌜ ((n : Accounts) (o k : Known) → InRows (actedWith (stateOn desk (now (codes .entry)) (now (flags .entry)) (seen (now (batches .entry)) (now (queue .entry)) nq (now (pending .entry)) nw) n o) r k course) (now (memory .entry)) (now (out .entry)) 0 (desk .texts) (y .answer) (now (batches .exit)) (now (queue .exit)) (y .queued) (now (pending .exit)) (y .pending) (now (memory .exit)) (now (out .exit)) (y .at) (y .texts)) ⌝ }
 {
     let head = r.head;
     match course {

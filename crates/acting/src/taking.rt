@@ -17,7 +17,7 @@ ghost use Rattle.engine.specs.Messages.{admit, completed, firstBatch, withMessa
 ghost use Rattle.engine.specs.Rules.{RightMinute};
 ghost use Rattle.tables.specs.Rows.{activationIn};
 ghost use Rattle.stages.specs.Stages.{seen};
-ghost use Rattle.acting.specs.Doing.{stateOn, Left, Beginnable, Takeable, Fair, batchAt};
+ghost use Rattle.acting.specs.Doing.{stateOn, InRows, Beginnable, Takeable, Fair, batchAt};
 
 // The message comes into the row of its batch, and the batch may be complete.
 fn take_in(
@@ -36,7 +36,7 @@ fn take_in(
 ) -> Acted
     requires { ⌜ Takeable desk (now codes) (now flags) r (now batches) (now queue) nq (now pending) nw place (now out) ⌝ }
     requires { ⌜ Fair desk (now codes) (now flags) r (now batches) place ⌝ }
-    ensures { λ y. ⌜ ((c : Batches) (n : Accounts) (o k : Known) → Left (completed (stateOn desk (now (codes .entry)) (now (flags .entry)) c n o) r (seen (now (batches .entry)) (now (queue .entry)) nq (now (pending .entry)) nw) k place (withMessage (stateOn desk (now (codes .entry)) (now (flags .entry)) c n o) r (batchAt (now (batches .entry)) place))) (now (memory .entry)) (now (out .entry)) 0 (desk .texts) (y .answer) (now (batches .exit)) (now (queue .exit)) (y .queued) (now (pending .exit)) (y .pending) (now (memory .exit)) (now (out .exit)) (y .at) (y .texts)) ⌝ }
+    ensures { λ y. ⌜ ((c : Batches) (n : Accounts) (o k : Known) → InRows (completed (stateOn desk (now (codes .entry)) (now (flags .entry)) c n o) r (seen (now (batches .entry)) (now (queue .entry)) nq (now (pending .entry)) nw) k place (withMessage (stateOn desk (now (codes .entry)) (now (flags .entry)) c n o) r (batchAt (now (batches .entry)) place))) (now (memory .entry)) (now (out .entry)) 0 (desk .texts) (y .answer) (now (batches .exit)) (now (queue .exit)) (y .queued) (now (pending .exit)) (y .pending) (now (memory .exit)) (now (out .exit)) (y .at) (y .texts)) ⌝ }
 {
     let mut words = [0u64; 30];
     steps::words::put_message(&mut words, codes, desk.banks, r);
@@ -76,7 +76,7 @@ pub fn admit(
     out: &mut [u8],
 ) -> Acted
     requires { ⌜ Takeable desk (now codes) (now flags) r (now batches) (now queue) nq (now pending) nw place (now out) × (stream ≤ 8) ⌝ }
-    ensures { λ y. ⌜ ((c : Batches) (n : Accounts) (o k : Known) → Left (admit (stateOn desk (now (codes .entry)) (now (flags .entry)) c n o) r stream (seen (now (batches .entry)) (now (queue .entry)) nq (now (pending .entry)) nw) k place (batchAt (now (batches .entry)) place)) (now (memory .entry)) (now (out .entry)) 0 (desk .texts) (y .answer) (now (batches .exit)) (now (queue .exit)) (y .queued) (now (pending .exit)) (y .pending) (now (memory .exit)) (now (out .exit)) (y .at) (y .texts)) ⌝ }
+    ensures { λ y. ⌜ ((c : Batches) (n : Accounts) (o k : Known) → InRows (admit (stateOn desk (now (codes .entry)) (now (flags .entry)) c n o) r stream (seen (now (batches .entry)) (now (queue .entry)) nq (now (pending .entry)) nw) k place (batchAt (now (batches .entry)) place)) (now (memory .entry)) (now (out .entry)) 0 (desk .texts) (y .answer) (now (batches .exit)) (now (queue .exit)) (y .queued) (now (pending .exit)) (y .pending) (now (memory .exit)) (now (out .exit)) (y .at) (y .texts)) ⌝ }
 {
     let a = place * Batch::WIDTH;
     let e = a + Batch::WIDTH;
@@ -158,7 +158,7 @@ pub fn begin(
     out: &mut [u8],
 ) -> Acted
     requires { ⌜ Beginnable desk (now codes) (now flags) r (now batches) (now queue) nq (now pending) nw place (now out) × (stream ≤ 8) ⌝ }
-    ensures { λ y. ⌜ ((c : Batches) (n : Accounts) (o k : Known) → Left (admit (stateOn desk (now (codes .entry)) (now (flags .entry)) c n o) r stream (withPlace (seen (now (batches .entry)) (now (queue .entry)) nq (now (pending .entry)) nw) place (live (firstBatch (stateOn desk (now (codes .entry)) (now (flags .entry)) c n o) r))) k place (firstBatch (stateOn desk (now (codes .entry)) (now (flags .entry)) c n o) r)) (now (memory .entry)) (now (out .entry)) 0 (desk .texts) (y .answer) (now (batches .exit)) (now (queue .exit)) (y .queued) (now (pending .exit)) (y .pending) (now (memory .exit)) (now (out .exit)) (y .at) (y .texts)) ⌝ }
+    ensures { λ y. ⌜ ((c : Batches) (n : Accounts) (o k : Known) → InRows (admit (stateOn desk (now (codes .entry)) (now (flags .entry)) c n o) r stream (withPlace (seen (now (batches .entry)) (now (queue .entry)) nq (now (pending .entry)) nw) place (live (firstBatch (stateOn desk (now (codes .entry)) (now (flags .entry)) c n o) r))) k place (firstBatch (stateOn desk (now (codes .entry)) (now (flags .entry)) c n o) r)) (now (memory .entry)) (now (out .entry)) 0 (desk .texts) (y .answer) (now (batches .exit)) (now (queue .exit)) (y .queued) (now (pending .exit)) (y .pending) (now (memory .exit)) (now (out .exit)) (y .at) (y .texts)) ⌝ }
 {
     let head = r.head;
     let address = head.address;

@@ -1,5 +1,5 @@
 // What is to be done with a message that was read: steps 2 to 5, before anything is changed.
-mod finding;
+pub mod finding;
 
 use chars::Refusal;
 use codes::Code;

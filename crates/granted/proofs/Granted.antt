@@ -29,9 +29,7 @@ use Rattle.entry_rules.specs.EntryRules.{KnownRules}
 use Rattle.table_rules.specs.TableRules.{CrossRules, DayTables, TablesIn, placesOf}
 use Rattle.table_rules.proofs.Parts.{entries-many, idle, none-desk, none-tables, tables-exact}
 use Rattle.stages.specs.Heads.{NeatTable, wordsOf}
-use Rattle.stages.specs.Testing.{Tickable}
 use Rattle.stages.proofs.Canon.{words-neat}
-use Rattle.stages.proofs.Meets.{tickable}
 use Rattle.steps.specs.Steps.{Counted}
 
 -- the row of a place
@@ -147,8 +145,3 @@ module _ (d : Desk) (t : Tables) where
 
   pub fresh-tables : d .phase ≡ Fresh → Right d t → t ≡ tablesOf cleared
   fresh-tables e r = none-tables d t (in-phase Fresh e r)
-
-  -- what a tick asks
-  pub grants-tick : Granted d t → (tries : List ℕ) (clock : ℕ) → 528 ≤ length tries → Tickable (t .balances) (t .limits) (t .batches) tries clock
-  grants-tick g tries clock h =
-      tickable (d .banks) (batchesIn (t .batches)) (memoryIn (t .batches)) (t .batches) (g .stood) (g .memory) (g .words) (g .few-banks) (t .balances) (t .limits) tries clock (g .books) h

@@ -5,11 +5,10 @@ use mathlib.Core.Path.{_≡_, refl, sym, ap, _∙_}
 use mathlib.Core.Bool.{false}
 use mathlib.Core.List.{List, [], _∷_}
 use lib.Dec.{eqb}
-use lib.ListN.{length, getD, set}
+use lib.ListN.{length, getD}
 use Rattle.book.specs.Range.{Each}
 use Rattle.engine.specs.State.{Batch, Place, free, live, Batches}
 use Rattle.engine.specs.Rules.{RightMemory}
-use Rattle.engine.specs.Messages.{ended}
 use Rattle.engine.proofs.Standing.{Stood}
 use Rattle.tables.specs.Rows.{placeIn, batchRows, batchesIn, memoryIn}
 use Rattle.tables.specs.Words.{batchWords, phaseOf, rankOf, placeWords}
@@ -51,12 +50,3 @@ module _ (banks : ℕ) (b : Batches) (m t : List ℕ) (s : Stood banks b) (r : R
 pub stored-so : (b : Batches) (t q : List ℕ) (nq : ℕ) (w : List ℕ) (nw : ℕ) (m t′ : List ℕ) → Became b t q nq w nw
     → t′ ≡ wordsOf (seen t q nq w nw) m → t′ ≡ wordsOf b m
 stored-so b t q nq w nw m t′ h e = e ∙ ap (λ (x : Batches). wordsOf x m) (h .is)
-
--- a batch that is ended on the table alone
-pub alone-so : (t q : List ℕ) (nq : ℕ) (w : List ℕ) (nw p : ℕ) (t₁ q₁ : List ℕ) (nq₁ : ℕ) (w₁ : List ℕ) (nw₁ : ℕ) (m m₁ t₂ : List ℕ)
-    → m ≡ memoryIn t → Became (batchesIn t) t q nq w nw → Became (ended (seen t q nq w nw) p) t₁ q₁ nq₁ w₁ nw₁ → m₁ ≡ set m p 0
-    → t₂ ≡ wordsOf (seen t₁ q₁ nq₁ w₁ nw₁) m₁ → t₂ ≡ wordsOf (ended (batchesIn t) p) (set (memoryIn t) p 0)
-alone-so t q nq w nw p t₁ q₁ nq₁ w₁ nw₁ m m₁ t₂ a b c d e =
-    stored-so (ended (seen t q nq w nw) p) t₁ q₁ nq₁ w₁ nw₁ m₁ t₂ c e
-    ∙ ap (λ (x : Batches). wordsOf (ended x p) m₁) (b .is)
-    ∙ ap (λ (x : List ℕ). wordsOf (ended (batchesIn t) p) x) (d ∙ ap (λ (x : List ℕ). set x p 0) a)

@@ -6,7 +6,6 @@ pub mod StageLaws
 pub mod EndLaws
 pub mod Canon
 pub mod ArriveLaws
-pub mod TestLaws
 pub mod Bridge
 pub mod Meets
 pub mod LetterLaws

@@ -1,5 +1,4 @@
 pub mod Heads
 pub mod Stages
 pub mod Arriving
-pub mod Testing
 pub mod Lettering

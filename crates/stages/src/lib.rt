@@ -8,12 +8,11 @@ pub mod settled;
 
 ghost use mathlib.Core.Path.{_≡_};
 ghost use Prim.Native.Nat.{ℕ, _+_, _≤_, _<_};
-ghost use lib.ListN.{length, set};
+ghost use lib.ListN.{length};
 ghost use Rattle.engine.specs.Messages.{ended};
 ghost use Rattle.engine.specs.Joining.{join};
-ghost use Rattle.tables.specs.Rows.{batchesIn, memoryIn};
-ghost use Rattle.stages.specs.Heads.{NeatTable, wordsOf};
-ghost use Rattle.stages.specs.Testing.{Tickable, tickOf, Ticked};
+ghost use Rattle.tables.specs.Rows.{batchesIn};
+ghost use Rattle.stages.specs.Heads.{NeatTable};
 ghost use Rattle.stages.specs.Stages.{seen, Ready, Became, dueAt, tailed};
 
 // How many are queued, and how many are pending.
@@ -26,7 +25,7 @@ pub struct Counts {
 pub fn load(batches: &[u64], queue: &mut [u64], pending: &mut [u64]) -> Counts
     requires { ⌜ NeatTable (now batches) × (32 ≤ length (now queue)) × (32 ≤ length (now pending)) ⌝ }
     ensures { λ r. ⌜ Became (batchesIn (now (batches .entry))) (now (batches .entry)) (now (queue .exit)) (r .queued) (now (pending .exit)) (r .pending) ⌝ }
-    ensures { λ r. ⌜ r .queued ≤ 32 ⌝ }
+    ensures { λ r. ⌜ (r .queued ≤ 32) × (r .pending ≤ 32) ⌝ }
 {
     let nq = heads::load_order(batches, 3, queue);
     let nw = heads::load_order(batches, 2, pending);
@@ -98,6 +97,7 @@ pub fn join(
     requires { ⌜ Ready (now batches) (now queue) nq (now pending) nw ⌝ }
     requires { ⌜ nq + nw ≤ length (now queue) ⌝ }
     ensures { λ r. ⌜ Became (join clock (seen (now (batches .entry)) (now (queue .entry)) nq (now (pending .entry)) nw)) (now (batches .entry)) (now (queue .exit)) (r .queued) (now (pending .exit)) (r .pending) ⌝ }
+    ensures { λ r. ⌜ r .pending ≤ nw ⌝ }
 {
     let n = joining::insert_due(batches, queue, nq, pending, nw, clock);
     let k = joining::keep_early(batches, pending, nw, clock);
@@ -105,79 +105,4 @@ pub fn join(
         queued: n,
         pending: k,
     }
-}
-
-// A batch is ended, on the table alone: what is left is just the words of the batches without it.
-pub fn end_alone(batches: &mut [u64], place: usize)
-    requires { ⌜ NeatTable (now batches) × (place < 32) ⌝ }
-    ensures { λ _. ⌜ now (batches .exit) ≡ wordsOf (ended (batchesIn (now (batches .entry))) place) (set (memoryIn (now (batches .entry))) place 0) ⌝ }
-{
-    let mut queue = [0u64; 32];
-    let mut pending = [0u64; 32];
-    let mut memory = [0u64; 32];
-    heads::load_memory(batches, &mut memory);
-    let found = load(batches, &mut queue, &mut pending);
-    let left = end_batch(
-        batches,
-        &mut queue,
-        found.queued,
-        &mut pending,
-        found.pending,
-        place,
-    );
-    queue::wake_batch(&mut memory, place);
-    heads::store(
-        batches,
-        &queue,
-        left.queued,
-        &pending,
-        left.pending,
-        &memory,
-    );
-}
-
-// A call without an action of its own, on the table: pending batches join, the test runs, what it settles is ended.
-pub fn tick(
-    quick: bool,
-    balances: &mut [u64],
-    limits: &[u64],
-    batches: &mut [u64],
-    tries: &mut [u64],
-    clock: u64,
-) -> usize
-    requires { ⌜ Tickable (now balances) (now limits) (now batches) (now tries) clock ⌝ }
-    ensures { λ r. ⌜ Ticked (tickOf quick (now (balances .entry)) (now (limits .entry)) (now (batches .entry)) clock) (now (limits .entry)) (now (batches .entry)) (now (tries .entry)) clock (now (balances .exit)) (now (batches .exit)) (now (tries .exit)) r ⌝ }
-{
-    let mut queue = [0u64; 64];
-    let mut pending = [0u64; 32];
-    let mut memory = [0u64; 32];
-    heads::load_memory(batches, &mut memory);
-    let found = load(batches, &mut queue, &mut pending);
-    let joined = join(
-        batches,
-        &mut queue,
-        found.queued,
-        &mut pending,
-        found.pending,
-        clock,
-    );
-    let reached = settled::test(
-        quick,
-        balances,
-        limits,
-        batches,
-        &mut memory,
-        &mut queue,
-        joined.queued,
-        tries,
-    );
-    heads::store(
-        batches,
-        &queue,
-        reached.waiting,
-        &pending,
-        joined.pending,
-        &memory,
-    );
-    reached.tried
 }

@@ -7,7 +7,6 @@ ghost use Rattle.engine.specs.State.{free};
 ghost use Rattle.queue.specs.Tests.{passedOf};
 ghost use Rattle.stages.specs.Heads.{NeatTable};
 ghost use Rattle.stages.specs.Stages.{placesIn, Emptied};
-ghost use Rattle.stages.specs.Testing.{Testable, outcomeOf, Ended};
 
 // A place is zeroed, if there is one.
 fn clear_place(batches: &mut [u64], place: u64)
@@ -42,34 +41,4 @@ pub fn end_passed(batches: &mut [u64], memory: &mut [u64], tries: &[u64], n: usi
         end_try(batches, memory, tries[i]);
         i += 1;
     }
-}
-
-// "(d) the queue test": what it settles is ended.
-pub fn test(
-    quick: bool,
-    balances: &mut [u64],
-    limits: &[u64],
-    batches: &mut [u64],
-    memory: &mut [u64],
-    queue: &mut [u64],
-    nq: usize,
-    tries: &mut [u64],
-) -> queue::Reached
-    requires { ⌜ Testable (now balances) (now limits) (now batches) (now memory) (now queue) nq (now tries) ⌝ }
-    ensures { λ r. ⌜ Ended (outcomeOf quick (now (balances .entry)) (now (limits .entry)) (now (batches .entry)) (now (memory .entry)) (now (queue .entry)) nq) (now (limits .entry)) (now (batches .entry)) (now (tries .entry)) (now (balances .exit)) (now (batches .exit)) (now (memory .exit)) (now (queue .exit)) (r .waiting) (now (tries .exit)) (r .tried) ⌝ }
-{
-    let reached = queue::run(
-        quick,
-        balances,
-        limits,
-        batches,
-        memory,
-        queue,
-        nq,
-        tries,
-        0,
-    );
-    let n = reached.tried;
-    end_passed(batches, memory, tries, n);
-    reached
 }

@@ -3,3 +3,4 @@ pub mod LineLaws
 pub mod MessageLaws
 pub mod Meets
 pub mod WordLaws
+pub mod LiveRows

@@ -18,9 +18,9 @@ use Rattle.settle.specs.Settlement.{accounts}
 use Rattle.engine.specs.declared.Phase.the-variants.{Fresh}
 use Rattle.engine.specs.declared.Answer.{Answer}
 use Rattle.engine.specs.declared.Answer.the-variants.{Done, Refused}
-use Rattle.engine.specs.State.{onFound, House, State, paymentsOf}
+use Rattle.engine.specs.State.{onFound, House, Batch, State, paymentsOf}
 use Rattle.engine.specs.Messages.{bankPlace, isSuspended, isMember}
-use Rattle.tables.specs.Rows.{word, batchIn}
+use Rattle.tables.specs.Rows.{word, batchIn, batchRows}
 use Rattle.steps.specs.declared.Standing.{Standing}
 use Rattle.steps.specs.declared.Standing.the-variants.{Good, Bad}
 
@@ -104,6 +104,10 @@ pub record Counted (row : List ℕ) : Type 0 where
   pub messages : word row 7 ≤ 10
   pub payments : word row 8 ≤ 100
   pub same : paymentsFrom row 49 (word row 8) ≡ paymentsOf (batchIn row .messages)
+
+-- the batch in the row of a place
+abbrev pub batchAt : List ℕ → ℕ → Batch
+batchAt t p = batchIn (getD (batchRows t) p [])
 
 -- a state of which only the day's date and the banks are said
 abbrev pub stateOf : (date banks : ℕ) (codes flags : List ℕ) → State

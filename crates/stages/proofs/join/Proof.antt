@@ -25,7 +25,7 @@ same-length-2 c = search needs
 
 -- src/lib.rt:70:1
 returns : tie.Need-returns
-returns c = search (needs, joined-so)
+returns c = (search (needs, joined-so), search needs)
 
 pub join-spec : {M : Type 1} → statement M
 join-spec =

@@ -25,7 +25,7 @@ same-length-2 c = search needs
 
 -- src/lib.rt:22:1
 returns : tie.Need-returns
-returns c = (loaded _ _ _ _ _ (c .before .before .before .before .before .before .before .before .before .before .before .pre .0) (omega arith) (omega arith) (c .before .before .before .before .before .before .load-order .ensures .0) (c .before .before .load-order2 .ensures .0), omega arith)
+returns c = (loaded _ _ _ _ _ (c .before .before .before .before .before .before .before .before .before .before .before .pre .0) (omega arith) (omega arith) (c .before .before .before .before .before .before .load-order .ensures .0) (c .before .before .load-order2 .ensures .0), (omega arith, omega arith))
 
 pub load-spec : {M : Type 1} → statement M
 load-spec =
