@@ -1,0 +1,3 @@
+pub mod LimitLaws
+pub mod DebitLaws
+pub mod StatusLaws

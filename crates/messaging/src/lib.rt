@@ -1,0 +1,100 @@
+// A message's action: it is read, a course is chosen for it, what is to be noted is noted, and the course is carried out.
+use acting::Acted;
+use codes::Code;
+use deciding::Course;
+use tables::Desk;
+ghost use mathlib.Core.Path.{_≡_};
+ghost use Prim.Native.Nat.{_≤_};
+ghost use lib.ListN.{length};
+ghost use Rattle.request.specs.Request.{requestAt};
+ghost use Rattle.settle.specs.Settlement.{Accounts};
+ghost use Rattle.engine.specs.Messages.{message};
+ghost use Rattle.stages.specs.Stages.{seen};
+ghost use Rattle.acting.specs.Acting.{knownBy};
+ghost use Rattle.acting.specs.Doing.{stateOn, Actable};
+ghost use Rattle.messaging.specs.Messaging.{knownIn, Within, Noted, Received};
+
+// "the reference is noted", "A new BIN is noted"
+fn note_course(
+    course: Course,
+    reference: Code,
+    bin: Code,
+    today: u64,
+    references: &mut [u64],
+    bins: &mut [u64],
+)
+    requires { ⌜ (length (now references) ≡ 6144) × (length (now bins) ≡ 1536) × Within course ⌝ }
+    ensures { λ _. ⌜ Noted (knownBy today reference bin course (knownIn (now (references .entry)) (now (bins .entry)))) (now (references .exit)) (now (bins .exit)) ⌝ }
+{
+    match course {
+        Course::Untouched(_) => {}
+        Course::Repeated(_) => {}
+        Course::Alone(q) => noting::note(references, q, today, reference),
+        Course::Comes(_, _, q) => noting::note(references, q, today, reference),
+        Course::Begins(_, _, q, k) => {
+            noting::note(references, q, today, reference);
+            noting::note(bins, k, today, bin);
+        }
+        Course::RecallsNone(q) => noting::note(references, q, today, reference),
+        Course::Recalls(_, q) => noting::note(references, q, today, reference),
+    }
+}
+
+// A text from a sender. The desk's clock is the call's.
+pub fn receive(
+    desk: Desk,
+    sender: u64,
+    text: &[u8],
+    codes: &[u64],
+    flags: &[u64],
+    batches: &mut [u64],
+    references: &mut [u64],
+    bins: &mut [u64],
+    queue: &mut [u64],
+    nq: usize,
+    pending: &mut [u64],
+    nw: usize,
+    memory: &mut [u64],
+    out: &mut [u8],
+) -> Acted
+    requires { ⌜ Actable desk (now codes) (now flags) (now batches) (now queue) nq (now pending) nw (now out) ⌝ }
+    requires { ⌜ (desk .n ≤ 8) × (length (now references) ≡ 6144) × (length (now bins) ≡ 1536) ⌝ }
+    ensures { λ y. ⌜ ((n : Accounts) → Received (message (stateOn desk (now (codes .entry)) (now (flags .entry)) (seen (now (batches .entry)) (now (queue .entry)) nq (now (pending .entry)) nw) n (knownIn (now (references .entry)) (now (bins .entry)))) sender (requestAt (now (text .entry)))) (now (memory .entry)) (now (out .entry)) (desk .texts) (y .answer) (now (batches .exit)) (now (queue .exit)) (y .queued) (now (pending .exit)) (y .pending) (now (memory .exit)) (now (out .exit)) (y .at) (y .texts) (now (references .exit)) (now (bins .exit))) ⌝ }
+{
+    let r = request::read_request(text);
+    let outcome = r.outcome;
+    let head = r.head;
+    let course = deciding::choose(
+        desk,
+        sender,
+        outcome,
+        head,
+        batches,
+        queue,
+        nq,
+        pending,
+        nw,
+        references,
+        bins,
+    );
+    let by = head.reference;
+    let address = head.address;
+    let named = address.bin;
+    let reference = by.code;
+    let bin = named.code;
+    note_course(course, reference, bin, desk.date, references, bins);
+    acting::perform(
+        course,
+        desk,
+        codes,
+        flags,
+        r,
+        batches,
+        queue,
+        nq,
+        pending,
+        nw,
+        memory,
+        out,
+    )
+}
