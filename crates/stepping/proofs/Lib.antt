@@ -1,0 +1,4 @@
+pub mod EdgeLaws
+pub mod ActLaws
+pub mod WorkLaws
+pub mod StepLaws
