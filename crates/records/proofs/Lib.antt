@@ -1,0 +1,4 @@
+pub mod Determined
+pub mod Laws
+pub mod Refused
+pub mod Rows
