@@ -1,0 +1,1 @@
+// The three demands, of the functions: specs and proofs alone.
