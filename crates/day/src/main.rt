@@ -1,0 +1,563 @@
+// ./purmagheli day plain|quick [SCRIPT]: runs the calls of a script, from standard input where none is named,
+// and tells what each of them answers, tries and writes.
+mod lines;
+mod orders;
+mod showing;
+mod words;
+
+use engine::Action;
+use engine::Answer;
+use engine::Phase;
+use files::Got;
+use libc::STDERR_FILENO;
+use libc::STDIN_FILENO;
+use lines::Ahead;
+use scan::At;
+use scripts::Line;
+use stepping::Told;
+use tables::Desk;
+
+// A call: its clock, its action, and where in the line its file's name begins.
+struct Asked {
+    clock: u64,
+    action: Action,
+    file: usize,
+}
+
+// What a line has the program do.
+enum Deed {
+    Nothing,
+    Clear,
+    Show,
+    Why,
+    Call(Asked),
+    NotACall,
+}
+
+// What a line leaves: the desk, what is ahead in the script, and whether there may be more lines.
+struct Turn {
+    desk: Desk,
+    ahead: Ahead,
+    more: bool,
+}
+
+// Which of the two queue tests.
+enum Test {
+    Plain,
+    Quick,
+    Neither,
+}
+
+fn asks(clock: u64, action: Action, file: usize) -> Deed {
+    Deed::Call(Asked {
+        clock,
+        action,
+        file,
+    })
+}
+
+fn deed_of(line: Line) -> Deed {
+    match line {
+        Line::Skip => Deed::Nothing,
+        Line::Clear => Deed::Clear,
+        Line::Open(clock, file) => asks(clock, Action::Opening, file),
+        Line::Message(clock, sender, file) => asks(clock, Action::Message(sender), file),
+        Line::SubLimit(clock, bank, cents) => asks(clock, Action::SubLimit(bank, cents), 0),
+        Line::Status(clock, bank, bin, letter) => {
+            asks(clock, Action::Status(bank, bin, letter), 0)
+        }
+        Line::Tick(clock) => asks(clock, Action::Tick, 0),
+        Line::Close(clock) => asks(clock, Action::Close, 0),
+        Line::Closing(clock, date, file) => asks(clock, Action::ClosingBook(date), file),
+        Line::Show => Deed::Show,
+        Line::Why => Deed::Why,
+        Line::NotACall => Deed::NotACall,
+    }
+}
+
+fn not_a_call(number: u64) {
+    words::field(b"line ", number);
+    words::text(b" not a call\n");
+}
+
+fn tell_command(action: Action) {
+    match action {
+        Action::Opening => words::text(b"open "),
+        Action::Message(_) => words::text(b"message "),
+        Action::SubLimit(_, _) => words::text(b"sublimit "),
+        Action::Status(_, _, _) => words::text(b"status "),
+        Action::Tick => words::text(b"tick "),
+        Action::Close => words::text(b"close "),
+        Action::ClosingBook(_) => words::text(b"closing "),
+    }
+}
+
+fn tell_tries(tries: &[u64], n: usize) {
+    words::text(b" tries");
+    let mut i = 0;
+    while i < tries.len() {
+        if i < n {
+            words::field(b" ", tries[i]);
+        }
+        i += 1;
+    }
+}
+
+fn unwritten(path: &[u8]) {
+    io::write_all(STDERR_FILENO, b"cannot write ");
+    os::fail(path);
+}
+
+fn write_book(path: &[u8], book: &[u8]) {
+    let fd = os::open_overwrite(path);
+    if fd < 0 {
+        unwritten(path);
+        return;
+    }
+    if !io::write_all(fd, book) {
+        unwritten(path);
+    }
+    libc::close(fd);
+}
+
+// The name of a file is the rest of the line.
+fn give_book(s: &[u8], file: usize, out: &[u8], n: usize) {
+    if s.len() < file {
+        return;
+    }
+    if n <= out.len() {
+        write_book(&s[file..], &out[..n]);
+    }
+}
+
+// A closing book that is given goes to its file, anything else to standard output.
+fn give(s: &[u8], asked: Asked, answer: Answer, out: &[u8], n: usize) {
+    let action = asked.action;
+    match action {
+        Action::ClosingBook(_) => {
+            if answer.number() == 0 {
+                give_book(s, asked.file, out, n);
+            }
+        }
+        Action::Opening => words::first(out, n),
+        Action::Message(_) => words::first(out, n),
+        Action::SubLimit(_, _) => words::first(out, n),
+        Action::Status(_, _, _) => words::first(out, n),
+        Action::Tick => words::first(out, n),
+        Action::Close => words::first(out, n),
+    }
+}
+
+fn tell(s: &[u8], asked: Asked, told: Told, out: &[u8], tries: &[u64]) {
+    let action = asked.action;
+    let answer = told.answer;
+    tell_command(action);
+    words::two_digits(answer.number());
+    tell_tries(tries, told.tried);
+    words::field(b" bytes ", told.written as u64);
+    words::end();
+    give(s, asked, answer, out, told.written);
+}
+
+fn read_file(s: &[u8], file: usize, input: &mut [u8]) -> Got {
+    if s.len() < file {
+        return Got::Unread;
+    }
+    files::read(&s[file..], input)
+}
+
+// The text or the book of a call. A file past the buffer's 65,536 bytes has the answer that these have: a text
+// is read to its 4,096th byte at the most, and a book of more than 2,560 bytes is refused for its length.
+fn read_input(s: &[u8], asked: Asked, input: &mut [u8]) -> Got {
+    let action = asked.action;
+    match action {
+        Action::Opening => read_file(s, asked.file, input),
+        Action::Message(_) => read_file(s, asked.file, input),
+        Action::SubLimit(_, _) => Got::Bytes(0),
+        Action::Status(_, _, _) => Got::Bytes(0),
+        Action::Tick => Got::Bytes(0),
+        Action::Close => Got::Bytes(0),
+        Action::ClosingBook(_) => Got::Bytes(0),
+    }
+}
+
+fn perform(
+    quick: bool,
+    s: &[u8],
+    asked: Asked,
+    input: &[u8],
+    n: usize,
+    desk: Desk,
+    codes: &mut [u64],
+    flags: &mut [u64],
+    balances: &mut [u64],
+    limits: &mut [u64],
+    batches: &mut [u64],
+    references: &mut [u64],
+    bins: &mut [u64],
+    out: &mut [u8],
+    tries: &mut [u64],
+) -> Desk {
+    if input.len() < n {
+        return desk;
+    }
+    let action = asked.action;
+    let told = calls::call(
+        quick,
+        asked.clock,
+        action,
+        &input[..n],
+        desk,
+        codes,
+        flags,
+        balances,
+        limits,
+        batches,
+        references,
+        bins,
+        out,
+        tries,
+    );
+    tell(s, asked, told, out, tries);
+    let after = told.desk;
+    after
+}
+
+fn call(
+    quick: bool,
+    number: u64,
+    s: &[u8],
+    asked: Asked,
+    desk: Desk,
+    codes: &mut [u64],
+    flags: &mut [u64],
+    balances: &mut [u64],
+    limits: &mut [u64],
+    batches: &mut [u64],
+    references: &mut [u64],
+    bins: &mut [u64],
+    out: &mut [u8],
+    tries: &mut [u64],
+) -> Desk {
+    let mut space = io::large_buffer();
+    let input: &mut [u8] = &mut space;
+    match read_input(s, asked, input) {
+        Got::Unread => {
+            not_a_call(number);
+            desk
+        }
+        Got::Bytes(n) => perform(
+            quick,
+            s,
+            asked,
+            input,
+            n,
+            desk,
+            codes,
+            flags,
+            balances,
+            limits,
+            batches,
+            references,
+            bins,
+            out,
+            tries,
+        ),
+    }
+}
+
+fn clear(
+    desk: Desk,
+    codes: &mut [u64],
+    flags: &mut [u64],
+    balances: &mut [u64],
+    limits: &mut [u64],
+    batches: &mut [u64],
+    references: &mut [u64],
+    bins: &mut [u64],
+) -> Desk {
+    let start = clearing::clear(
+        desk,
+        codes,
+        flags,
+        balances,
+        limits,
+        batches,
+        references,
+        bins,
+    );
+    let answer = start.answer;
+    let after = start.desk;
+    words::text(b"clear ");
+    words::two_digits(answer.number());
+    words::text(b" tries bytes 0\n");
+    after
+}
+
+fn do_line(
+    quick: bool,
+    number: u64,
+    s: &[u8],
+    desk: Desk,
+    codes: &mut [u64],
+    flags: &mut [u64],
+    balances: &mut [u64],
+    limits: &mut [u64],
+    batches: &mut [u64],
+    references: &mut [u64],
+    bins: &mut [u64],
+    out: &mut [u8],
+    tries: &mut [u64],
+) -> Desk {
+    match deed_of(scripts::read_line(s)) {
+        Deed::Nothing => desk,
+        Deed::NotACall => {
+            not_a_call(number);
+            desk
+        }
+        Deed::Show => {
+            showing::show(desk, codes, flags, balances, limits, batches, bins);
+            desk
+        }
+        Deed::Why => {
+            showing::tell_why(desk.date, codes, balances, limits, batches, bins);
+            desk
+        }
+        Deed::Clear => clear(
+            desk,
+            codes,
+            flags,
+            balances,
+            limits,
+            batches,
+            references,
+            bins,
+        ),
+        Deed::Call(asked) => call(
+            quick,
+            number,
+            s,
+            asked,
+            desk,
+            codes,
+            flags,
+            balances,
+            limits,
+            batches,
+            references,
+            bins,
+            out,
+            tries,
+        ),
+    }
+}
+
+// Takes the next line of the script and does what it asks for.
+fn do_next(
+    quick: bool,
+    number: u64,
+    fd: i32,
+    buf: &mut [u8],
+    line: &mut [u8],
+    ahead: Ahead,
+    desk: Desk,
+    codes: &mut [u64],
+    flags: &mut [u64],
+    balances: &mut [u64],
+    limits: &mut [u64],
+    batches: &mut [u64],
+    references: &mut [u64],
+    bins: &mut [u64],
+    out: &mut [u8],
+    tries: &mut [u64],
+) -> Turn {
+    let taken = lines::take(fd, buf, line, ahead);
+    let n = taken.n;
+    let rest = taken.ahead;
+    if !taken.is_there {
+        return Turn {
+            desk,
+            ahead: rest,
+            more: false,
+        };
+    }
+    if line.len() < n {
+        return Turn {
+            desk,
+            ahead: rest,
+            more: false,
+        };
+    }
+    let after = do_line(
+        quick,
+        number,
+        &line[..n],
+        desk,
+        codes,
+        flags,
+        balances,
+        limits,
+        batches,
+        references,
+        bins,
+        out,
+        tries,
+    );
+    Turn {
+        desk: after,
+        ahead: rest,
+        more: true,
+    }
+}
+
+// No script has so many lines that the numbers run out.
+fn do_lines(
+    quick: bool,
+    fd: i32,
+    buf: &mut [u8],
+    line: &mut [u8],
+    start: Desk,
+    codes: &mut [u64],
+    flags: &mut [u64],
+    balances: &mut [u64],
+    limits: &mut [u64],
+    batches: &mut [u64],
+    references: &mut [u64],
+    bins: &mut [u64],
+    out: &mut [u8],
+    tries: &mut [u64],
+) {
+    let mut desk = start;
+    let mut ahead = lines::nothing_ahead();
+    let mut number = 0;
+    let mut more = true;
+    while number < u64::MAX && more {
+        number += 1;
+        let turn = do_next(
+            quick,
+            number,
+            fd,
+            buf,
+            line,
+            ahead,
+            desk,
+            codes,
+            flags,
+            balances,
+            limits,
+            batches,
+            references,
+            bins,
+            out,
+            tries,
+        );
+        desk = turn.desk;
+        ahead = turn.ahead;
+        more = turn.more;
+    }
+}
+
+fn run(quick: bool, fd: i32) {
+    let mut buf = io::large_buffer();
+    let mut line = io::large_buffer();
+    let mut codes = [0u64; 64];
+    let mut flags = [0u64; 64];
+    let mut balances = [0u64; 64];
+    let mut limits = [0u64; 64];
+    let mut batches = [0u64; 11168];
+    let mut references = [0u64; 6144];
+    let mut bins = [0u64; 1536];
+    let mut out = [0u8; 33705];
+    let mut tries = [0u64; 528];
+    let no_day = Desk {
+        phase: Phase::Fresh,
+        date: 0,
+        clock: 0,
+        texts: 0,
+        banks: 0,
+        streams: [0u64; 16],
+        n: 0,
+    };
+    do_lines(
+        quick,
+        fd,
+        &mut buf,
+        &mut line,
+        no_day,
+        &mut codes,
+        &mut flags,
+        &mut balances,
+        &mut limits,
+        &mut batches,
+        &mut references,
+        &mut bins,
+        &mut out,
+        &mut tries,
+    );
+}
+
+fn usage() {
+    io::write_all(STDERR_FILENO, b"usage: day plain|quick [SCRIPT]\n");
+}
+
+// Whether a word is just this one.
+fn is_word(word: &[u8], name: &[u8]) -> bool {
+    if let At::Next(e) = scan::lit(word, 0, name) {
+        e == word.len()
+    } else {
+        false
+    }
+}
+
+fn test_of(word: &[u8]) -> Test {
+    if is_word(word, b"plain") {
+        return Test::Plain;
+    }
+    if is_word(word, b"quick") {
+        return Test::Quick;
+    }
+    Test::Neither
+}
+
+fn chosen() -> Test {
+    let mut word = [0u8; 16];
+    let n = os::arg(1, &mut word);
+    test_of(&word[..n])
+}
+
+fn run_file(quick: bool, path: &[u8]) {
+    let fd = os::open_read(path);
+    if fd < 0 {
+        files::unreadable(path);
+        return;
+    }
+    run(quick, fd);
+    libc::close(fd);
+}
+
+fn run_script(quick: bool, count: usize) {
+    if count < 3 {
+        run(quick, STDIN_FILENO);
+        return;
+    }
+    let mut path = io::buffer();
+    let n = os::arg(2, &mut path);
+    if os::errno() != 0 {
+        files::unreadable(b"argument");
+        return;
+    }
+    run_file(quick, &path[..n]);
+}
+
+fn main() {
+    let count = os::arg_count();
+    if 3 < count {
+        usage();
+        return;
+    }
+    match chosen() {
+        Test::Plain => run_script(false, count),
+        Test::Quick => run_script(true, count),
+        Test::Neither => usage(),
+    }
+}
