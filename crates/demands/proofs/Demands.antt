@@ -2,7 +2,7 @@
 use Prim.Native.Nat.{ℕ}
 use mathlib.Core.Path.{_≡_, refl, sym, ap, subst, _∙_}
 use mathlib.Core.Bool.{Bool, true, false}
-use mathlib.Core.List.{List, [], _∷_}
+use mathlib.Core.List.{List, [], _∷_, map}
 use Rattle.chars.specs.Words.{Says}
 use Rattle.chars.specs.declared.Refusal.{Refusal}
 use Rattle.chars.specs.declared.Refusal.the-variants.{BrokenTables}
@@ -24,40 +24,44 @@ use Rattle.engine.proofs.Holding.{call-memory, cleared-memory}
 use Rattle.engine.proofs.Refusals.{refusals-change-nothing, refused-openings-change-nothing}
 use Rattle.engine.proofs.Promises.{numbers-are-right, rows-are-kept, texts-read-back, accounted, none-left-at-close, openings-are-right, closing-book-reads-back, balances-follow, payers-covered, none-would-pass, orders-are-kept, tests-by-rule, tries-are-right, room-is-enough}
 use Rattle.tables.specs.declared.Desk.{Desk}
-use Rattle.tables.specs.Rows.{Tables, engineIn}
+use Rattle.tables.specs.Rows.{Tables, stateIn, engineIn}
 use Rattle.tables.specs.Words.{deskOf, tablesOf}
-use Rattle.tables.specs.Lent.{Right, Lent, Asked, callOf, Left, leftBy, broken, callLent, Called, Long, Wiped, clearLent, Cleared}
+use Rattle.tables.specs.Lent.{Right, Lent, Left, leftBy as lentBy, broken, callLent, Called, Long, Wiped, clearLent, Cleared}
 use Rattle.tables.specs.Running.{Lending, lentTo, callIn, leftIn}
-use Rattle.tables.proofs.Determined.{determined}
+use Rattle.tables.specs.Running as columns
+use Rattle.tables.specs.Choosing.{choosing, AllSameBut}
 use Rattle.tables.proofs.Held.{held, held-long}
 use Rattle.tables.proofs.Kept.{right-of, on-right}
 use Rattle.tables.proofs.Reported.{as-before, reported}
 use Rattle.tables.proofs.Choosing.{tests-leave-the-same}
-use Rattle.demands.specs.Demands.{Doing, clearing, calling, Came, none, cleared as thenCleared, called, deedOf, deeds, told, EverySince, Everywhere, asItWas, DemandOne, Whenever, DemandTwo, DemandThree}
+use Rattle.records.specs.Records.{balancesOf, Outcome, seenAs, outcomeOf, Beginning, wipedAs}
+use Rattle.records.proofs.Determined.{row-back, seen-back, determined}
+use Rattle.demands.specs.Demands.{Kept, tablesOn, engineOf, Calls, Clears, leftBy, begunBy, Doing, clearing, calling, Came, none, cleared, called, deeds, told, EverySince, Everywhere, asItWas, DemandOne, Whenever, DemandTwo, DemandThree}
+use Rattle.demands.specs.Demands as demanded
 
--- ---- desk and tables say the model's engine
+-- ---- what is kept says the model's engine
 
-record At (e : Engine) (d : Desk) (t : Tables) : Type 0 where
+record At (e : Engine) (x : Kept) : Type 0 where
   pub valid : Valid (e .state)
   pub memory : RightMemory (e .state .batches) (e .memory)
-  pub desk : d ≡ deskOf (e .state)
-  pub tables : t ≡ tablesOf e
+  pub desk : x .desk ≡ deskOf (e .state)
+  pub tables : tablesOn x ≡ tablesOf e
 
-module _ (e : Engine) (d : Desk) (t : Tables) (h : At e d t) where
-  says : engineIn d t ≡ e
-  says = ap (λ (z : Desk). engineIn z t) (h .desk) ∙ ap (λ (z : Tables). engineIn (deskOf (e .state)) z) (h .tables) ∙ held e (h .valid) (h .memory)
+module _ (e : Engine) (x : Kept) (h : At e x) where
+  says : engineOf x ≡ e
+  says = ap (λ (z : Desk). engineIn z (tablesOn x)) (h .desk) ∙ ap (λ (z : Tables). engineIn (deskOf (e .state)) z) (h .tables) ∙ held e (h .valid) (h .memory)
 
-  rights : Right d t
-  rights = subst (λ (z : Desk). Right z t) (sym (h .desk)) (subst (λ (z : Tables). Right (deskOf (e .state)) z) (sym (h .tables)) (right-of e (h .valid) (h .memory)))
+  rights : Right (x .desk) (tablesOn x)
+  rights = subst (λ (z : Desk). Right z (tablesOn x)) (sym (h .desk)) (subst (λ (z : Tables). Right (deskOf (e .state)) z) (sym (h .tables)) (right-of e (h .valid) (h .memory)))
 
-  long : Long t
+  long : Long (tablesOn x)
   long = subst (λ (z : Tables). Long z) (sym (h .tables)) (held-long e (h .valid) (h .memory))
 
-  module _ (k : Lending) (y : Left) (c : Called (lentTo d t k) (k .asked) y) where
-    leaves : y ≡ leftIn k (call e (callIn k))
-    leaves = on-right (lentTo d t k) (k .asked) y rights c ∙ ap (λ (z : Engine). leftIn k (call z (callIn k))) says
+  module _ (k : Lending) (y : Outcome) (c : Calls x k y) where
+    leaves : seenAs y ≡ leftIn k (call e (callIn k))
+    leaves = on-right (lentTo (x .desk) (tablesOn x) k) (k .asked) (seenAs y) rights c ∙ ap (λ (z : Engine). leftIn k (call z (callIn k))) says
 
-    goes : At (call e (callIn k) .engine) (y .lent .desk) (y .lent .tables)
+    goes : At (call e (callIn k) .engine) (leftBy y)
     goes = record {
       valid = call-valid readers e (callIn k) (h .valid);
       memory = call-memory e (callIn k) (h .memory);
@@ -65,22 +69,22 @@ module _ (e : Engine) (d : Desk) (t : Tables) (h : At e d t) where
       tables = ap (λ (z : Left). z .lent .tables) leaves;
     }
 
-from-start : (d : Desk) (t : Tables) (w : Wiped) → Long t → Cleared d t w → At start (w .desk) (w .tables)
+from-start : (x : Kept) (y : Beginning) → Long (tablesOn x) → Clears x y → At start (begunBy y)
 unfolding clearLent
-from-start d t w g c = go (c .long) (c .says) (c .is)
+from-start x y g c = go (c .long) (c .says) (c .is)
   where
-    go : (b : Bool) → Says (Long t) b → w ≡ clearLent b d t → At start (w .desk) (w .tables)
+    go : (b : Bool) → Says (Long (tablesOn x)) b → wipedAs y ≡ clearLent b (x .desk) (tablesOn x) → At start (begunBy y)
     go true s e = record { valid = refl; memory = cleared-memory; desk = ap (λ (z : Wiped). z .desk) e; tables = ap (λ (z : Wiped). z .tables) e }
     go false s e = absurd (s g)
 
-came-on : {d d′ : Desk} {t t′ : Tables} {ds : List Doing} (e : Engine) → At e d t → Came d t ds d′ t′ → At (course call e (deeds ds)) d′ t′
+came-on : {x x′ : Kept} {ds : List Doing} (e : Engine) → At e x → Came x ds x′ → At (course call e (deeds ds)) x′
 unfolding course
 came-on e h none = h
-came-on {d = d} {t = t} e h (thenCleared {w = w} c r) = came-on start (from-start d t w (long e d t h) c) r
-came-on {d = d} {t = t} e h (called {k = k} {y = y} c r) = came-on (call e (callIn k) .engine) (goes e d t h k y c) r
+came-on {x = x} e h (cleared {y = y} c r) = came-on start (from-start x y (long e x h) c) r
+came-on {x = x} e h (called {k = k} {y = y} c r) = came-on (call e (callIn k) .engine) (goes e x h k y c) r
 
-came : {d d′ : Desk} {t t′ : Tables} {ds : List Doing} → Long t → Came d t (clearing ∷ ds) d′ t′ → At (course call start (deeds ds)) d′ t′
-came {d = d} {t = t} g (thenCleared {w = w} c r) = came-on start (from-start d t w g c) r
+came : {x x′ : Kept} {ds : List Doing} → Long (tablesOn x) → Came x (clearing ∷ ds) x′ → At (course call start (deeds ds)) x′
+came {x = x} g (cleared {y = y} c r) = came-on start (from-start x y g c) r
 
 -- ---- what is promised of the model is promised of the functions
 
@@ -89,81 +93,100 @@ same-result : (r : Result) {n : Answer} {o u : List ℕ} {e : Engine} → n ≡ 
 same-result r a b c d = rw (a, b, c, d)
 
 every-since : (P : List Deed → Engine → Call → Result → Type 0) → ((ds : List Deed) (c : Call) → P ds (course call start ds) c (call (course call start ds) c)) → EverySince P
-every-since P h d d′ t t′ ds g w k y c =
+every-since P h x x′ ds g w k y c =
     let e : Engine = course call start (deeds ds) in
-    let a : At e d′ t′ = came g w in
-    let s : engineIn d′ t′ ≡ e = says e d′ t′ a in
-    let u = reported (lentTo d′ t′ k) (k .asked) y (rights e d′ t′ a) c in
-    let v : told y ≡ call (engineIn d′ t′) (callIn k) =
-    same-result (call (engineIn d′ t′) (callIn k))
-    (ap (λ (z : Left). z .answer) (on-right (lentTo d′ t′ k) (k .asked) y (rights e d′ t′ a) c))
+    let a : At e x′ = came g w in
+    let s : engineOf x′ ≡ e = says e x′ a in
+    let u = reported (lentTo (x′ .desk) (tablesOn x′) k) (k .asked) (seenAs y) (rights e x′ a) c in
+    let v : told y ≡ call (engineOf x′) (callIn k) =
+    same-result (call (engineOf x′) (callIn k))
+    (ap (λ (z : Left). z .answer) (on-right (lentTo (x′ .desk) (tablesOn x′) k) (k .asked) (seenAs y) (rights e x′ a) c))
     (u .0)
     (u .1)
-    (says (call e (callIn k) .engine) (y .lent .desk) (y .lent .tables) (goes e d′ t′ a k y c) ∙ ap (λ (z : Engine). call z (callIn k) .engine) (sym s))
+    (says (call e (callIn k) .engine) (leftBy y) (goes e x′ a k y c) ∙ ap (λ (z : Engine). call z (callIn k) .engine) (sym s))
     in
-    subst (λ (z : Result). P (deeds ds) (engineIn d′ t′) (callIn k) z) (sym v) (subst (λ (z : Engine). P (deeds ds) z (callIn k) (call z (callIn k))) (sym s) (h (deeds ds) (callIn k)))
+    subst (λ (z : Result). P (deeds ds) (engineOf x′) (callIn k) z) (sym v) (subst (λ (z : Engine). P (deeds ds) z (callIn k) (call z (callIn k))) (sym s) (h (deeds ds) (callIn k)))
 
 everywhere : (P : Engine → Call → Result → Type 0) → Always call P → Everywhere P
 everywhere P h = every-since (λ ds. P) h
 
-whenever : (P : Engine → List Deed → Type 0) → ((ds : List Deed) → P (course call start ds) ds) → Whenever P
-whenever P h d d′ t t′ ds g w = subst (λ (z : Engine). P z (deeds ds)) (sym (says (course call start (deeds ds)) d′ t′ (came g w))) (h (deeds ds))
-
 -- ---- demand 1
 
-module _ (x : Lent) (a : Asked) (y : Left) (c : Called x a y) where
-  abbrev e : Engine
-  e = engineIn (x .desk) (x .tables)
+module _ (x : Kept) (k : Lending) (y : Outcome) (c : Calls x k y) where
+  abbrev l : Lent
+  l = lentTo (x .desk) (tablesOn x) k
 
-  nothing-changed : Right (x .desk) (x .tables) → (q : Refusal) → call e (callOf x a) ≡ refused e q → y ≡ asItWas x q
-  nothing-changed r q h = on-right x a y r c ∙ ap (leftBy x) h ∙ rw (r .desk, r .tables)
+  -- an outcome is what is seen of it
+  is-as-was : (q : Refusal) → seenAs y ≡ record { answer = Refused q; written = 0; tried = 0; lent = l } → y ≡ asItWas x k q
+  is-as-was q h = sym (seen-back y) ∙ ap outcomeOf h ∙ rw (row-back (x .row))
 
-  broken-so : (b : Bool) → Says (Right (x .desk) (x .tables)) b → y ≡ callLent b x a → (Right (x .desk) (x .tables) → ⊥) → y ≡ broken x
+  nothing-changed : Right (x .desk) (tablesOn x) → (q : Refusal) → call (engineOf x) (callIn k) ≡ refused (engineOf x) q → y ≡ asItWas x k q
+  nothing-changed r q h = is-as-was q (on-right l (k .asked) (seenAs y) r c ∙ ap (lentBy l) h ∙ rw (r .desk, r .tables))
+
+  broken-so : (b : Bool) → Says (Right (x .desk) (tablesOn x)) b → seenAs y ≡ callLent b l (k .asked) → (Right (x .desk) (tablesOn x) → ⊥) → y ≡ asItWas x k BrokenTables
   unfolding callLent
   broken-so true s i h = absurd (h s)
-  broken-so false s i h = i
+  broken-so false s i h = is-as-was BrokenTables i
 
-  opening-so : (b : Bool) → Says (Right (x .desk) (x .tables)) b → y ≡ callLent b x a → (q : Refusal) → a .action ≡ Opening → y .answer ≡ Refused q → y ≡ asItWas x q
+  opening-so : (b : Bool) → Says (Right (x .desk) (tablesOn x)) b → seenAs y ≡ callLent b l (k .asked) → (q : Refusal) → k .asked .action ≡ Opening → y .told .answer ≡ Refused q
+      → y ≡ asItWas x k q
   unfolding callLent
-  opening-so true s i q o g = nothing-changed s q (refused-openings-change-nothing e (callOf x a) q o (sym (ap (λ (z : Left). z .answer) i) ∙ g))
+  opening-so true s i q o g = nothing-changed s q (refused-openings-change-nothing (engineOf x) (callIn k) q o (sym (ap (λ (z : Left). z .answer) i) ∙ g))
   opening-so false s i q o g =
       let u : Refused BrokenTables ≡ Refused q = sym (ap (λ (z : Left). z .answer) i) ∙ g in
-      i ∙ ap (λ (n : Answer). record { answer = n; written = 0; tried = 0; lent = x }) u
+      is-as-was q (i ∙ ap (λ (n : Answer). record { answer = n; written = 0; tried = 0; lent = l }) u)
 
-  pub demand-one : DemandOne x a y
+  pub demand-one : DemandOne x k y
   demand-one = record {
-    one = λ z g. determined x a y z c g;
+    one = λ z g. determined l (k .asked) y z c g;
     broken-tables = broken-so (c .kept) (c .says) (c .is);
-    at-once = λ r q h. nothing-changed r q (refusals-change-nothing e (callOf x a) q h);
+    at-once = λ r q h. nothing-changed r q (refusals-change-nothing (engineOf x) (callIn k) q h);
     opening = opening-so (c .kept) (c .says) (c .is);
-    out = as-before x a y c .0;
-    tries = as-before x a y c .1;
+    out = as-before l (k .asked) (seenAs y) c .0;
+    tries = as-before l (k .asked) (seenAs y) c .1;
   }
 
 -- ---- demand 2
+
+answered-once : Whenever (λ x ds. Accounted (engineOf x .state) (answered ds))
+answered-once x x′ ds g w = subst (λ (z : Engine). Accounted (z .state) (answered (deeds ds))) (sym (says (course call start (deeds ds)) x′ (came g w))) (accounted (deeds ds))
+
+none-awaits : Whenever (λ x ds. x .desk .phase ≡ Closed → awaiting (engineOf x .state) ≡ [])
+unfolding deskOf
+none-awaits x x′ ds g w h =
+    let a = came g w in
+    subst (λ (z : Engine). awaiting (z .state) ≡ []) (sym (says (course call start (deeds ds)) x′ a)) (none-left-at-close (deeds ds) (sym (ap (λ (z : Desk). z .phase) (a .desk)) ∙ h))
 
 pub demand-two : DemandTwo
 demand-two = record {
   numbers = everywhere Numbered numbers-are-right;
   left-behind = everywhere LeftBehind rows-are-kept;
   texts = everywhere Written texts-read-back;
-  accounted = whenever (λ e ds. Accounted (e .state) (answered ds)) accounted;
-  none-left = whenever (λ e ds. e .state .day .phase ≡ Closed → awaiting (e .state) ≡ []) none-left-at-close;
+  accounted = answered-once;
+  none-left = none-awaits;
   openings = everywhere OpensRight openings-are-right;
   books = everywhere Closes closing-book-reads-back;
 }
 
 -- ---- demand 3
 
-follow : (d d′ : Desk) (t t′ : Tables) (ds : List Doing) → Long t → Came d t (clearing ∷ ds) d′ t′ → Followed (t′ .balances) (ledgerAfter call start noLedger (since (deeds ds)))
+ran-on : {x : Kept} {ks : List Lending} {ys : List Outcome} → demanded.Ran x ks ys → columns.Ran (x .desk) (tablesOn x) ks (map seenAs ys)
+ran-on demanded.none = columns.done
+ran-on (demanded.then c r) = columns.then c (ran-on r)
+
+both-alike : (x : Kept) (b : Beginning) (ks : List Lending) (f g : ℕ → Bool) (ys zs : List Outcome) → Long (tablesOn x) → Clears x b → demanded.Ran (begunBy b) (choosing f ks) ys
+    → demanded.Ran (begunBy b) (choosing g ks) zs → AllSameBut (map seenAs ys) (map seenAs zs)
+both-alike x b ks f g ys zs h c p q = tests-leave-the-same (x .desk) (tablesOn x) (wipedAs b) ks f g (map seenAs ys) (map seenAs zs) h c (ran-on p) (ran-on q)
+
+follow : Whenever (λ x ds. Followed (balancesOf (x .row)) (ledgerAfter call start noLedger (since ds)))
 unfolding tablesOf
-follow d d′ t t′ ds g w =
-    let u : t′ .balances ≡ course call start (deeds ds) .state .books .balances = ap (λ (z : Tables). z .balances) (came g w .tables) in
+follow x x′ ds g w =
+    let u : balancesOf (x′ .row) ≡ course call start (deeds ds) .state .books .balances = ap (λ (z : Tables). z .balances) (came g w .tables) in
     subst (λ (l : List ℕ). Followed l (ledgerAfter call start noLedger (since (deeds ds)))) (sym u) (balances-follow (deeds ds))
 
 pub demand-three : DemandThree
 demand-three = record {
-  alike = tests-leave-the-same;
+  alike = both-alike;
   balances = follow;
   covered = everywhere Covered payers-covered;
   none-passes = everywhere NonePasses none-would-pass;

@@ -1,12 +1,13 @@
--- The three demands, of the functions `call` and `clear` of crate records, which are lent the accounts as a row of records, and of those below them, which are
--- lent columns (crates calls and clearing). What each ensures of anything lent is its contract: `Called` and `Cleared` (tables/specs/Lent) of the tables whose columns are
--- the records' fields. So what is said here of all outcomes that keep the contracts is said of what the functions leave.
+-- The three demands, of the public functions `call` and `clear` (crate records). What each ensures of anything lent is its contract, `Called` and `Cleared`
+-- (tables/specs/Lent) of the tables whose columns are the records' fields; so what is said here of all outcomes that keep the contracts is said of what the
+-- functions leave.
 use Prim.Native.Nat.{ℕ}
 use mathlib.Core.Path.{_≡_}
 use mathlib.Core.Bool.{Bool}
-use mathlib.Core.List.{List, [], _∷_}
+use mathlib.Core.List.{List, [], _∷_, map}
 use lib.ListN.{take, drop}
 use Rattle.chars.specs.declared.Refusal.{Refusal}
+use Rattle.chars.specs.declared.Refusal.the-variants.{BrokenTables}
 use Rattle.engine.specs.declared.Action.the-variants.{Opening}
 use Rattle.engine.specs.declared.Answer.the-variants.{Refused}
 use Rattle.engine.specs.declared.Phase.the-variants.{Closed}
@@ -19,23 +20,53 @@ use Rattle.engine.specs.Waiting.{Ordered}
 use Rattle.engine.specs.Promises.{Numbered, Written, answered, OpensRight, Closes, Followed, ledgerAfter, noLedger, Covered, NonePasses, Tried, Enough}
 use Rattle.tables.specs.declared.Desk.{Desk}
 use Rattle.tables.specs.Rows.{Tables, engineIn}
-use Rattle.tables.specs.Lent.{Right, Lent, Asked, callOf, Left, broken, Called, Long, Wiped, Cleared}
-use Rattle.tables.specs.Running.{Lending, lentTo, callIn, Ran}
+use Rattle.tables.specs.Lent.{Right, Called, Long, Cleared}
+use Rattle.tables.specs.Running.{Lending, lentTo, callIn}
 use Rattle.tables.specs.Choosing.{choosing, AllSameBut}
+use Rattle.records.specs.declared.Account.{Account}
+use Rattle.records.specs.Records.{balancesOf, tablesIn, Outcome, seenAs, Beginning, wipedAs}
 
 -- ---- "over any sequence of calls"
 
--- what a caller does: it clears, or it calls with anything asked, and any buffer and row lent
+-- what a caller keeps between two calls: the desk, the accounts as a row of records, and the rows of batches, references and BINs
+pub record Kept : Type 0 where
+  pub desk : Desk
+  pub row : List Account
+  pub batches : List ℕ
+  pub references : List ℕ
+  pub bins : List ℕ
+
+abbrev pub tablesOn : Kept → Tables
+tablesOn x = tablesIn (x .row) (x .batches) (x .references) (x .bins)
+
+-- the engine that it says
+abbrev pub engineOf : Kept → Engine
+engineOf x = engineIn (x .desk) (tablesOn x)
+
+-- the contract of `call`, with k asked and lent; and of `clear`
+abbrev pub Calls : Kept → Lending → Outcome → Type 0
+Calls x k y = Called (lentTo (x .desk) (tablesOn x) k) (k .asked) (seenAs y)
+
+abbrev pub Clears : Kept → Beginning → Type 0
+Clears x y = Cleared (x .desk) (tablesOn x) (wipedAs y)
+
+-- what they leave to be kept
+abbrev pub leftBy : Outcome → Kept
+leftBy y = record { desk = y .told .desk; row = y .row; batches = y .batches; references = y .references; bins = y .bins }
+
+abbrev pub begunBy : Beginning → Kept
+begunBy y = record { desk = y .start .desk; row = y .row; batches = y .batches; references = y .references; bins = y .bins }
+
+-- what a caller does: it clears, or it calls with anything asked, and any buffer and row of tries lent
 pub data Doing : Type 0 where
   clearing : Doing
   calling : Lending → Doing
 
--- from a desk and tables, after some doings, desk and tables are these: nothing else has altered them
-pub data Came : Desk → Tables → List Doing → Desk → Tables → Type 0 where
-  none : {d : Desk} {t : Tables} → Came d t [] d t
-  cleared : {d d′ : Desk} {t t′ : Tables} {w : Wiped} {ds : List Doing} → Cleared d t w → Came (w .desk) (w .tables) ds d′ t′ → Came d t (clearing ∷ ds) d′ t′
-  called : {d d′ : Desk} {t t′ : Tables} {k : Lending} {y : Left} {ds : List Doing} → Called (lentTo d t k) (k .asked) y → Came (y .lent .desk) (y .lent .tables) ds d′ t′
-      → Came d t (calling k ∷ ds) d′ t′
+-- what is kept after some doings: nothing else has altered it
+pub data Came : Kept → List Doing → Kept → Type 0 where
+  none : {x : Kept} → Came x [] x
+  cleared : {x x′ : Kept} {y : Beginning} {ds : List Doing} → Clears x y → Came (begunBy y) ds x′ → Came x (clearing ∷ ds) x′
+  called : {x x′ : Kept} {k : Lending} {y : Outcome} {ds : List Doing} → Calls x k y → Came (leftBy y) ds x′ → Came x (calling k ∷ ds) x′
 
 -- the same of the model
 abbrev pub deedOf : Doing → Deed
@@ -46,49 +77,57 @@ abbrev pub deeds : List Doing → List Deed
 deeds [] = []
 deeds (d ∷ ds) = deedOf d ∷ deeds ds
 
--- what a call has left, as the model says it: the bytes and tries that it reports, and the engine that desk and tables say
-abbrev pub told : Left → Result
+-- what a call has left, as the model says it: the bytes and tries that it reports, and the engine that is now kept
+abbrev pub told : Outcome → Result
 told y = record {
-  answer = y .answer;
-  out = take (y .written) (y .lent .out);
-  tries = take (y .tried) (y .lent .tries);
-  engine = engineIn (y .lent .desk) (y .lent .tables);
+  answer = y .told .answer;
+  out = take (y .told .written) (y .out);
+  tries = take (y .told .tried) (y .tries);
+  engine = engineOf (leftBy y);
 }
 
--- of every call of the functions: tables of the right lengths, whatever they held, were cleared; then any doings; then the call. P is said of what was done
--- since the clearing, of the engine that desk and tables said before the call, of what was asked, and of what the call has left
+-- of every call of the functions: rows of the right lengths, whatever they held, were cleared; then any doings; then the call. P is said of what was done since
+-- the clearing, of the engine that was kept before the call, of what was asked, and of what the call has left
 abbrev pub EverySince : (List Deed → Engine → Call → Result → Type 0) → Type 0
-EverySince P = (d d′ : Desk) (t t′ : Tables) (ds : List Doing) → Long t → Came d t (clearing ∷ ds) d′ t′ → (k : Lending) (y : Left) → Called (lentTo d′ t′ k) (k .asked) y
-    → P (deeds ds) (engineIn d′ t′) (callIn k) (told y)
+EverySince P = (x x′ : Kept) (ds : List Doing) → Long (tablesOn x) → Came x (clearing ∷ ds) x′ → (k : Lending) (y : Outcome) → Calls x′ k y
+    → P (deeds ds) (engineOf x′) (callIn k) (told y)
 
 abbrev pub Everywhere : (Engine → Call → Result → Type 0) → Type 0
 Everywhere P = EverySince (λ ds. P)
 
 -- ---- demand 1: "Every call with any text, table, number or clock ends with a listed answer .. No caller has to check first. For each refusal it is stated
--- what comes back and what every lent table and buffer then holds." Of any desk, tables, buffer and row
+-- what comes back and what every lent table and buffer then holds." Of anything kept, anything asked, any buffer and row
 
-abbrev pub asItWas : Lent → Refusal → Left
-asItWas x q = record { answer = Refused q; written = 0; tried = 0; lent = x }
+abbrev pub asItWas : Kept → Lending → Refusal → Outcome
+asItWas x k q = record {
+  told = record { answer = Refused q; written = 0; tried = 0; desk = x .desk };
+  row = x .row;
+  batches = x .batches;
+  references = x .references;
+  bins = x .bins;
+  out = k .out;
+  tries = k .tries;
+}
 
-pub record DemandOne (x : Lent) (a : Asked) (y : Left) : Type 0 where
+pub record DemandOne (x : Kept) (k : Lending) (y : Outcome) : Type 0 where
   -- one outcome
-  pub one : (z : Left) → Called x a z → y ≡ z
+  pub one : (z : Outcome) → Calls x k z → y ≡ z
   -- 06, exactly where a table breaks the rules: "nothing changed"
-  pub broken-tables : (Right (x .desk) (x .tables) → ⊥) → y ≡ broken x
+  pub broken-tables : (Right (x .desk) (tablesOn x) → ⊥) → y ≡ asItWas x k BrokenTables
   -- 05 and 07, by the moment and the room alone: "nothing changed"
-  pub at-once : Right (x .desk) (x .tables) → (q : Refusal) → judge (engineIn (x .desk) (x .tables) .state) (callOf x a) ≡ Refused q → y ≡ asItWas x q
+  pub at-once : Right (x .desk) (tablesOn x) → (q : Refusal) → judge (engineOf x .state) (callIn k) ≡ Refused q → y ≡ asItWas x k q
   -- an opening that is refused: "nothing changed"
-  pub opening : (q : Refusal) → a .action ≡ Opening → y .answer ≡ Refused q → y ≡ asItWas x q
+  pub opening : (q : Refusal) → k .asked .action ≡ Opening → y .told .answer ≡ Refused q → y ≡ asItWas x k q
   -- "In every other call both are as before past their reported lengths"
-  pub out : drop (y .written) (y .lent .out) ≡ drop (y .written) (x .out)
-  pub tries : drop (y .tried) (y .lent .tries) ≡ drop (y .tried) (x .tries)
+  pub out : drop (y .told .written) (y .out) ≡ drop (y .told .written) (k .out)
+  pub tries : drop (y .told .tried) (y .tries) ≡ drop (y .told .tried) (k .tries)
 
 -- ---- demand 2: "Settlement and recall requests are accepted, or refused with the very code. Each response written reads back as the same response, a
 -- closing book as the same accounts."
 
--- after any doings desk and tables say an engine, whose P is said
-abbrev pub Whenever : (Engine → List Deed → Type 0) → Type 0
-Whenever P = (d d′ : Desk) (t t′ : Tables) (ds : List Doing) → Long t → Came d t (clearing ∷ ds) d′ t′ → P (engineIn d′ t′) (deeds ds)
+-- of what is kept after any doings
+abbrev pub Whenever : (Kept → List Deed → Type 0) → Type 0
+Whenever P = (x x′ : Kept) (ds : List Doing) → Long (tablesOn x) → Came x (clearing ∷ ds) x′ → P x′ (deeds ds)
 
 pub record DemandTwo : Type 0 where
   -- the answer is 0 or the very number of document 01's order of tests
@@ -98,8 +137,8 @@ pub record DemandTwo : Type 0 where
   -- the bytes are the texts of the call's replies, numbered on within the day, and each reads back as the response meant
   pub texts : Everywhere Written
   -- each message noted today was answered, or awaits its answer; none twice; at the close none awaits
-  pub accounted : Whenever (λ e ds. Accounted (e .state) (answered ds))
-  pub none-left : Whenever (λ e ds. e .state .day .phase ≡ Closed → awaiting (e .state) ≡ [])
+  pub accounted : Whenever (λ x ds. Accounted (engineOf x .state) (answered ds))
+  pub none-left : Whenever (λ x ds. x .desk .phase ≡ Closed → awaiting (engineOf x .state) ≡ [])
   -- an opening leaves its book's accounts, a closing book tells them: accepted, dated as asked, and a day opened with it begins with the same
   pub openings : Everywhere OpensRight
   pub books : Everywhere Closes
@@ -109,13 +148,17 @@ pub record DemandTwo : Type 0 where
 -- settled since; every payer of a settled batch covered its own payment by the rule for its status, on the balances just before that batch; after each call no
 -- queued batch would pass."
 
+-- calls one behind another, and the outcome of each
+pub data Ran : Kept → List Lending → List Outcome → Type 0 where
+  none : {x : Kept} → Ran x [] []
+  then : {x : Kept} {k : Lending} {y : Outcome} {ks : List Lending} {ys : List Outcome} → Calls x k y → Ran (leftBy y) ks ys → Ran x (k ∷ ks) (y ∷ ys)
+
 pub record DemandThree : Type 0 where
-  -- the same calls, each with the test that x or y chooses for it: all that they leave is equal but for tries and the quick test's memory words
-  pub alike : (d : Desk) (t : Tables) (w : Wiped) (ks : List Lending) (x y : ℕ → Bool) (ys zs : List Left) → Long t → Cleared d t w
-      → Ran (w .desk) (w .tables) (choosing x ks) ys → Ran (w .desk) (w .tables) (choosing y ks) zs → AllSameBut ys zs
+  -- the same calls, each with the test that f or g chooses for it: all that they leave is equal but for tries and the quick test's memory words
+  pub alike : (x : Kept) (b : Beginning) (ks : List Lending) (f g : ℕ → Bool) (ys zs : List Outcome) → Long (tablesOn x) → Clears x b
+      → Ran (begunBy b) (choosing f ks) ys → Ran (begunBy b) (choosing g ks) zs → AllSameBut (map seenAs ys) (map seenAs zs)
   -- the lent balances are those of the opening book and of what settled since
-  pub balances : (d d′ : Desk) (t t′ : Tables) (ds : List Doing) → Long t → Came d t (clearing ∷ ds) d′ t′
-      → Followed (t′ .balances) (ledgerAfter call start noLedger (since (deeds ds)))
+  pub balances : Whenever (λ x ds. Followed (balancesOf (x .row)) (ledgerAfter call start noLedger (since ds)))
   pub covered : Everywhere Covered
   pub none-passes : Everywhere NonePasses
   -- what waits stands in its order, and nothing is tried before its minute
