@@ -1,1 +1,1 @@
-// Wrong engines, and the promise that each breaks: proofs alone.
+// Wrong engines, and the promise that each breaks: specs and proofs alone.
