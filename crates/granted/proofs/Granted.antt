@@ -30,34 +30,8 @@ use Rattle.table_rules.specs.TableRules.{CrossRules, DayTables, TablesIn, place
 use Rattle.table_rules.proofs.Parts.{entries-many, idle, none-desk, none-tables, tables-exact}
 use Rattle.stages.specs.Heads.{NeatTable, wordsOf}
 use Rattle.stages.proofs.Canon.{words-neat}
+pub use Rattle.granted.specs.Granting.{rowAt, Granted}
 use Rattle.steps.specs.Steps.{Counted}
-
--- the row of a place
-abbrev pub rowAt : List ℕ → ℕ → List ℕ
-rowAt batches p = getD (batchRows batches) p []
-
--- of a day that was opened
-pub record Granted (d : Desk) (t : Tables) : Type 0 where
-  pub date : d .date < 36525
-  pub clock : d .clock < 86400
-  pub some-streams : 1 ≤ d .n
-  pub few-streams : d .n ≤ 8
-  pub streams-long : length (d .streams) ≡ 16
-  pub some-banks : 1 ≤ d .banks
-  pub few-banks : d .banks ≤ 64
-  pub long : Long t
-  pub house : RightHouse (houseOn d (t .codes) (t .flags)) (t .balances) (t .limits)
-  pub books : Books (t .balances) (t .limits)
-  -- the batches, and that the table is just their words
-  pub stood : Stood (d .banks) (batchesIn (t .batches))
-  pub memory : RightMemory (batchesIn (t .batches)) (memoryIn (t .batches))
-  pub words : t .batches ≡ wordsOf (batchesIn (t .batches)) (memoryIn (t .batches))
-  pub neat : NeatTable (t .batches)
-  pub counted : (p : ℕ) → p < 32 → (word (rowAt (t .batches) p) 0 ≡ 0 → ⊥) → Counted (rowAt (t .batches) p)
-  -- references and BINs
-  pub known : KnownRules (d .date) (t .references) (t .bins)
-  pub cross : CrossRules (d .date) (d .texts) (t .batches) (t .references) (t .bins)
-  pub texts : d .texts + liveMessages (placesOf (t .batches)) ≤ 2048
 
 -- ---- a live row
 
