@@ -117,6 +117,32 @@ module _ {w v i left rest : ℕ} (g : Unpacking w v i left rest) where
       let z : i + left ≡ suc i = omega (arith, g .some) in
       sym (unpack-last i rest) ∙ (rw z at (g .same))
 
+-- two or four bytes at a time
+unpacking-two : {w v i left rest : ℕ} → Unpacking w v i left rest → 2 < left → Unpacking w v i (left - 2) (rest / 65536)
+unpacking-two {left = left} {rest = rest} g h =
+    let l : left - 1 - 1 ≡ left - 2 = omega arith in
+    let r : rest / 256 / 256 ≡ rest / 65536 = omega arith in
+    rw (l, r) at (unpacking-on (unpacking-on g (omega arith)) (omega arith))
+
+pub unpacking-four : {w v i left rest : ℕ} → Unpacking w v i left rest → 4 < left → Unpacking w v i (left - 4) (rest / 4294967296)
+unpacking-four {left = left} {rest = rest} g h =
+    let l : left - 2 - 2 ≡ left - 4 = omega arith in
+    let r : rest / 65536 / 65536 ≡ rest / 4294967296 = omega arith in
+    rw (l, r) at (unpacking-two (unpacking-two g (omega arith)) (omega arith))
+
+-- the byte with one, two or three behind it
+module _ {w v i left rest : ℕ} (g : Unpacking w v i left rest) where
+  pub unpacking-second : left ≤ 2 → 1 < left → rest / 256 % 256 ≡ getD (unpacked w v) i 0
+  unpacking-second h k = unpacking-done (unpacking-on g k) (omega arith)
+
+  pub unpacking-third : left ≤ 3 → 2 < left → rest / 65536 % 256 ≡ getD (unpacked w v) i 0
+  unpacking-third h k = unpacking-done (unpacking-two g k) (omega arith)
+
+  pub unpacking-fourth : left ≤ 4 → 3 < left → rest / 16777216 % 256 ≡ getD (unpacked w v) i 0
+  unpacking-fourth h k =
+      let r : rest / 65536 / 256 ≡ rest / 16777216 = omega arith in
+      rw r at (unpacking-done (unpacking-on (unpacking-two g (omega arith)) (omega arith)) (omega arith))
+
 pub spelled-length : (c : Code) → length (spelled c) ≡ 16
 unfolding spelled
 spelled-length c = simp (length-append, unpack-length)

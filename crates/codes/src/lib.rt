@@ -72,7 +72,7 @@ pub fn long_code(s: &[u8], at: usize, n: usize) -> Code
     }
 }
 
-// The i-th of the w bytes of a number; 0 past them.
+// The i-th of the w bytes of a number; 0 past them. Those behind it are left out four at a time, then at once.
 fn byte_of(v: u64, w: usize, i: usize) -> u8
     ensures { λ r. ⌜ r ≡ getD (unpacked w v) i 0 ⌝ }
 {
@@ -81,9 +81,18 @@ fn byte_of(v: u64, w: usize, i: usize) -> u8
     }
     let mut left = w - i;
     let mut rest = v;
-    while left > 1 {
-        rest = rest / 256;
-        left -= 1;
+    while left > 4 {
+        rest = rest / 4_294_967_296;
+        left -= 4;
+    }
+    if left > 3 {
+        return (rest / 16_777_216 % 256) as u8;
+    }
+    if left > 2 {
+        return (rest / 65_536 % 256) as u8;
+    }
+    if left > 1 {
+        return (rest / 256 % 256) as u8;
     }
     (rest % 256) as u8
 }
