@@ -22,7 +22,8 @@ use Rattle.scan.specs.declared.At.{At}
 use Rattle.scan.specs.declared.At.the-variants.{Next, No}
 use Rattle.scan.specs.declared.Fixed.{Fixed}
 use Rattle.scan.specs.declared.Fixed.the-variants.{Value, No as Unfit}
-use Rattle.scan.proofs.Standing.{All, code-sound}
+use Rattle.scan.specs.Spelling.{All}
+use Rattle.scan.proofs.Standing.{code-sound}
 use Rattle.book.specs.declared.Answer.the-variants.{Sound}
 use Rattle.book.specs.declared.Field.{Field}
 use Rattle.book.specs.declared.Field.the-variants.{Code, Flags, Balance, Limit}

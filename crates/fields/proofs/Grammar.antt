@@ -9,10 +9,9 @@ use Rattle.scan.specs.declared.At.{At}
 use Rattle.scan.specs.declared.At.the-variants.{Next, No}
 use Rattle.scan.specs.declared.Cursor.{Cursor}
 use Rattle.scan.proofs.Standing.{past, lit-reads, lit-sound}
-use Rattle.values.specs.Values.{textOf}
 use Rattle.values.specs.declared.Value.{Value}
 use Rattle.values.specs.declared.Value.the-variants.{Read, Unread}
-use Rattle.values.proofs.Grammar.{IsReference, IsNumeral, IsWord, IsBin, IsNumbers, IsDate, IsTime, IsSide, IsAmount, IsLetters, IsCount, ReadsAs, SpeltAs, reference-complete, numeral-complete, word-complete, bin-complete, numbers-complete, date-complete, time-complete, side-complete, amount-complete, letters-complete, count-complete, reference-sound, numeral-sound, word-sound, bin-sound, numbers-sound, date-sound, time-sound, side-sound, amount-sound, letters-sound, count-sound}
+use Rattle.values.proofs.Grammar.{ReadsAs, SpeltAs, reference-complete, numeral-complete, word-complete, bin-complete, numbers-complete, date-complete, time-complete, side-complete, amount-complete, letters-complete, count-complete, reference-sound, numeral-sound, word-sound, bin-sound, numbers-sound, date-sound, time-sound, side-sound, amount-sound, letters-sound, count-sound}
 use Rattle.fields.specs.Fields.{absent, broken, wrong, item, place, onRead, valueAt, fieldAt}
 use Rattle.fields.specs.declared.Break.{Break}
 use Rattle.fields.specs.declared.Item.{Item}
@@ -20,26 +19,7 @@ use Rattle.fields.specs.declared.Field.the-variants.{Good, Bad}
 use Rattle.fields.specs.declared.Kind.{Kind}
 use Rattle.fields.specs.declared.Kind.the-variants.{Reference, Numeral, Word, Bin, Numbers, Date, Time, Side, Amount, Letters, Count}
 use Rattle.fields.proofs.Alike.{Fine}
-
--- the bytes are a value of the kind; a BIN's stream stands in the text s
-abbrev pub Spelt : List ℕ → Kind → List ℕ → Type 0
-Spelt s Reference v = IsReference v
-Spelt s (Numeral n) v = IsNumeral n v
-Spelt s (Word n) v = IsWord n v
-Spelt s (Bin p) v = IsBin (textOf s p) v
-Spelt s Numbers v = IsNumbers v
-Spelt s Date v = IsDate v
-Spelt s Time v = IsTime v
-Spelt s Side v = IsSide v
-Spelt s Amount v = IsAmount v
-Spelt s Letters v = IsLetters v
-Spelt s (Count n) v = IsCount n v
-
--- "A line is `:tag:value` and CR LF": l is such a line, and then r
-pub record Line (tag : List ℕ) (P : List ℕ → Type 0) (l r : List ℕ) : Type 0 where
-  pub value : List ℕ
-  pub text : l ≡ tag ++ (value ++ (crlf ++ r))
-  pub is : P value
+use Rattle.fields.specs.Grammar.{Spelt, Line}
 
 value-complete : (s : List ℕ) (at : ℕ) (v r : List ℕ) → drop at s ≡ v ++ (crlf ++ r) → (b : ℕ) (k : Kind) → Fine b k → Spelt s k v → ReadsAs (valueAt s at k) (at + length v)
 value-complete s at v r h b Reference f g = reference-complete s at v r h g

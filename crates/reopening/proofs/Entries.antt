@@ -12,7 +12,8 @@ use borrow.Author.Tests.{eq-eqb, le-leb, ltb-true}
 use Rattle.chars.specs.Chars.{isCode}
 use Rattle.codes.specs.Codes.{packed, shortAt, unpacked, shortText}
 use Rattle.codes.proofs.Laws.{pack-take, pack-unpack, unpack-length}
-use Rattle.scan.proofs.Standing.{All, code-reads}
+use Rattle.scan.specs.Spelling.{All}
+use Rattle.scan.proofs.Standing.{code-reads}
 use Rattle.book.specs.Block.{little, zerosAt}
 use Rattle.book.specs.Book.{mostMoney, codeRight, streamRight, bitsPast, bankRight}
 use Rattle.book.specs.Accounts.{Stream, Bank, streamAt, bankAt}

@@ -12,7 +12,7 @@ use Rattle.chars.specs.Chars.{isCode, isDigit}
 use Rattle.codes.specs.Codes.{packOn, packed, longOf, shortText, longText}
 use Rattle.codes.specs.declared.Code.{Code}
 use Rattle.codes.proofs.Laws.{Bytes, long-text, short-text}
-use Rattle.scan.proofs.Standing.{All}
+use Rattle.scan.specs.Spelling.{All}
 use Rattle.names.specs.Names.{allAre, isWhole, forbidden, isReference, isBin, binStream}
 use Rattle.names.proofs.Laws.{and-true, same-code, same-self, long-most}
 use Rattle.response.specs.Values.{isNumber, isOutcome, isAnswer, isSettlement, isRecall}

@@ -14,7 +14,7 @@ use Rattle.codes.proofs.Laws.{Bytes, NoZero}
 use Rattle.put.specs.Digits.{digitsOf}
 use Rattle.put.proofs.Laws.{digits-length}
 use Rattle.scan.specs.Scan.{begins, ten}
-use Rattle.scan.proofs.Standing.{All, valueOf}
+use Rattle.scan.specs.Spelling.{All, valueOf}
 
 pub all-append : (is : ℕ → Bool) (a b : List ℕ) → All is a → All is b → All is (a ++ b)
 all-append is [] b p q = q

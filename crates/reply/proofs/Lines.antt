@@ -17,7 +17,8 @@ use Rattle.scan.specs.Scan.{crlf, begins, litAt, numberAt, ten}
 use Rattle.scan.specs.declared.At.the-variants.{Next, No}
 use Rattle.scan.specs.declared.Fixed.the-variants.{Value as Digits}
 use Rattle.names.specs.Names.{forbidden}
-use Rattle.scan.proofs.Standing.{All, valueOf, past, lit-reads, codes-reads, code-reads, number-reads}
+use Rattle.scan.specs.Spelling.{All, valueOf}
+use Rattle.scan.proofs.Standing.{past, lit-reads, codes-reads, code-reads, number-reads}
 use Rattle.values.specs.Values.{textOf, stands, forbiddenAt, referenceAt, numeralAt, wordAt, binAt}
 use Rattle.values.specs.declared.Part.{Part}
 use Rattle.values.specs.declared.Value.the-variants.{Read}

@@ -20,7 +20,8 @@ use Rattle.scan.specs.declared.At.the-variants.{Next, No}
 use Rattle.scan.specs.declared.Cursor.{Cursor}
 use Rattle.scan.specs.declared.Fixed.{Fixed}
 use Rattle.scan.specs.declared.Fixed.the-variants.{Value as Digits, No as Unfit}
-use Rattle.scan.proofs.Standing.{All, valueOf, lit-next, lit-sound, cut, codes-sound, code-sound, number-sound}
+use Rattle.scan.specs.Spelling.{All, valueOf}
+use Rattle.scan.proofs.Standing.{lit-next, lit-sound, cut, codes-sound, code-sound, number-sound}
 use Rattle.values.specs.Values.{malformed, textOf, onDigits, onDay, forbiddenAt, referenceAt, numeralAt, wordAt, binAt}
 use Rattle.values.specs.declared.Part.{Part}
 use Rattle.values.specs.declared.Value.{Value}

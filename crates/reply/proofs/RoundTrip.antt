@@ -18,7 +18,8 @@ use Rattle.dates.proofs.Laws.{date-back, date-small}
 use Rattle.names.proofs.Laws.{and-true}
 use Rattle.put.specs.Digits.{digitsOf}
 use Rattle.put.proofs.Laws.{digits-length}
-use Rattle.scan.proofs.Standing.{valueOf, past, lit-reads}
+use Rattle.scan.specs.Spelling.{valueOf}
+use Rattle.scan.proofs.Standing.{past, lit-reads}
 use Rattle.values.specs.Values.{textOf}
 use Rattle.values.specs.declared.Part.{Part}
 use Rattle.fields.specs.Fields.{place}

@@ -8,7 +8,7 @@ use Rattle.chars.specs.Chars.{isDigit, isCode}
 use Rattle.codes.specs.Codes.{packed, longOf}
 use Rattle.codes.specs.declared.Code.{Code}
 use Rattle.names.specs.Names.{forbidden}
-use Rattle.scan.proofs.Standing.{All}
+use Rattle.scan.specs.Spelling.{All}
 use Rattle.response.specs.Values.{isOutcome, isAnswer}
 use Rattle.response.specs.declared.Settlement.{Settlement}
 use Rattle.response.specs.declared.Recall.{Recall}

@@ -12,8 +12,8 @@ use Rattle.chars.specs.Words.{bytes}
 use Rattle.dates.specs.declared.Day.the-variants.{Number}
 use Rattle.dates.proofs.Laws.{date-back}
 use Rattle.reply.proofs.Digits.{code-bytes}
-use Rattle.values.proofs.Grammar.{IsTime, IsCount}
-use Rattle.fields.proofs.Grammar.{Line}
+use Rattle.values.specs.Grammar.{IsTime, IsCount}
+use Rattle.fields.specs.Grammar.{Line}
 use Rattle.terms.specs.declared.Activation.{Activation}
 use Rattle.terms.specs.declared.Activation.the-variants.{AtOnce, Minute}
 use Rattle.payments.specs.declared.Payment.{Payment}
@@ -21,8 +21,8 @@ use Rattle.request.specs.Request.{requestAt}
 use Rattle.request.specs.declared.Head.{Head}
 use Rattle.request.specs.declared.Outcome.the-variants.{Settlement, Recall}
 use Rattle.request.specs.declared.Reading.{Reading}
-use Rattle.grammar.proofs.Payments.{PaymentText, credit, debit, PaymentsText, none-left, one-more}
-use Rattle.grammar.proofs.Request.{HeadText, BodyText, RecallText, SettlementText, settlement-complete, recall-complete}
+use Rattle.grammar.specs.Text.{HeadText, RecallText, PaymentText, credit, debit, PaymentsText, none-left, one-more, BodyText, SettlementText}
+use Rattle.grammar.proofs.Request.{settlement-complete, recall-complete}
 use Rattle.grammar.specs.Values.{noPayment, InDay, GivenSide, GivesHead, GivesPayment, GivesSettlement, GivesRecall}
 use Rattle.grammar.proofs.Values.{bin-codes, settlement-gives, recall-gives}
 use Rattle.administrator.specs.Orders.{held, countText, lineText, headText, activationText, paymentOf, paymentText, noLine, messageText, orderText}

@@ -12,14 +12,13 @@ use Rattle.chars.specs.Chars.{isCode, isLetter, isDigit}
 use Rattle.codes.specs.Codes.{packed, longOf}
 use Rattle.put.specs.Digits.{digitsOf}
 use Rattle.reply.proofs.Digits.{all-append, cr-no-code, digits-all}
-use Rattle.scan.proofs.Standing.{All, valueOf}
+use Rattle.scan.specs.Spelling.{All, valueOf}
 use Rattle.values.specs.Letters.{isStatus, isFourth}
-use Rattle.values.proofs.Grammar.{IsNumbers, IsAmount, IsLetters}
-use Rattle.fields.proofs.Grammar.{Line}
+use Rattle.values.specs.Grammar.{IsNumbers, IsAmount, IsLetters}
+use Rattle.fields.specs.Grammar.{Line}
 use Rattle.payments.specs.declared.Payment.{Payment}
 use Rattle.request.specs.declared.Head.{Head}
-use Rattle.grammar.proofs.Payments.{PaymentText, credit, debit, PaymentSays}
-use Rattle.grammar.proofs.Request.{HeadSays}
+use Rattle.grammar.specs.Text.{PaymentText, credit, debit, HeadSays, PaymentSays}
 use Rattle.grammar.proofs.Values.{bin-codes}
 use Rattle.administrator.specs.Orders.{fixed, widthOf, nameText, numbersText, timeText, amountText, countText, lineText, headText, paymentOf}
 use Rattle.administrator.specs.declared.Given.the-variants.{Nothing, Name, SubType, Four, CreditSide, DebitSide, Amount}

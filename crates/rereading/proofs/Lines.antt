@@ -8,8 +8,8 @@ use lib.Dec.{eqb}
 use lib.ListN.{length, drop, take}
 use lib.Seq.{drop-append-seam, take-at, drop-at}
 use Rattle.scan.specs.Scan.{crlf}
-use Rattle.scan.proofs.Standing.{All}
-use Rattle.fields.proofs.Grammar.{Line}
+use Rattle.scan.specs.Spelling.{All}
+use Rattle.fields.specs.Grammar.{Line}
 use Rattle.administrator.specs.Orders.{valueText, lineText}
 use Rattle.administrator.specs.declared.Given.{Given}
 

@@ -14,17 +14,18 @@ use Rattle.chars.specs.Words.{bytes}
 use Rattle.dates.specs.Dates.{dayOf}
 use Rattle.dates.specs.declared.Day.the-variants.{Number}
 use Rattle.scan.specs.Scan.{begins}
-use Rattle.scan.proofs.Standing.{valueOf}
-use Rattle.values.proofs.Grammar.{IsTime}
-use Rattle.fields.proofs.Grammar.{Line}
+use Rattle.scan.specs.Spelling.{valueOf}
+use Rattle.values.specs.Grammar.{IsTime}
+use Rattle.fields.specs.Grammar.{Line}
 use Rattle.terms.specs.declared.Activation.{Activation}
 use Rattle.terms.specs.declared.Activation.the-variants.{AtOnce, Minute}
 use Rattle.payments.specs.declared.Payment.{Payment}
 use Rattle.request.specs.Request.{requestAt}
 use Rattle.request.specs.declared.Outcome.the-variants.{Settlement, Recall}
 use Rattle.request.specs.declared.Reading.{Reading}
-use Rattle.grammar.proofs.Payments.{PaymentsText, none-left, one-more, PaymentsSay, payment-begins}
-use Rattle.grammar.proofs.Request.{ActivationSays, BodySays, settlement-says, recall-says, not-timed-many, not-more}
+use Rattle.grammar.specs.Text.{PaymentsText, none-left, one-more, ActivationSays, PaymentsSay, BodySays}
+use Rattle.grammar.proofs.Payments.{payment-begins}
+use Rattle.grammar.proofs.Request.{settlement-says, recall-says, not-timed-many, not-more}
 use Rattle.administrator.specs.Orders.{held, fixed, lineText, activationText, termsText, paymentOf, paymentText, noLine, paymentsTo, paymentsText, messageText, orderText}
 use Rattle.administrator.specs.declared.Given.the-variants.{Numbers, Date, Time, Count}
 use Rattle.administrator.specs.declared.Line.{Line as Payable}

@@ -20,10 +20,10 @@ use Rattle.put.specs.Digits.{digitsOf}
 use Rattle.put.proofs.Laws.{digits-length}
 use Rattle.reply.proofs.Digits.{code-bytes, digits-all, value-back}
 use Rattle.scan.specs.Scan.{begins, ten}
-use Rattle.scan.proofs.Standing.{All, valueOf}
+use Rattle.scan.specs.Spelling.{All, valueOf}
 use Rattle.values.specs.Values.{numbered}
-use Rattle.values.proofs.Grammar.{IsReference, IsNumeral, IsWord, IsBin, IsNumbers, IsDate, IsTime, IsAmount, IsLetters, IsCount}
-use Rattle.fields.proofs.Grammar.{Line}
+use Rattle.values.specs.Grammar.{IsReference, IsNumeral, IsWord, IsBin, IsNumbers, IsDate, IsTime, IsAmount, IsLetters, IsCount}
+use Rattle.fields.specs.Grammar.{Line}
 use Rattle.grammar.specs.Values.{Spells, SpellsFour, GivenReference, GivenFour, GivenBin, GivenLetters}
 use Rattle.grammar.proofs.Values.{bin-codes}
 use Rattle.administrator.specs.Orders.{fixed, widthOn, widthOf, blank, proper, nameText, fourText, numbersText, timeText, amountText, countText, valueText, lineText}

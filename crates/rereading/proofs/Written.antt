@@ -20,8 +20,8 @@ use Rattle.put.specs.Digits.{digitsOf}
 use Rattle.put.proofs.Laws.{digits-length}
 use Rattle.reply.proofs.Digits.{code-bytes, digits-all, value-back}
 use Rattle.scan.specs.Scan.{ten}
-use Rattle.scan.proofs.Standing.{All, valueOf}
-use Rattle.values.proofs.Grammar.{IsNumbers, IsTime, IsAmount, hundredthsIn, centsIn}
+use Rattle.scan.specs.Spelling.{All, valueOf}
+use Rattle.values.specs.Grammar.{IsNumbers, IsTime, IsAmount, hundredthsIn, centsIn}
 use Rattle.grammar.proofs.Values.{pack-below}
 use Rattle.administrator.specs.Orders.{held, fixed, widthOf, blank, proper, nameText, fourText, numbersText, timeText, amountText, countText}
 use Rattle.administrator.proofs.Widths.{width-fits}

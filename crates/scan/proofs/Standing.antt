@@ -17,16 +17,7 @@ use Rattle.scan.specs.declared.At.{At}
 use Rattle.scan.specs.declared.At.the-variants.{Next, No}
 use Rattle.scan.specs.declared.Fixed.the-variants.{Value, No as Unfit}
 use Rattle.scan.proofs.Laws.{lit-yes, end-past}
-
--- the bytes of a list are all of a class
-abbrev pub All : (ℕ → Bool) → List ℕ → Type 0
-All is [] = Unit {0}
-All is (x ∷ l) = (is x ≡ true) × All is l
-
--- the number v followed by the digits of a list
-abbrev pub valueOf : ℕ → List ℕ → ℕ
-valueOf v [] = v
-valueOf v (x ∷ l) = valueOf (v * 10 + digitValue x) l
+use Rattle.scan.specs.Spelling.{All, valueOf}
 
 begins-self : (p r : List ℕ) → begins p (p ++ r) ≡ true
 unfolding begins
