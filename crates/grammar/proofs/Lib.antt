@@ -1,4 +1,5 @@
 pub mod Meanings
 pub mod Payments
 pub mod Request
+pub mod Response
 pub mod Values

@@ -16,19 +16,22 @@ use Rattle.scan.specs.Scan.{onNext, crlf, litAt, codeAt, digitsAt, lineEndAt}
 use Rattle.scan.specs.declared.At.{At}
 use Rattle.scan.specs.declared.At.the-variants.{Next, No}
 use Rattle.scan.specs.declared.Cursor.{Cursor}
-use Rattle.scan.proofs.Standing.{valueOf, and-true}
+use Rattle.scan.specs.Spelling.{valueOf}
+use Rattle.scan.proofs.Standing.{and-true}
 use Rattle.values.specs.Values.{malformed, textOf, wordAt, numbered, countAt}
 use Rattle.values.specs.Letters.{isStatus, isFourth, judgedAt, lettersAt}
 use Rattle.values.specs.declared.Value.{Value}
 use Rattle.values.specs.declared.Value.the-variants.{Read, Unread}
-use Rattle.values.proofs.Grammar.{unread, centsIn, numeral-reads, numbers-read, date-reads, time-reads, amount-reads}
+use Rattle.values.specs.Grammar.{centsIn}
+use Rattle.values.proofs.Grammar.{unread, numeral-reads, numbers-read, date-reads, time-reads, amount-reads}
 use Rattle.fields.specs.Fields.{item, valueAt, fieldAt}
 use Rattle.fields.specs.declared.Item.{Item}
 use Rattle.fields.specs.declared.Field.the-variants.{Good}
 use Rattle.fields.specs.declared.Kind.{Kind}
 use Rattle.fields.specs.declared.Kind.the-variants.{Reference, Numeral, Word, Bin, Numbers, Date, Time, Side, Amount, Letters, Count}
 use Rattle.fields.proofs.Alike.{Fine}
-use Rattle.fields.proofs.Grammar.{Line, Spelt, line-complete, line-sound}
+use Rattle.fields.specs.Grammar.{Line, Spelt}
+use Rattle.fields.proofs.Grammar.{line-complete, line-sound}
 
 pub number-is : {v : Value} {x y d e : ℕ} → v ≡ Read x d → v ≡ Read y e → x ≡ y
 number-is p q = cc

@@ -1,7 +1,7 @@
--- The payments of a request as a grammar.
+-- The payments of a request: those of the grammar are read, and nothing else is.
 use Prim.Native.Nat.{ℕ, zero, suc, _+_, _≤_, _<_}
 use mathlib.Core.Path.{_≡_, refl, ap, sym, subst, _∙_}
-use mathlib.Core.List.{List, _++_}
+use mathlib.Core.List.{List, [], _++_}
 use mathlib.Core.Bool.{Bool, true, false, cond}
 use mathlib.Core.Logic.{_⊎_, inl, inr}
 use native.Mathlib.Omega.{arith}
@@ -16,10 +16,10 @@ use Rattle.scan.specs.declared.At.{At}
 use Rattle.scan.specs.declared.At.the-variants.{Next, No}
 use Rattle.scan.specs.declared.Cursor.{Cursor}
 use Rattle.scan.proofs.Standing.{past, lit-reads, lit-next}
-use Rattle.values.specs.Values.{sideAt}
+use Rattle.values.specs.Values.{textOf, sideAt}
 use Rattle.values.specs.declared.Value.{Value}
 use Rattle.values.specs.declared.Value.the-variants.{Read, Unread}
-use Rattle.values.proofs.Grammar.{IsSide, IsAmount, IsWord, IsLetters, centsIn}
+use Rattle.values.specs.Grammar.{IsSide, IsWord, centsIn}
 use Rattle.fields.specs.Fields.{absent, broken, wrong, item, place, onRead, onGood, valueAt, fieldAt}
 use Rattle.fields.specs.declared.Break.{Break}
 use Rattle.fields.specs.declared.Item.{Item}
@@ -27,7 +27,8 @@ use Rattle.fields.specs.declared.Field.{Field}
 use Rattle.fields.specs.declared.Field.the-variants.{Good, Bad}
 use Rattle.fields.specs.declared.Kind.{Kind}
 use Rattle.fields.specs.declared.Kind.the-variants.{Word, Side, Amount, Letters}
-use Rattle.fields.proofs.Grammar.{Line, line-complete, line-sound}
+use Rattle.fields.specs.Grammar.{Line}
+use Rattle.fields.proofs.Grammar.{line-complete}
 use Rattle.payments.specs.Payments.{nothing, none, payment, bankAt, creditAt, debitAt, paymentAt, moreAt, onPaid, ended, paymentsOn, paymentsAt}
 use Rattle.payments.specs.declared.Payment.{Payment}
 use Rattle.payments.specs.declared.Paid.{Paid}
@@ -36,33 +37,7 @@ use Rattle.payments.specs.declared.Ending.the-variants.{Done, Cut}
 use Rattle.payments.specs.declared.Payments.{Payments}
 use Rattle.grammar.proofs.Meanings.{number-is, LineRead, line-read}
 use Rattle.grammar.specs.Values.{noPayment}
-
--- "127, 32B, 113, 102: one payment .. 113 stands after DR and never after CR": l is a payment, and then r
-pub data PaymentText : List ℕ → List ℕ → Type 0 where
-  credit : {l m n r : List ℕ} → Line (bytes ":127:") (λ (v : List ℕ). v ≡ bytes "CR") l m → Line (bytes ":32B:") IsAmount m n → Line (bytes ":102:") (IsWord 4) n r → PaymentText l r
-  debit : {l m n o r : List ℕ} → Line (bytes ":127:") (λ (v : List ℕ). v ≡ bytes "DR") l m → Line (bytes ":32B:") IsAmount m n → Line (bytes ":113:") IsLetters n o → Line (bytes ":102:") (IsWord 4) o r → PaymentText l r
-
--- so many payments, one after the other
-pub data PaymentsText : ℕ → List ℕ → List ℕ → Type 0 where
-  none-left : {r : List ℕ} → PaymentsText 0 r r
-  one-more : {k : ℕ} {l m r : List ℕ} → PaymentText l m → PaymentsText k m r → PaymentsText (suc k) l r
-
--- the numbers of a payment: "127 is `CR` or `DR`", 0 and 1; a credit has no letters
-pub record PaymentIs (side cents letters bank : ℕ) (p : Payment) : Type 0 where
-  pub side-is : p .side .number ≡ side
-  pub cents-are : p .amount .number ≡ cents
-  pub letters-are : p .letters .number ≡ letters
-  pub bank-is : p .bank .number ≡ bank
-
--- what a payment says, by its text
-abbrev pub PaymentSays : {l r : List ℕ} → PaymentText l r → Payment → Type 0
-PaymentSays (credit g₁ g₂ g₃) p = PaymentIs 0 (centsIn (g₂ .is)) 0 (packed 4 (g₃ .value)) p
-PaymentSays (debit g₁ g₂ g₃ g₄) p = PaymentIs 1 (centsIn (g₂ .is)) (packed 4 (g₃ .value)) (packed 4 (g₄ .value)) p
-
--- and so many of them, which stand in a list from a place on
-abbrev pub PaymentsSay : {k : ℕ} {l r : List ℕ} → ℕ → PaymentsText k l r → List Payment → Type 0
-PaymentsSay n none-left items = Unit {0}
-PaymentsSay n (one-more p q) items = PaymentSays p (getD items n noPayment) × PaymentsSay (n + 1) q items
+use Rattle.grammar.specs.Text.{PaymentText, credit, debit, PaymentsText, none-left, one-more, PaymentIs, PartsAre, PaymentSays, PaymentParts, PaymentsSay, PaymentsParts}
 
 -- what a fixed string is not, from its first bytes
 pub not-there : (s : List ℕ) (at : ℕ) (p q r : List ℕ) → drop at s ≡ q ++ r → begins p (q ++ r) ≡ false → litAt s at p ≡ No
@@ -168,13 +143,14 @@ record BankStands (s : List ℕ) (at : ℕ) (side amount letters : Item) (p : Pa
   bank : Item
   is : p ≡ payment side amount letters bank
   number : bank .number ≡ packed 4 (line .value)
+  part : textOf s (bank .part) ≡ line .value
 
 bank-sound : (s : List ℕ) (at : ℕ) (side amount letters : Item) {p : Payment} {c : Cursor} → bankAt s at side amount letters ≡ One p c → BankStands s at side amount letters p c
 unfolding bankAt
 bank-sound s at side amount letters {p} {c} h = on-field s at (bytes ":102:") (Word 4) (λ bank d. One (payment side amount letters bank) d) h (λ i d q r.
     let z : d ≡ c = cc in
     let g = line-read s at (bytes ":102:") (Word 4) 0 (omega arith) (q ∙ ap (Good i) z) in
-    record { line = g .line; bank = i; is = cc; number = g .means refl })
+    record { line = g .line; bank = i; is = cc; number = g .means refl; part = g .text })
 
 no-field : {A : Type 0} {b : Break} {i : Item} {c : Cursor} → Bad b ≡ Good i c → A
 no-field h = let z : _≡_ {A = ℕ} 0 1 = cc in absurd (omega arith)
@@ -198,26 +174,45 @@ field-value s at tag k {i} {c} h = go₁ (litAt s at tag) refl h
     go₁ (Next a) l h = go₂ a l (valueAt s a k) refl h
     go₁ No l h = no-field h
 
--- which side it is, by its number
-abbrev Sided : List ℕ → ℕ → Item → Cursor → Type 0
-Sided s at i d = (Line (bytes ":127:") (λ (v : List ℕ). v ≡ bytes "CR") (drop at s) (drop (d .at) s) × (i .number ≡ 0)) ⊎ (Line (bytes ":127:") (λ (v : List ℕ). v ≡ bytes "DR") (drop at s) (drop (d .at) s) × (i .number ≡ 1))
-
-side-sound : (s : List ℕ) (at : ℕ) (i : Item) (d : Cursor) → fieldAt s at (bytes ":127:") Side ≡ Good i d → Sided s at i d
-side-sound s at i d q = go (g .is)
+-- which side a line says, with its number
+pub side-number : (s : List ℕ) (at : ℕ) {i : Item} {d : Cursor} → fieldAt s at (bytes ":127:") Side ≡ Good i d → (g : Line (bytes ":127:") IsSide (drop at s) (drop (d .at) s)) → ((g .value ≡ bytes "CR") × (i .number ≡ 0)) ⊎ ((g .value ≡ bytes "DR") × (i .number ≡ 1))
+side-number s at {i} {d} q g = go (g .is)
   where
-    g : Line (bytes ":127:") IsSide (drop at s) (drop (d .at) s)
-    g = line-sound s at (bytes ":127:") Side q
+    here : {w : List ℕ} → g .value ≡ w → drop (at + 5) s ≡ w ++ (crlf ++ drop (d .at) s)
+    here e = past s at (bytes ":127:") (g .value ++ (crlf ++ drop (d .at) s)) (g .text) ∙ ap (λ (l : List ℕ). l ++ (crlf ++ drop (d .at) s)) e
 
-    here : drop (at + 5) s ≡ g .value ++ (crlf ++ drop (d .at) s)
-    here = past s at (bytes ":127:") (g .value ++ (crlf ++ drop (d .at) s)) (g .text)
+    go : IsSide (g .value) → ((g .value ≡ bytes "CR") × (i .number ≡ 0)) ⊎ ((g .value ≡ bytes "DR") × (i .number ≡ 1))
+    go (inl e) = inl (e, number-is (field-value s at (bytes ":127:") Side q .0) (side-cr s (at + 5) (crlf ++ drop (d .at) s) (here e)))
+    go (inr e) = inr (e, number-is (field-value s at (bytes ":127:") Side q .0) (side-dr s (at + 5) (crlf ++ drop (d .at) s) (here e)))
 
-    go : IsSide (g .value) → Sided s at i d
-    go (inl e) = inl (record { value = g .value; text = g .text; is = e }, number-is (field-value s at (bytes ":127:") Side q .0) (side-cr s (at + 5) (crlf ++ drop (d .at) s) (here ∙ ap (λ (l : List ℕ). l ++ (crlf ++ drop (d .at) s)) e)))
-    go (inr e) = inr (record { value = g .value; text = g .text; is = e }, number-is (field-value s at (bytes ":127:") Side q .0) (side-dr s (at + 5) (crlf ++ drop (d .at) s) (here ∙ ap (λ (l : List ℕ). l ++ (crlf ++ drop (d .at) s)) e)))
+-- a line of just this side stands there, with its number, and its part is its value
+record Sided (s : List ℕ) (at : ℕ) (side : List ℕ) (n : ℕ) (i : Item) (d : Cursor) : Type 0 where
+  line : Line (bytes ":127:") (λ (v : List ℕ). v ≡ side) (drop at s) (drop (d .at) s)
+  number : i .number ≡ n
+  part : textOf s (i .part) ≡ line .value
+
+side-sound : (s : List ℕ) (at : ℕ) (i : Item) (d : Cursor) → fieldAt s at (bytes ":127:") Side ≡ Good i d → Sided s at (bytes "CR") 0 i d ⊎ Sided s at (bytes "DR") 1 i d
+side-sound s at i d q = go (side-number s at q (g .line))
+  where
+    g : LineRead s at (bytes ":127:") Side i d
+    g = line-read s at (bytes ":127:") Side 0 tt q
+
+    sided : (w : List ℕ) (n : ℕ) → (g .line .value ≡ w) × (i .number ≡ n) → Sided s at w n i d
+    sided w n e = record { line = record { value = g .line .value; text = g .line .text; is = e .0 }; number = e .1; part = g .text }
+
+    go : ((g .line .value ≡ bytes "CR") × (i .number ≡ 0)) ⊎ ((g .line .value ≡ bytes "DR") × (i .number ≡ 1)) → Sided s at (bytes "CR") 0 i d ⊎ Sided s at (bytes "DR") 1 i d
+    go (inl e) = inl (sided (bytes "CR") 0 e)
+    go (inr e) = inr (sided (bytes "DR") 1 e)
+
+-- a field that is missing has an empty part
+pub no-text : (s : List ℕ) → textOf s (nothing .part) ≡ []
+unfolding textOf
+no-text s = refl
 
 record PaymentStands (s : List ℕ) (at : ℕ) (p : Payment) (c : Cursor) : Type 0 where
   text : PaymentText (drop at s) (drop (c .at) s)
   says : PaymentSays text p
+  parts : PaymentParts s text p
 
 payment-sound : (s : List ℕ) (at : ℕ) {p : Payment} {c : Cursor} → paymentAt s at ≡ One p c → PaymentStands s at p c
 unfolding paymentAt creditAt debitAt
@@ -228,21 +223,23 @@ payment-sound s at {p} {c} h = on-field s at (bytes ":127:") Side _ h (λ i d q�
     no-letters i m e No h = bank-sound s (e .at) i m nothing h
     no-letters i m e (Next a) h = unpaid h
 
-    go : (i : Item) (d : Cursor) (m : Item) (e : Cursor) → Sided s at i d → LineRead s (d .at) (bytes ":32B:") Amount m e → (b : Bool) → eqb (i .number) 0 ≡ b → cond b (onNext (litAt s (e .at) (bytes ":113:")) (bankAt s (e .at) i m nothing) (λ a. Unpaid (wrong (e .at)))) (onGood (fieldAt s (e .at) (bytes ":113:") Letters) Unpaid (λ letters f. bankAt s (f .at) i m letters)) ≡ One p c → PaymentStands s at p c
+    go : (i : Item) (d : Cursor) (m : Item) (e : Cursor) → Sided s at (bytes "CR") 0 i d ⊎ Sided s at (bytes "DR") 1 i d → LineRead s (d .at) (bytes ":32B:") Amount m e → (b : Bool) → eqb (i .number) 0 ≡ b → cond b (onNext (litAt s (e .at) (bytes ":113:")) (bankAt s (e .at) i m nothing) (λ a. Unpaid (wrong (e .at)))) (onGood (fieldAt s (e .at) (bytes ":113:") Letters) Unpaid (λ letters f. bankAt s (f .at) i m letters)) ≡ One p c → PaymentStands s at p c
     go i d m e (inl g) a true b h =
         let k = no-letters i m e (litAt s (e .at) (bytes ":113:")) h in
         record {
-          text = credit (g .0) (a .line) (k .line);
-          says = subst (PaymentIs 0 (centsIn (a .line .is)) 0 (packed 4 (k .line .value))) (sym (k .is)) (record { side-is = g .1; cents-are = a .means; letters-are = refl; bank-is = k .number });
+          text = credit (g .line) (a .line) (k .line);
+          says = subst (PaymentIs 0 (centsIn (a .line .is)) 0 (packed 4 (k .line .value))) (sym (k .is)) (record { side-is = g .number; cents-are = a .means; letters-are = refl; bank-is = k .number });
+          parts = subst (PartsAre s (g .line .value) (a .line .value) [] (k .line .value)) (sym (k .is)) (record { side-part = g .part; amount-part = a .text; letters-part = no-text s; bank-part = k .part });
         }
-    go i d m e (inl g) a false b h = absurd (eqb-false (i .number) 0 b (g .1))
-    go i d m e (inr g) a true b h = absurd (omega (arith, eqb-true (i .number) 0 b, g .1))
+    go i d m e (inl g) a false b h = absurd (eqb-false (i .number) 0 b (g .number))
+    go i d m e (inr g) a true b h = absurd (omega (arith, eqb-true (i .number) 0 b, g .number))
     go i d m e (inr g) a false b h = on-field s (e .at) (bytes ":113:") Letters _ h (λ j f q r.
         let w = line-read s (e .at) (bytes ":113:") Letters 0 tt q in
         let k = bank-sound s (f .at) i m j r in
         record {
-          text = debit (g .0) (a .line) (w .line) (k .line);
-          says = subst (PaymentIs 1 (centsIn (a .line .is)) (packed 4 (w .line .value)) (packed 4 (k .line .value))) (sym (k .is)) (record { side-is = g .1; cents-are = a .means; letters-are = w .means; bank-is = k .number });
+          text = debit (g .line) (a .line) (w .line) (k .line);
+          says = subst (PaymentIs 1 (centsIn (a .line .is)) (packed 4 (w .line .value)) (packed 4 (k .line .value))) (sym (k .is)) (record { side-is = g .number; cents-are = a .means; letters-are = w .means; bank-is = k .number });
+          parts = subst (PartsAre s (g .line .value) (a .line .value) (w .line .value) (k .line .value)) (sym (k .is)) (record { side-part = g .part; amount-part = a .text; letters-part = w .text; bank-part = k .part });
         })
 
 -- so many payments were read, and stand in the list from the n-th place on; those before it are as they were
@@ -253,6 +250,7 @@ pub record ReadOff (x : Payments) (s : List ℕ) (at n room : ℕ) (items : List
   pub count : x .n ≡ n + many
   pub text : PaymentsText many (drop at s) (drop (d .at) s)
   pub says : PaymentsSay n text (x .items)
+  pub parts : PaymentsParts s n text (x .items)
   pub size : length (x .items) ≡ length items
   pub kept : (j : ℕ) → j < n → getD (x .items) j noPayment ≡ getD items j noPayment
 
@@ -270,7 +268,7 @@ on-sound : (s : List ℕ) (room at n : ℕ) (items : List Payment) (d : Cursor) 
 unfolding paymentsOn
 on-sound s zero at n items d fit h =
     let z : place at ≡ d = cc in
-    rw (← z) (record { many = 0; most = omega arith; least = λ z. z; count = omega arith; text = none-left; says = tt; size = refl; kept = λ j k. refl })
+    rw (← z) (record { many = 0; most = omega arith; least = λ z. z; count = omega arith; text = none-left; says = tt; parts = tt; size = refl; kept = λ j k. refl })
 on-sound s (suc room) at n items d fit h = paid (paymentAt s at) refl h (λ c p. on-sound s room (c .at) (n + 1) (set items n p) d (rw length-set (omega arith)))
   where
     more : (b : Bool) (p : Payment) (c : Cursor) → PaymentStands s at p c → (paymentsOn room s (c .at) (n + 1) (set items n p) .ending ≡ Done d → ReadOff (paymentsOn room s (c .at) (n + 1) (set items n p)) s (c .at) (n + 1) room (set items n p) d) → onward s room n items b p c .ending ≡ Done d → ReadOff (onward s room n items b p c) s at n (suc room) items d
@@ -284,6 +282,7 @@ on-sound s (suc room) at n items d fit h = paid (paymentAt s at) refl h (λ c p.
           count = i .count ∙ omega arith;
           text = one-more (g .text) (i .text);
           says = (subst (PaymentSays (g .text)) (sym (k .0)) (g .says), i .says);
+          parts = (subst (PaymentParts s (g .text)) (sym (k .0)) (g .parts), i .parts);
           size = i .size ∙ length-set items n p;
           kept = k .1;
         }
@@ -297,6 +296,7 @@ on-sound s (suc room) at n items d fit h = paid (paymentAt s at) refl h (λ c p.
           count = refl;
           text = one-more (g .text) none-left;
           says = (subst (PaymentSays (g .text)) (sym (k .0)) (g .says), tt);
+          parts = (subst (PaymentParts s (g .text)) (sym (k .0)) (g .parts), tt);
           size = length-set items n p;
           kept = k .1;
         })

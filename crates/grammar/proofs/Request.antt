@@ -1,4 +1,4 @@
--- The grammar of a request: "The text has every field once, in this order, and nothing else".
+-- A text of the grammar is accepted, what is accepted is such a text, and what the reading then says of it.
 use Prim.Native.Nat.{ℕ, zero, suc, _+_, _*_, _/_, _%_, _≤_}
 use mathlib.Core.Path.{_≡_, refl, ap, sym, subst, _∙_}
 use mathlib.Core.List.{List, [], _∷_, _++_}
@@ -15,10 +15,12 @@ use Rattle.scan.specs.Scan.{onNext, crlf, begins, litAt}
 use Rattle.scan.specs.declared.At.{At}
 use Rattle.scan.specs.declared.At.the-variants.{Next, No}
 use Rattle.scan.specs.declared.Cursor.{Cursor}
-use Rattle.scan.proofs.Standing.{valueOf, lit-reads}
+use Rattle.scan.specs.Spelling.{valueOf}
+use Rattle.scan.proofs.Standing.{lit-reads}
 use Rattle.values.specs.Values.{textOf}
 use Rattle.values.specs.declared.Part.{Part}
-use Rattle.values.proofs.Grammar.{IsReference, IsNumeral, IsWord, IsBin, IsNumbers, IsDate, IsTime, IsCount, numeral-reads}
+use Rattle.values.specs.Grammar.{IsNumeral, IsWord, IsBin, IsNumbers, IsDate, IsTime, IsCount}
+use Rattle.values.proofs.Grammar.{numeral-reads}
 use Rattle.fields.specs.Fields.{absent, broken, item, place, onGood, fieldAt}
 use Rattle.fields.specs.declared.Break.{Break}
 use Rattle.fields.specs.declared.Item.{Item}
@@ -26,7 +28,8 @@ use Rattle.fields.specs.declared.Field.{Field}
 use Rattle.fields.specs.declared.Field.the-variants.{Good, Bad}
 use Rattle.fields.specs.declared.Kind.{Kind}
 use Rattle.fields.specs.declared.Kind.the-variants.{Reference, Numeral, Word, Bin, Numbers, Date, Time, Count}
-use Rattle.fields.proofs.Grammar.{Line, Spelt, line-complete, line-sound}
+use Rattle.fields.specs.Grammar.{Line, Spelt}
+use Rattle.fields.proofs.Grammar.{line-complete, line-sound}
 use Rattle.terms.specs.Terms.{noPart, activationAt, onGiven, onWhole, terms, termsAt}
 use Rattle.terms.specs.declared.Terms.{Terms}
 use Rattle.terms.specs.declared.Activation.{Activation}
@@ -48,75 +51,8 @@ use Rattle.request.specs.declared.Outcome.{Outcome}
 use Rattle.request.specs.declared.Outcome.the-variants.{Settlement, Recall, Refused}
 use Rattle.request.specs.declared.Reading.{Reading}
 use Rattle.grammar.proofs.Meanings.{number-is, part-is, numbered-range, line-read}
-use Rattle.grammar.proofs.Payments.{PaymentText, credit, debit, PaymentsText, none-left, one-more, PaymentsSay, payments-complete, payments-sound}
-
--- the lines 20 to 119 of a sub type, and then r
-pub record HeadText (kind : ℕ) (s r : List ℕ) : Type 0 where
-  pub r₁ : List ℕ
-  pub r₂ : List ℕ
-  pub r₃ : List ℕ
-  pub r₄ : List ℕ
-  pub reference : Line (bytes ":20:") IsReference s r₁
-  pub three-digits : Line (bytes ":12:") (λ (v : List ℕ). IsNumeral 3 v × (valueOf 0 v ≡ kind)) r₁ r₂
-  pub empty : Line (bytes ":77E:") (IsWord 0) r₂ r₃
-  pub stream : Line (bytes ":22A:") (IsWord 4) r₃ r₄
-  pub bin : Line (bytes ":119:") (IsBin (stream .value)) r₄ r
-
--- "A recall ends after 119."
-abbrev pub RecallText : List ℕ → Type 0
-RecallText s = HeadText 133 s []
-
--- what follows 119 in a settlement request
-pub record BodyText (l : List ℕ) : Type 0 where
-  pub r₂ : List ℕ
-  pub r₃ : List ℕ
-  pub r₄ : List ℕ
-  pub r₅ : List ℕ
-  pub numbers : Line (bytes ":16A:") IsNumbers l r₂
-  pub date : Line (bytes ":171:") IsDate r₂ r₃
-  pub activation : (r₃ ≡ r₄) ⊎ Line (bytes ":175:") IsTime r₃ r₄
-  pub many : ℕ
-  pub least : 1 ≤ many
-  pub most : many ≤ 10
-  pub payments : PaymentsText many r₄ r₅
-  pub count : Line (bytes ":203:") (IsCount many) r₅ []
-
-pub record SettlementText (s : List ℕ) : Type 0 where
-  pub rest : List ℕ
-  pub head : HeadText 131 s rest
-  pub body : BodyText rest
-
--- what the head says, by its lines
-pub record HeadSays (kind : ℕ) (s r : List ℕ) (h : Head) : Type 0 where
-  pub text : HeadText kind s r
-  pub reference : h .reference .code ≡ longOf (text .reference .value)
-  pub subtype : h .subtype .number ≡ kind
-  pub stream : h .address .stream .number ≡ packed 4 (text .stream .value)
-  pub bin : h .address .bin .code ≡ longOf (text .bin .value)
-
--- "the line may be missing"
-abbrev pub ActivationSays : {l r : List ℕ} → ((l ≡ r) ⊎ Line (bytes ":175:") IsTime l r) → Activation → Type 0
-ActivationSays (inl e) m = m ≡ AtOnce
-ActivationSays (inr g) m = m ≡ Minute (g .is .minute)
-
--- what the lines after 119 say
-pub record BodySays (l : List ℕ) (r : Reading) : Type 0 where
-  pub text : BodyText l
-  pub number : r .terms .number ≡ valueOf 0 (text .numbers .is .number)
-  pub count : r .terms .count ≡ valueOf 0 (text .numbers .is .count)
-  pub date : r .terms .date .number ≡ text .date .is .day
-  pub activation : ActivationSays (text .activation) (r .terms .activation)
-  pub n : r .n ≡ text .many
-  pub size : length (r .payments) ≡ 10
-  pub payments : PaymentsSay 0 (text .payments) (r .payments)
-
-pub record SettlementSays (s : List ℕ) (r : Reading) : Type 0 where
-  pub rest : List ℕ
-  pub head : HeadSays 131 s rest (r .head)
-  pub body : BodySays rest r
-
-abbrev pub RecallSays : List ℕ → Reading → Type 0
-RecallSays s r = HeadSays 133 s [] (r .head)
+use Rattle.grammar.proofs.Payments.{payments-complete, no-text, payments-sound}
+use Rattle.grammar.specs.Text.{HeadText, RecallText, PaymentText, credit, debit, PaymentsText, none-left, one-more, BodyText, SettlementText, HeadSays, ActivationSays, ActivationPart, BodySays, BodyParts, SettlementSays, RecallSays}
 
 -- complete: the head
 pub record HeadRead (kind : ℕ) (s r : List ℕ) : Type 0 where
@@ -223,7 +159,7 @@ recall-complete s g =
 unaddressed : {A : Type 0} {b : Break} {x a : Address} {c : Cursor} → Lost b x ≡ To a c → A
 unaddressed h = let z : _≡_ {A = ℕ} 0 1 = cc in absurd (omega arith)
 
-record AddressStands (l r : List ℕ) (a : Address) : Type 0 where
+record AddressStands (s l r : List ℕ) (a : Address) : Type 0 where
   r₃ : List ℕ
   r₄ : List ℕ
   empty : Line (bytes ":77E:") (IsWord 0) l r₃
@@ -231,11 +167,17 @@ record AddressStands (l r : List ℕ) (a : Address) : Type 0 where
   bin : Line (bytes ":119:") (IsBin (stream .value)) r₄ r
   stream-is : a .stream .number ≡ packed 4 (stream .value)
   bin-is : a .bin .code ≡ longOf (bin .value)
+  stream-part : textOf s (a .stream .part) ≡ stream .value
+  bin-part : textOf s (a .bin .part) ≡ bin .value
 
 -- the code of a name is that of its value
 code-is : (s : List ℕ) (p : Part) (v : List ℕ) → textOf s p ≡ v → namedAt s p .code ≡ longOf v
 unfolding namedAt longAt textOf
 code-is s p v h = ap longOf h
+
+named-part : (s : List ℕ) (p : Part) (v : List ℕ) → textOf s p ≡ v → textOf s (namedAt s p .part) ≡ v
+unfolding namedAt
+named-part s p v h = h
 
 on-address : {A : Type 0} (s : List ℕ) (at : ℕ) (tag : List ℕ) (k : Kind) (x : Address) (f : Item → Cursor → Addressed) {a : Address} {c : Cursor} → onGood (fieldAt s at tag k) (λ b. Lost b x) f ≡ To a c → ((i : Item) (d : Cursor) → fieldAt s at tag k ≡ Good i d → f i d ≡ To a c → A) → A
 on-address {A} s at tag k x f {a} {c} h g = go (fieldAt s at tag k) refl h
@@ -244,7 +186,7 @@ on-address {A} s at tag k x f {a} {c} h g = go (fieldAt s at tag k) refl h
     go (Good i d) q h = g i d q h
     go (Bad b) q h = unaddressed h
 
-address-sound : (s : List ℕ) (at : ℕ) {a : Address} {c : Cursor} → addressAt s at ≡ To a c → AddressStands (drop at s) (drop (c .at) s) a
+address-sound : (s : List ℕ) (at : ℕ) {a : Address} {c : Cursor} → addressAt s at ≡ To a c → AddressStands s (drop at s) (drop (c .at) s) a
 unfolding addressAt
 address-sound s at {a} {c} h = on-address s at (bytes ":77E:") (Word 0) nowhere _ h (λ i d q₁ r₁.
     on-address s (d .at) (bytes ":22A:") (Word 4) nowhere _ r₁ (λ j e q₂ r₂.
@@ -262,32 +204,39 @@ address-sound s at {a} {c} h = on-address s at (bytes ":77E:") (Word 0) nowhere 
       bin = record { value = g₃ .line .value; text = g₃ .line .text; is = subst (λ (w : List ℕ). IsBin w (g₃ .line .value)) (g₂ .text) (g₃ .line .is) };
       stream-is = ap (λ (x : Address). x .stream .number) y ∙ g₂ .means refl;
       bin-is = ap (λ (x : Address). x .bin .code) y ∙ code-is s (k .part) (g₃ .line .value) (g₃ .text);
+      stream-part = ap (λ (x : Address). textOf s (x .stream .part)) y ∙ g₂ .text;
+      bin-part = ap (λ (x : Address). textOf s (x .bin .part)) y ∙ named-part s (k .part) (g₃ .line .value) (g₃ .text);
     })))
 
 ungiven : {A : Type 0} {b : Break} {m : Activation} {p : Part} {c : Cursor} → Ungiven b ≡ Given m p c → A
 ungiven h = let z : _≡_ {A = ℕ} 0 1 = cc in absurd (omega arith)
 
-record ActivationStands (l r : List ℕ) (m : Activation) : Type 0 where
+record ActivationStands (s l r : List ℕ) (m : Activation) (p : Part) : Type 0 where
   text : (l ≡ r) ⊎ Line (bytes ":175:") IsTime l r
   says : ActivationSays text m
+  part : ActivationPart s text p
 
-activation-sound : (s : List ℕ) (at : ℕ) {m : Activation} {p : Part} {c : Cursor} → activationAt s at ≡ Given m p c → ActivationStands (drop at s) (drop (c .at) s) m
+activation-sound : (s : List ℕ) (at : ℕ) {m : Activation} {p : Part} {c : Cursor} → activationAt s at ≡ Given m p c → ActivationStands s (drop at s) (drop (c .at) s) m p
 unfolding activationAt
 activation-sound s at {m} {p} {c} h = go (litAt s at (bytes ":175:")) h
   where
-    timed : (x : Field) → fieldAt s at (bytes ":175:") Time ≡ x → onGood x Ungiven (λ i d. Given (Minute (i .number)) (i .part) d) ≡ Given m p c → ActivationStands (drop at s) (drop (c .at) s) m
+    timed : (x : Field) → fieldAt s at (bytes ":175:") Time ≡ x → onGood x Ungiven (λ i d. Given (Minute (i .number)) (i .part) d) ≡ Given m p c → ActivationStands s (drop at s) (drop (c .at) s) m p
     timed (Good i d) q h =
         let z : d ≡ c = cc in
         let y : m ≡ Minute (i .number) = cc in
+        let w : p ≡ i .part = cc in
         let g = line-read s at (bytes ":175:") Time 0 tt (q ∙ ap (Good i) z) in
-        record { text = inr (g .line); says = y ∙ ap Minute (g .means) }
+        record { text = inr (g .line); says = y ∙ ap Minute (g .means); part = ap (textOf s) w ∙ g .text }
     timed (Bad b) q h = ungiven h
 
-    go : (r : At) → onNext r (Given AtOnce noPart (place at)) (λ a. onGood (fieldAt s at (bytes ":175:") Time) Ungiven (λ i d. Given (Minute (i .number)) (i .part) d)) ≡ Given m p c → ActivationStands (drop at s) (drop (c .at) s) m
-    go No h = let z : place at ≡ c = cc in record { text = inl (ap (λ (k : Cursor). drop (k .at) s) z); says = cc }
+    go : (r : At) → onNext r (Given AtOnce noPart (place at)) (λ a. onGood (fieldAt s at (bytes ":175:") Time) Ungiven (λ i d. Given (Minute (i .number)) (i .part) d)) ≡ Given m p c → ActivationStands s (drop at s) (drop (c .at) s) m p
+    go No h =
+        let z : place at ≡ c = cc in
+        let w : p ≡ noPart = cc in
+        record { text = inl (ap (λ (k : Cursor). drop (k .at) s) z); says = cc; part = ap (textOf s) w ∙ no-text s }
     go (Next a) h = timed (fieldAt s at (bytes ":175:") Time) refl h
 
-record TermsStand (l r : List ℕ) (t : Terms) : Type 0 where
+record TermsStand (s l r : List ℕ) (t : Terms) : Type 0 where
   r₂ : List ℕ
   r₃ : List ℕ
   numbers : Line (bytes ":16A:") IsNumbers l r₂
@@ -297,6 +246,9 @@ record TermsStand (l r : List ℕ) (t : Terms) : Type 0 where
   count-is : t .count ≡ valueOf 0 (numbers .is .count)
   date-is : t .date .number ≡ date .is .day
   activation-is : ActivationSays activation (t .activation)
+  numbers-part : textOf s (t .numbers) ≡ numbers .value
+  date-part : textOf s (t .date .part) ≡ date .value
+  activation-part : ActivationPart s activation (t .activated)
 
 partial : {A : Type 0} {b : Break} {t : Terms} {c : Cursor} → Partial b ≡ Whole t c → A
 partial h = let z : _≡_ {A = ℕ} 0 1 = cc in absurd (omega arith)
@@ -305,11 +257,11 @@ partial h = let z : _≡_ {A = ℕ} 0 1 = cc in absurd (omega arith)
 parts : (x n m : ℕ) → x ≡ n * 100 + m → m ≤ 10 → (x / 100 ≡ n) × (x % 100 ≡ m)
 parts x n m h k = (omega arith, omega arith)
 
-terms-sound : (s : List ℕ) (at : ℕ) {t : Terms} {c : Cursor} → termsAt s at ≡ Whole t c → TermsStand (drop at s) (drop (c .at) s) t
+terms-sound : (s : List ℕ) (at : ℕ) {t : Terms} {c : Cursor} → termsAt s at ≡ Whole t c → TermsStand s (drop at s) (drop (c .at) s) t
 unfolding termsAt
 terms-sound s at {t} {c} h = go₁ (fieldAt s at (bytes ":16A:") Numbers) refl h
   where
-    go₃ : (i j : Item) (d e : Cursor) → fieldAt s at (bytes ":16A:") Numbers ≡ Good i d → fieldAt s (d .at) (bytes ":171:") Date ≡ Good j e → (x : Activated) → activationAt s (e .at) ≡ x → onGiven x Partial (λ m p f. Whole (terms i j m p) f) ≡ Whole t c → TermsStand (drop at s) (drop (c .at) s) t
+    go₃ : (i j : Item) (d e : Cursor) → fieldAt s at (bytes ":16A:") Numbers ≡ Good i d → fieldAt s (d .at) (bytes ":171:") Date ≡ Good j e → (x : Activated) → activationAt s (e .at) ≡ x → onGiven x Partial (λ m p f. Whole (terms i j m p) f) ≡ Whole t c → TermsStand s (drop at s) (drop (c .at) s) t
     go₃ i j d e q₁ q₂ (Given m p f) q₃ h =
         let z : f ≡ c = cc in
         let y : t ≡ terms i j m p = cc in
@@ -327,14 +279,17 @@ terms-sound s at {t} {c} h = go₁ (fieldAt s at (bytes ":16A:") Numbers) refl h
           count-is = ap (λ (u : Terms). u .count) y ∙ w .1;
           date-is = ap (λ (u : Terms). u .date .number) y ∙ b .means;
           activation-is = subst (λ (u : Terms). ActivationSays (k .text) (u .activation)) (sym y) (k .says);
+          numbers-part = ap (λ (u : Terms). textOf s (u .numbers)) y ∙ a .text;
+          date-part = ap (λ (u : Terms). textOf s (u .date .part)) y ∙ b .text;
+          activation-part = subst (λ (u : Terms). ActivationPart s (k .text) (u .activated)) (sym y) (k .part);
         }
     go₃ i j d e q₁ q₂ (Ungiven b) q₃ h = partial h
 
-    go₂ : (i : Item) (d : Cursor) → fieldAt s at (bytes ":16A:") Numbers ≡ Good i d → (x : Field) → fieldAt s (d .at) (bytes ":171:") Date ≡ x → onGood x Partial (λ j e. onGiven (activationAt s (e .at)) Partial (λ m p f. Whole (terms i j m p) f)) ≡ Whole t c → TermsStand (drop at s) (drop (c .at) s) t
+    go₂ : (i : Item) (d : Cursor) → fieldAt s at (bytes ":16A:") Numbers ≡ Good i d → (x : Field) → fieldAt s (d .at) (bytes ":171:") Date ≡ x → onGood x Partial (λ j e. onGiven (activationAt s (e .at)) Partial (λ m p f. Whole (terms i j m p) f)) ≡ Whole t c → TermsStand s (drop at s) (drop (c .at) s) t
     go₂ i d q₁ (Good j e) q₂ h = go₃ i j d e q₁ q₂ (activationAt s (e .at)) refl h
     go₂ i d q₁ (Bad b) q₂ h = partial h
 
-    go₁ : (x : Field) → fieldAt s at (bytes ":16A:") Numbers ≡ x → onGood x Partial (λ i d. onGood (fieldAt s (d .at) (bytes ":171:") Date) Partial (λ j e. onGiven (activationAt s (e .at)) Partial (λ m p f. Whole (terms i j m p) f))) ≡ Whole t c → TermsStand (drop at s) (drop (c .at) s) t
+    go₁ : (x : Field) → fieldAt s at (bytes ":16A:") Numbers ≡ x → onGood x Partial (λ i d. onGood (fieldAt s (d .at) (bytes ":171:") Date) Partial (λ j e. onGiven (activationAt s (e .at)) Partial (λ m p f. Whole (terms i j m p) f))) ≡ Whole t c → TermsStand s (drop at s) (drop (c .at) s) t
     go₁ (Good i d) q₁ h = go₂ i d q₁ (fieldAt s (d .at) (bytes ":171:") Date) refl h
     go₁ (Bad b) q₁ h = partial h
 
@@ -396,6 +351,10 @@ module _ (o : Outcome) (ok : (b : Break) → Refused b ≡ o → ⊥) where
               subtype = refl;
               stream = g₃ .stream-is;
               bin = g₃ .bin-is;
+              reference-part = named-part s (i .part) (g₁ .line .value) (g₁ .text);
+              subtype-part = g₂ .text;
+              stream-part = g₃ .stream-part;
+              bin-part = g₃ .bin-part;
             };
             same = simp (q₁, q₂, m, q₃);
             is = h;
@@ -406,16 +365,17 @@ module _ (o : Outcome) (ok : (b : Break) → Refused b ≡ o → ⊥) where
       typed i c t d q₁ q₂ false m h = absurd (ok (broken (c .at) OtherSubType) h)
 
   -- what follows 119
-  record BodyStands (l : List ℕ) (x : Head) (r : Reading) : Type 0 where
+  record BodyStands (s l : List ℕ) (x : Head) (r : Reading) : Type 0 where
     settles : Settlement ≡ o
     of : r .head ≡ x
     says : BodySays l r
+    parts : BodyParts s (says .text) r
 
-  body-sound : (s : List ℕ) (at : ℕ) (x : Head) → settlementAt s at x .outcome ≡ o → BodyStands (drop at s) x (settlementAt s at x)
+  body-sound : (s : List ℕ) (at : ℕ) (x : Head) → settlementAt s at x .outcome ≡ o → BodyStands s (drop at s) x (settlementAt s at x)
   unfolding settlementAt
   body-sound s at x h = go₁ (termsAt s at) refl h
     where
-      go₂ : (u : Terms) (c : Cursor) → termsAt s at ≡ Whole u c → (e : Ending) → paymentsAt s (c .at) .ending ≡ e → onDone e (λ b. refusal b (x .address)) (λ d. onGood (fieldAt s (d .at) (bytes ":203:") (Count (paymentsAt s (c .at) .n))) (λ b. refusal b (x .address)) (λ count f. ending s (f .at) (x .address) (settlement x u (paymentsAt s (c .at)) count))) .outcome ≡ o → BodyStands (drop at s) x (settlementAt s at x)
+      go₂ : (u : Terms) (c : Cursor) → termsAt s at ≡ Whole u c → (e : Ending) → paymentsAt s (c .at) .ending ≡ e → onDone e (λ b. refusal b (x .address)) (λ d. onGood (fieldAt s (d .at) (bytes ":203:") (Count (paymentsAt s (c .at) .n))) (λ b. refusal b (x .address)) (λ count f. ending s (f .at) (x .address) (settlement x u (paymentsAt s (c .at)) count))) .outcome ≡ o → BodyStands s (drop at s) x (settlementAt s at x)
       go₂ u c q (Cut b) p h = absurd (ok b h)
       go₂ u c q (Done d) p h = on-reading s (d .at) (bytes ":203:") (Count (paymentsAt s (c .at) .n)) (x .address) _ h (λ i f q₃ r.
           on-ending s (f .at) (x .address) (settlement x u (paymentsAt s (c .at)) i) r (λ at-end last.
@@ -424,8 +384,9 @@ module _ (o : Outcome) (ok : (b : Break) → Refused b ≡ o → ⊥) where
           let g = terms-sound s at q in
           let w = payments-sound s (c .at) d p in
           let n : paymentsAt s (c .at) .n ≡ w .many = w .count ∙ omega arith in
-          let k = line-sound s (d .at) (bytes ":203:") (Count (paymentsAt s (c .at) .n)) q₃ in
-          subst (λ (y : Reading). BodyStands (drop at s) x y) (sym same) (record {
+          let v = line-read s (d .at) (bytes ":203:") (Count (paymentsAt s (c .at) .n)) 0 tt q₃ in
+          let k = v .line in
+          subst (λ (y : Reading). BodyStands s (drop at s) x y) (sym same) (record {
             settles = last;
             of = refl;
             says = record {
@@ -451,9 +412,10 @@ module _ (o : Outcome) (ok : (b : Break) → Refused b ≡ o → ⊥) where
               size = w .size;
               payments = w .says;
             };
+            parts = record { numbers = g .numbers-part; date = g .date-part; activation = g .activation-part; payments = w .parts; count = v .text };
           })))
 
-      go₁ : (t : Stated) → termsAt s at ≡ t → onWhole t (λ b. refusal b (x .address)) (λ u c. onDone (paymentsAt s (c .at) .ending) (λ b. refusal b (x .address)) (λ d. onGood (fieldAt s (d .at) (bytes ":203:") (Count (paymentsAt s (c .at) .n))) (λ b. refusal b (x .address)) (λ count f. ending s (f .at) (x .address) (settlement x u (paymentsAt s (c .at)) count)))) .outcome ≡ o → BodyStands (drop at s) x (settlementAt s at x)
+      go₁ : (t : Stated) → termsAt s at ≡ t → onWhole t (λ b. refusal b (x .address)) (λ u c. onDone (paymentsAt s (c .at) .ending) (λ b. refusal b (x .address)) (λ d. onGood (fieldAt s (d .at) (bytes ":203:") (Count (paymentsAt s (c .at) .n))) (λ b. refusal b (x .address)) (λ count f. ending s (f .at) (x .address) (settlement x u (paymentsAt s (c .at)) count)))) .outcome ≡ o → BodyStands s (drop at s) x (settlementAt s at x)
       go₁ (Whole u c) q h = go₂ u c q (paymentsAt s (c .at) .ending) refl h
       go₁ (Partial b) q h = absurd (ok b h)
 
@@ -484,12 +446,13 @@ settlement-says s h = go (eqb (g .kind) 131) refl (g .same) (g .is)
     go : (b : Bool) → eqb (g .kind) 131 ≡ b → requestAt s ≡ cond b (settlementAt s (g .next) (g .of)) (recallAt s (g .next) (g .of)) → cond b (settlementAt s (g .next) (g .of)) (recallAt s (g .next) (g .of)) .outcome ≡ Settlement → SettlementSays s (requestAt s)
     go true e same h =
         let z = eqb-true (g .kind) 131 e in
-        let k = body-sound Settlement settles-not s (g .next) (g .of) h in
-        let y : requestAt s .head ≡ g .of = ap (λ (x : Reading). x .head) same ∙ k .of in
+        let k = subst (BodyStands Settlement settles-not s (drop (g .next) s) (g .of)) (sym same) (body-sound Settlement settles-not s (g .next) (g .of) h) in
+        let y : requestAt s .head ≡ g .of = k .of in
         record {
           rest = drop (g .next) s;
           head = subst (λ (x : Head). HeadSays 131 s (drop (g .next) s) x) (sym y) (subst (λ (n : ℕ). HeadSays n s (drop (g .next) s) (g .of)) z (g .says));
-          body = subst (λ (x : Reading). BodySays (drop (g .next) s) x) (sym same) (k .says);
+          body = k .says;
+          parts = k .parts;
         }
     go false e same h =
         let p = recall-ends Settlement settles-not s (g .next) (g .of) h .recalls in

@@ -20,10 +20,10 @@ use Rattle.dates.proofs.Laws.{day-back}
 use Rattle.reply.proofs.Digits.{all-append, value-small, digits-codes, code-bytes, code-no-zero}
 use Rattle.scan.specs.Scan.{ten}
 use Rattle.scan.proofs.Laws.{ten-mono}
-use Rattle.scan.proofs.Standing.{All, valueOf}
+use Rattle.scan.specs.Spelling.{All, valueOf}
 use Rattle.values.specs.Letters.{isStatus, isFourth}
-use Rattle.values.proofs.Grammar.{IsWord, IsBin, IsTime, IsAmount, IsLetters, hundredthsIn, centsIn}
-use Rattle.fields.proofs.Grammar.{Line}
+use Rattle.values.specs.Grammar.{IsWord, IsBin, IsTime, IsAmount, IsLetters, hundredthsIn, centsIn}
+use Rattle.fields.specs.Grammar.{Line}
 use Rattle.terms.specs.declared.Activation.{Activation}
 use Rattle.payments.specs.declared.Payment.{Payment}
 use Rattle.request.specs.Request.{requestAt}
@@ -32,8 +32,8 @@ use Rattle.request.specs.declared.Outcome.the-variants.{Settlement, Recall}
 use Rattle.request.specs.declared.Reading.{Reading}
 use Rattle.grammar.specs.Values.{noPayment, Spells, SpellsFour, GivenFour, GivesHead, GivesPayment, InDay, GivesSettlement, GivesRecall}
 use Rattle.grammar.proofs.Meanings.{numbered-range}
-use Rattle.grammar.proofs.Payments.{PaymentText, credit, debit, PaymentsText, none-left, one-more, PaymentSays, PaymentsSay}
-use Rattle.grammar.proofs.Request.{ActivationSays, HeadSays, SettlementSays, settlement-says, recall-says}
+use Rattle.grammar.specs.Text.{PaymentText, credit, debit, PaymentsText, none-left, one-more, ActivationSays, PaymentSays, PaymentsSay, HeadSays, SettlementSays}
+use Rattle.grammar.proofs.Request.{settlement-says, recall-says}
 
 -- ---- characters and their codes
 

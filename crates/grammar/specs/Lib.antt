@@ -1,1 +1,3 @@
 pub mod Values
+pub mod Text
+pub mod Response

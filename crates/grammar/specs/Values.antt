@@ -8,7 +8,7 @@ use Rattle.codes.specs.Codes.{packed, longOf, shortEnd, shortText, longText}
 use Rattle.codes.specs.declared.Code.{Code}
 use Rattle.dates.specs.Dates.{daysOfCentury}
 use Rattle.clock.specs.Clock.{minutesOfDay}
-use Rattle.values.proofs.Grammar.{IsReference, IsWord, IsBin, IsLetters}
+use Rattle.values.specs.Grammar.{IsReference, IsWord, IsBin, IsLetters}
 use Rattle.terms.specs.declared.Activation.{Activation}
 use Rattle.terms.specs.declared.Activation.the-variants.{AtOnce, Minute}
 use Rattle.payments.specs.declared.Payment.{Payment}

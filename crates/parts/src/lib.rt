@@ -2,6 +2,7 @@
 use payments::Payment;
 use request::Address;
 use request::Head;
+use request::Reading;
 use terms::Terms;
 ghost use mathlib.Core.Path.{_≡_};
 ghost use Rattle.values.specs.Values.{textOf};
@@ -88,6 +89,14 @@ pub fn bank_text(s: &[u8], p: Payment) -> &[u8]
     ensures { λ t. ⌜ now t ≡ textOf (now (s .entry)) (p .bank .part) ⌝ }
 {
     let item = p.bank;
+    let part = item.part;
+    values::text_of(s, part)
+}
+
+pub fn count_text(s: &[u8], r: Reading) -> &[u8]
+    ensures { λ t. ⌜ now t ≡ textOf (now (s .entry)) (r .count .part) ⌝ }
+{
+    let item = r.count;
     let part = item.part;
     values::text_of(s, part)
 }
