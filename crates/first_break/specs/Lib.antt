@@ -1,0 +1,4 @@
+pub mod Rows
+pub mod Order
+pub mod Replies
+pub mod Breaks
