@@ -1,12 +1,11 @@
 // ./purmagheli compose FILE: the text of the request whose account the file holds, as inspect tells it; or
-// the line that cannot be read; or the number by which the request would be refused.
+// the line that cannot be read; or the number by which the request would be refused. A dash is standard input.
 use chars::Refusal;
 use composing::Account;
 use composing::Ending;
 use composing::Expected;
 use files::Got;
 use libc::STDERR_FILENO;
-use libc::STDOUT_FILENO;
 use response::Written;
 
 fn say(text: &[u8]) {
@@ -15,6 +14,7 @@ fn say(text: &[u8]) {
 
 fn usage() {
     say(b"usage: compose FILE\n");
+    files::tell_wrong_call();
 }
 
 fn say_expected(expected: Expected) {
@@ -37,6 +37,7 @@ fn say_unread(s: &[u8], at: usize, expected: Expected) {
     say(b": expected ");
     say_expected(expected);
     say(b"\n");
+    files::tell_refusal();
 }
 
 fn say_refused(why: Refusal) {
@@ -45,12 +46,7 @@ fn say_refused(why: Refusal) {
     say(b"refused ");
     say(&b);
     say(b"\n");
-}
-
-fn write_first(text: &[u8], n: usize) {
-    if n <= text.len() {
-        io::write_all(STDOUT_FILENO, &text[..n]);
-    }
+    files::tell_refusal();
 }
 
 fn write_order(account: Account) {
@@ -58,7 +54,7 @@ fn write_order(account: Account) {
     let mut text = io::buffer();
     match administrator::write_request(&mut text, 0, order) {
         Written::Unfit(why) => say_refused(why),
-        Written::End(n) => write_first(&text, n),
+        Written::End(n) => printing::first(&text, n),
     }
 }
 
@@ -71,10 +67,15 @@ fn compose(s: &[u8]) {
     }
 }
 
+fn say_too_long() {
+    say(b"the file has more than 65,535 bytes\n");
+    files::tell_refusal();
+}
+
 // A file that fills the buffer may go on past it.
 fn compose_first(buf: &[u8], n: usize) {
     if buf.len() <= n {
-        say(b"the file has more than 65,535 bytes\n");
+        say_too_long();
         return;
     }
     compose(&buf[..n]);
@@ -82,7 +83,7 @@ fn compose_first(buf: &[u8], n: usize) {
 
 fn compose_file(path: &[u8]) {
     let mut buf = io::large_buffer();
-    match files::read(path, &mut buf) {
+    match files::read_named(path, &mut buf) {
         Got::Unread => (),
         Got::Bytes(n) => compose_first(&buf, n),
     }

@@ -1,17 +1,13 @@
 // ./purmagheli day plain|quick [SCRIPT]: runs the calls of a script, from standard input where none is named,
 // and tells what each of them answers, tries and writes.
-mod lines;
-mod orders;
-mod showing;
-mod words;
-
 use engine::Action;
 use engine::Answer;
 use engine::Phase;
 use files::Got;
+use files::lines;
+use files::lines::Ahead;
 use libc::STDERR_FILENO;
 use libc::STDIN_FILENO;
-use lines::Ahead;
 use scan::At;
 use scripts::Line;
 use stepping::Told;
@@ -76,46 +72,42 @@ fn deed_of(line: Line) -> Deed {
 }
 
 fn not_a_call(number: u64) {
-    words::field(b"line ", number);
-    words::text(b" not a call\n");
+    printing::field(b"line ", number);
+    printing::text(b" not a call\n");
+    files::tell_refusal();
 }
 
 fn tell_command(action: Action) {
     match action {
-        Action::Opening => words::text(b"open "),
-        Action::Message(_) => words::text(b"message "),
-        Action::SubLimit(_, _) => words::text(b"sublimit "),
-        Action::Status(_, _, _) => words::text(b"status "),
-        Action::Tick => words::text(b"tick "),
-        Action::Close => words::text(b"close "),
-        Action::ClosingBook(_) => words::text(b"closing "),
+        Action::Opening => printing::text(b"open "),
+        Action::Message(_) => printing::text(b"message "),
+        Action::SubLimit(_, _) => printing::text(b"sublimit "),
+        Action::Status(_, _, _) => printing::text(b"status "),
+        Action::Tick => printing::text(b"tick "),
+        Action::Close => printing::text(b"close "),
+        Action::ClosingBook(_) => printing::text(b"closing "),
     }
 }
 
 fn tell_tries(tries: &[u64], n: usize) {
-    words::text(b" tries");
+    printing::text(b" tries");
     let mut i = 0;
     while i < tries.len() {
         if i < n {
-            words::field(b" ", tries[i]);
+            printing::field(b" ", tries[i]);
         }
         i += 1;
     }
 }
 
-fn unwritten(path: &[u8]) {
-    io::write_all(STDERR_FILENO, b"cannot write ");
-    os::fail(path);
-}
-
 fn write_book(path: &[u8], book: &[u8]) {
     let fd = os::open_overwrite(path);
     if fd < 0 {
-        unwritten(path);
+        files::unwritable(path);
         return;
     }
     if !io::write_all(fd, book) {
-        unwritten(path);
+        files::unwritable(path);
     }
     libc::close(fd);
 }
@@ -139,12 +131,12 @@ fn give(s: &[u8], asked: Asked, answer: Answer, out: &[u8], n: usize) {
                 give_book(s, asked.file, out, n);
             }
         }
-        Action::Opening => words::first(out, n),
-        Action::Message(_) => words::first(out, n),
-        Action::SubLimit(_, _) => words::first(out, n),
-        Action::Status(_, _, _) => words::first(out, n),
-        Action::Tick => words::first(out, n),
-        Action::Close => words::first(out, n),
+        Action::Opening => printing::first(out, n),
+        Action::Message(_) => printing::first(out, n),
+        Action::SubLimit(_, _) => printing::first(out, n),
+        Action::Status(_, _, _) => printing::first(out, n),
+        Action::Tick => printing::first(out, n),
+        Action::Close => printing::first(out, n),
     }
 }
 
@@ -152,10 +144,10 @@ fn tell(s: &[u8], asked: Asked, told: Told, out: &[u8], tries: &[u64]) {
     let action = asked.action;
     let answer = told.answer;
     tell_command(action);
-    words::two_digits(answer.number());
+    printing::two_digits(answer.number());
     tell_tries(tries, told.tried);
-    words::field(b" bytes ", told.written as u64);
-    words::end();
+    printing::field(b" bytes ", told.written as u64);
+    printing::end();
     give(s, asked, answer, out, told.written);
 }
 
@@ -288,9 +280,9 @@ fn clear(
     );
     let answer = start.answer;
     let after = start.desk;
-    words::text(b"clear ");
-    words::two_digits(answer.number());
-    words::text(b" tries bytes 0\n");
+    printing::text(b"clear ");
+    printing::two_digits(answer.number());
+    printing::text(b" tries bytes 0\n");
     after
 }
 
@@ -498,6 +490,7 @@ fn run(quick: bool, fd: i32) {
 
 fn usage() {
     io::write_all(STDERR_FILENO, b"usage: day plain|quick [SCRIPT]\n");
+    files::tell_wrong_call();
 }
 
 // Whether a word is just this one.

@@ -1,5 +1,9 @@
-// Files that a program is given to read.
+// Files that a program is given to read, and how it tells that something was not well.
+pub mod lines;
+
 use libc::STDERR_FILENO;
+use libc::STDIN_FILENO;
+use libc::STDOUT_FILENO;
 ghost use Prim.Native.Nat.{_≤_};
 ghost use lib.ListN.{length};
 ghost use Rattle.files.specs.Files.{Within};
@@ -11,10 +15,37 @@ pub enum Got {
     Unread,
 }
 
+// A program of this language has no exit status. The script ./purmagheli opens this descriptor, and its own status is the greatest digit that it finds there.
+const STATUS: i32 = 3;
+
+// Something was refused, or could not be read or written.
+pub fn tell_refusal() {
+    io::write_all(STATUS, b"1");
+}
+
+// The program was called in a way that it does not know.
+pub fn tell_wrong_call() {
+    io::write_all(STATUS, b"2");
+}
+
+// A text on standard output; a disk that is full is told.
+pub fn print(text: &[u8]) {
+    if !io::write_all(STDOUT_FILENO, text) {
+        tell_refusal();
+    }
+}
+
 // The reason is the system's.
 pub fn unreadable(path: &[u8]) {
     io::write_all(STDERR_FILENO, b"cannot read ");
     os::fail(path);
+    tell_refusal();
+}
+
+pub fn unwritable(path: &[u8]) {
+    io::write_all(STDERR_FILENO, b"cannot write ");
+    os::fail(path);
+    tell_refusal();
 }
 
 // Reads on after the first n bytes, and answers how many there are then.
@@ -52,4 +83,22 @@ pub fn read(path: &[u8], buf: &mut [u8]) -> Got
     let got = read_open(path, fd, buf);
     libc::close(fd);
     got
+}
+
+fn is_dash(path: &[u8]) -> bool {
+    if path.len() == 1 {
+        path[0] == b'-'
+    } else {
+        false
+    }
+}
+
+// As much of a file that is named where a program is called: a dash is standard input.
+pub fn read_named(path: &[u8], buf: &mut [u8]) -> Got
+    ensures { λ r. ⌜ Within (length (now (buf .entry))) r ⌝ }
+{
+    if is_dash(path) {
+        return read_open(path, STDIN_FILENO, buf);
+    }
+    read(path, buf)
 }

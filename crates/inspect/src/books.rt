@@ -1,5 +1,4 @@
 // The account of a book.
-use crate::words;
 use book::Book;
 use book::Reading;
 
@@ -9,11 +8,11 @@ fn at(row: &[u64], i: usize) -> u64 {
 }
 
 fn show_stream(code: u64, administrator: u64) {
-    words::text(b"stream ");
-    words::code(code);
-    words::space();
-    words::number(administrator);
-    words::end();
+    printing::text(b"stream ");
+    printing::code(code);
+    printing::space();
+    printing::number(administrator);
+    printing::end();
 }
 
 fn show_streams(streams: &[u64], n: usize) {
@@ -32,8 +31,8 @@ fn show_bits(streams: &[u64], bits: u64) {
     let mut i = 0;
     while i < Book::STREAMS {
         if rest % 2 == 1 {
-            words::space();
-            words::code(at(streams, 2 * i));
+            printing::space();
+            printing::code(at(streams, 2 * i));
         }
         rest = rest / 2;
         i += 1;
@@ -41,18 +40,18 @@ fn show_bits(streams: &[u64], bits: u64) {
 }
 
 fn show_bank(streams: &[u64], code: u64, flags: u64, balance: u64, limit: u64) {
-    words::text(b"bank ");
-    words::code(code);
+    printing::text(b"bank ");
+    printing::code(code);
     if flags % 2 == 1 {
-        words::text(b" suspended ");
+        printing::text(b" suspended ");
     } else {
-        words::text(b" active ");
+        printing::text(b" active ");
     }
-    words::number(balance);
-    words::space();
-    words::number(limit);
+    printing::number(balance);
+    printing::space();
+    printing::number(limit);
     show_bits(streams, flags / 2);
-    words::end();
+    printing::end();
 }
 
 fn show_banks(
@@ -92,15 +91,15 @@ fn total(balances: &[u64], n: usize) -> u64 {
 }
 
 fn show_head(book: Book) {
-    words::text(b"accepted book\ndate ");
-    words::six_digits(dates::date_of(book.day));
-    words::end();
+    printing::text(b"accepted book\ndate ");
+    printing::six_digits(dates::date_of(book.day));
+    printing::end();
 }
 
 fn show_total(sum: u64) {
-    words::text(b"total ");
-    words::number(sum);
-    words::end();
+    printing::text(b"total ");
+    printing::number(sum);
+    printing::end();
 }
 
 pub fn show(s: &[u8]) {
@@ -117,7 +116,7 @@ pub fn show(s: &[u8]) {
         &mut balances,
         &mut limits,
     ) {
-        Reading::Unread(why) => words::refused(why),
+        Reading::Unread(why) => printing::refused(why),
         Reading::Held(book) => {
             show_head(book);
             show_streams(&streams, book.streams);

@@ -1,9 +1,8 @@
 // ./purmagheli inspect request|response|book FILE..: what each file says, or the number by which it is
-// refused.
+// refused. A dash is standard input.
 mod books;
 mod requests;
 mod responses;
-mod words;
 
 use files::Got;
 use libc::STDERR_FILENO;
@@ -44,6 +43,7 @@ fn usage() {
         STDERR_FILENO,
         b"usage: inspect request|response|book FILE..\n",
     );
+    files::tell_wrong_call();
 }
 
 fn show(subject: Subject, s: &[u8]) {
@@ -57,7 +57,7 @@ fn show(subject: Subject, s: &[u8]) {
 
 // What stands in the first n bytes.
 fn show_first(subject: Subject, path: &[u8], buf: &[u8], n: usize) {
-    words::line(b"file", path);
+    printing::line(b"file", path);
     if n <= buf.len() {
         show(subject, &buf[..n]);
     }
@@ -67,7 +67,7 @@ fn show_first(subject: Subject, path: &[u8], buf: &[u8], n: usize) {
 // byte at the most, and a book of more than 2,560 bytes is refused for its length.
 fn show_file(subject: Subject, path: &[u8]) {
     let mut buf = io::large_buffer();
-    match files::read(path, &mut buf) {
+    match files::read_named(path, &mut buf) {
         Got::Unread => (),
         Got::Bytes(n) => show_first(subject, path, &buf, n),
     }

@@ -1,49 +1,31 @@
 // The account of a request.
-use crate::words;
 use payments::Payment;
 use request::Head;
 use request::Outcome;
 use request::Reading;
 use terms::Activation;
 use terms::Terms;
-use values::Part;
-
-fn part(s: &[u8], name: &[u8], p: Part) {
-    words::line(name, values::text_of(s, p));
-}
 
 fn show_head(s: &[u8], h: Head) {
-    let subtype = h.subtype;
-    let reference = h.reference;
     let address = h.address;
-    let stream = address.stream;
-    let bin = address.bin;
-    let subtype_part = subtype.part;
-    let reference_part = reference.part;
-    let stream_part = stream.part;
-    let bin_part = bin.part;
-    part(s, b"accepted", subtype_part);
-    part(s, b"reference", reference_part);
-    part(s, b"stream", stream_part);
-    part(s, b"bin", bin_part);
+    printing::line(b"accepted", parts::sub_type_text(s, h));
+    printing::line(b"reference", parts::reference_text(s, h));
+    printing::line(b"stream", parts::stream_text(s, address));
+    printing::line(b"bin", parts::bin_text(s, address));
 }
 
-fn show_activation(s: &[u8], a: Activation, p: Part) {
-    match a {
-        Activation::AtOnce => words::line(b"activation", b"none"),
-        Activation::Minute(_) => part(s, b"activation", p),
+fn show_activation(s: &[u8], t: Terms) {
+    let activation = t.activation;
+    match activation {
+        Activation::AtOnce => printing::line(b"activation", b"none"),
+        Activation::Minute(_) => printing::line(b"activation", parts::activation_text(s, t)),
     }
 }
 
 fn show_terms(s: &[u8], t: Terms) {
-    let numbers = t.numbers;
-    let date = t.date;
-    let activation = t.activation;
-    let activated = t.activated;
-    let date_part = date.part;
-    part(s, b"message", numbers);
-    part(s, b"date", date_part);
-    show_activation(s, activation, activated);
+    printing::line(b"message", parts::numbers_text(s, t));
+    printing::line(b"date", parts::date_text(s, t));
+    show_activation(s, t);
 }
 
 fn show_payment(p: Payment) {
@@ -53,18 +35,18 @@ fn show_payment(p: Payment) {
     let bank = p.bank;
     let debit = side.number != 0;
     if debit {
-        words::text(b"payment DR ");
+        printing::text(b"payment DR ");
     } else {
-        words::text(b"payment CR ");
+        printing::text(b"payment CR ");
     }
-    words::number(amount.number);
-    words::space();
-    words::code(bank.number);
+    printing::number(amount.number);
+    printing::space();
+    printing::code(bank.number);
     if debit {
-        words::space();
-        words::letters(letters.number);
+        printing::space();
+        printing::letters(letters.number);
     }
-    words::end();
+    printing::end();
 }
 
 fn show_payments(ps: [Payment; 10], n: usize) {
@@ -96,7 +78,7 @@ pub fn show(s: &[u8]) {
         Outcome::Recall => show_head(s, head),
         Outcome::Refused(b) => {
             let why = b.refusal;
-            words::refused(why)
+            printing::refused(why)
         }
     }
 }

@@ -1,5 +1,4 @@
 // The account of a response.
-use crate::words;
 use clock::Clock;
 use reply::Parts;
 use reply::Reply;
@@ -10,7 +9,7 @@ use response::Settlement;
 use values::Part;
 
 fn part(s: &[u8], name: &[u8], p: Part) {
-    words::line(name, values::text_of(s, p));
+    printing::line(name, values::text_of(s, p));
 }
 
 fn show_number(s: &[u8], p: Parts) {
@@ -24,17 +23,17 @@ fn show_number(s: &[u8], p: Parts) {
 
 fn show_settled(day: u64, second: u64) {
     let clock = Clock { seconds: second };
-    words::text(b"settled ");
-    words::six_digits(dates::date_of(day));
-    words::space();
-    words::six_digits(clock.digits());
-    words::end();
+    printing::text(b"settled ");
+    printing::six_digits(dates::date_of(day));
+    printing::space();
+    printing::six_digits(clock.digits());
+    printing::end();
 }
 
 fn show_rejected(number: u64) {
-    words::text(b"rejected ");
-    words::two_digits(number);
-    words::end();
+    printing::text(b"rejected ");
+    printing::two_digits(number);
+    printing::end();
 }
 
 fn show_settlement(s: &[u8], p: Parts, r: Settlement) {
@@ -54,7 +53,7 @@ fn show_recall(s: &[u8], p: Parts, r: Recall) {
     let answer = r.answer;
     show_number(s, p);
     match answer {
-        Answer::Recalled => words::text(b"recalled\n"),
+        Answer::Recalled => printing::text(b"recalled\n"),
         Answer::Kept(number) => show_rejected(number),
     }
 }
@@ -68,7 +67,7 @@ pub fn show(s: &[u8]) {
         Reply::Recall(x) => show_recall(s, parts, x),
         Reply::Refused(b) => {
             let why = b.refusal;
-            words::refused(why)
+            printing::refused(why)
         }
     }
 }

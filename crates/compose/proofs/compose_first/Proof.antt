@@ -5,11 +5,8 @@ use borrow.Author.Needs.{needs}
 use Rattle.compose.proofs.compose_first.Statement.{statement}
 use Rattle.compose.proofs.compose_first.Tie as tie
 
-slice-aggregate-say : tie.Need-slice-aggregate-say
-slice-aggregate-say c = search needs
-
-say-requires : tie.Need-say-requires
-say-requires c κs = search needs
+say-too-long-requires : tie.Need-say-too-long-requires
+say-too-long-requires c κs = search needs
 
 returns : tie.Need-returns
 returns c = search needs
@@ -27,8 +24,7 @@ pub compose-first-spec : {M : Type 1} → statement M
 compose-first-spec =
     tie.close
     (tie.spec
-    slice-aggregate-say
-    say-requires
+    say-too-long-requires
     returns
     slice-aggregate-compose
     compose-requires

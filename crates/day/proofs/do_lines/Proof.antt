@@ -6,7 +6,7 @@ use mathlib.Core.Path.{_≡_, refl}
 use Rattle.day.proofs.do_lines.Statement.{statement}
 use Rattle.day.proofs.do_lines.Tie as tie
 use Rattle.day.proofs.do_next.Reads as do-next-reads
-use Rattle.day.proofs.lines.nothing_ahead.Reads as nothing-ahead-reads
+use Rattle.files.proofs.lines.nothing_ahead.Reads as nothing-ahead-reads
 
 abbrev Inv-loop : tie.InvT-loop
 Inv-loop quick fd buf₀ line₀ codes₀ flags₀ balances₀ limits₀ batches₀ references₀ bins₀ out₀ tries₀ desk₀ ahead₀ number₀ more₀ buf line codes flags balances limits batches references bins out tries desk ahead number more =

@@ -5,7 +5,7 @@ use borrow.Author.Needs.{needs}
 use Rattle.day.proofs.do_next.Statement.{statement}
 use Rattle.day.proofs.do_next.Tie as tie
 use Rattle.day.proofs.do_line.Reads as do-line-reads
-use Rattle.day.proofs.lines.take.Reads as take-reads
+use Rattle.files.proofs.lines.take.Reads as take-reads
 
 take-requires : tie.Need-take-requires
 take-requires c κs = search needs

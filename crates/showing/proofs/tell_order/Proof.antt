@@ -1,9 +1,9 @@
 use native.Mathlib.Omega.{arith}
 use borrow.Author.Needs.{needs}
-use Rattle.day.proofs.showing.tell_order.Statement.{statement}
-use Rattle.day.proofs.showing.tell_order.Tie as tie
-use Rattle.day.proofs.orders.next.Reads as next-reads
-use Rattle.day.proofs.showing.tell.Reads as tell-reads
+use Rattle.showing.proofs.tell_order.Statement.{statement}
+use Rattle.showing.proofs.tell_order.Tie as tie
+use Rattle.showing.proofs.orders.next.Reads as next-reads
+use Rattle.showing.proofs.tell.Reads as tell-reads
 
 abbrev Inv-loop : tie.InvT-loop
 Inv-loop codes balances limits batches bins date phase last₀ left₀ last left = Unit {0}

@@ -1,11 +1,11 @@
 use native.Mathlib.Omega.{arith}
 use borrow.Author.Needs.{needs}
-use Rattle.day.proofs.showing.show_order.Statement.{statement}
-use Rattle.day.proofs.showing.show_order.Tie as tie
-use Rattle.day.proofs.orders.next.Reads as next-reads
-use Rattle.day.proofs.showing.show_bin.Reads as show-bin-reads
-use Rattle.day.proofs.words.end.Reads as end-reads
-use Rattle.day.proofs.words.text.Reads as text-reads
+use Rattle.showing.proofs.show_order.Statement.{statement}
+use Rattle.showing.proofs.show_order.Tie as tie
+use Rattle.showing.proofs.orders.next.Reads as next-reads
+use Rattle.showing.proofs.show_bin.Reads as show-bin-reads
+use Rattle.printing.proofs.end.Reads as end-reads
+use Rattle.printing.proofs.text.Reads as text-reads
 
 abbrev Inv-loop : tie.InvT-loop
 Inv-loop name batches bins date phase last₀ left₀ last left = Unit {0}

@@ -1,9 +1,10 @@
-// Words on standard output.
+// Words and numbers on standard output, as the programs tell them.
+use chars::Refusal;
 use codes::Code;
 use libc::STDOUT_FILENO;
 
 pub fn text(b: &[u8]) {
-    io::write_all(STDOUT_FILENO, b);
+    files::print(b);
 }
 
 // The first n bytes.
@@ -31,6 +32,14 @@ pub fn field(name: &[u8], v: u64) {
     number(v);
 }
 
+// A name and its value, on a line.
+pub fn line(name: &[u8], value: &[u8]) {
+    text(name);
+    space();
+    text(value);
+    end();
+}
+
 pub fn two_digits(v: u64) {
     let mut b = [0u8; 2];
     put::digits(&mut b, 0, v, 2);
@@ -49,8 +58,14 @@ pub fn six_digits(v: u64) {
     text(&b);
 }
 
-// The four characters of a bank.
-pub fn bank(v: u64) {
+pub fn seven_digits(v: u64) {
+    let mut b = [0u8; 7];
+    put::digits(&mut b, 0, v, 7);
+    text(&b);
+}
+
+// The four characters of a bank or a stream.
+pub fn code(v: u64) {
     let mut b = [0u8; 4];
     put::short_code(&mut b, 0, v);
     text(&b);
@@ -62,6 +77,22 @@ pub fn bin(code: Code) {
     first(&b, code.len());
 }
 
+fn shown(b: u8) -> u8 {
+    if b == b' ' { b'-' } else { b }
+}
+
+// The four letters of a debit, a space as a dash.
+pub fn letters(v: u64) {
+    text(
+        &[
+            shown(codes::short_byte(v, 0)),
+            shown(codes::short_byte(v, 1)),
+            shown(codes::short_byte(v, 2)),
+            shown(codes::short_byte(v, 3)),
+        ],
+    );
+}
+
 // An ESA letter, a space as a dash.
 pub fn letter(v: u64) {
     match v {
@@ -71,4 +102,11 @@ pub fn letter(v: u64) {
         80 => text(b"P"),
         _ => text(b"?"),
     }
+}
+
+pub fn refused(why: Refusal) {
+    text(b"refused ");
+    two_digits(why.number());
+    end();
+    files::tell_refusal();
 }

@@ -1,10 +1,10 @@
 use native.Mathlib.Omega.{arith}
 use borrow.Author.Needs.{needs}
 use Prim.Native.Nat.{_-_}
-use Rattle.day.proofs.showing.show_banks.Statement.{statement}
-use Rattle.day.proofs.showing.show_banks.Tie as tie
-use Rattle.day.proofs.orders.at.Reads as at-reads
-use Rattle.day.proofs.showing.show_bank.Reads as show-bank-reads
+use Rattle.showing.proofs.show_banks.Statement.{statement}
+use Rattle.showing.proofs.show_banks.Tie as tie
+use Rattle.showing.proofs.orders.at.Reads as at-reads
+use Rattle.showing.proofs.show_bank.Reads as show-bank-reads
 
 abbrev Inv-loop : tie.InvT-loop
 Inv-loop codes flags balances limits n i₀ i = Unit {0}

@@ -2,9 +2,9 @@ use native.Mathlib.Omega.{arith}
 use mathlib.Core.Path.{sym}
 use lib.Seq.{length-take-le}
 use borrow.Author.Needs.{needs}
-use Rattle.day.proofs.words.first.Statement.{statement}
-use Rattle.day.proofs.words.first.Tie as tie
-use Rattle.day.proofs.words.text.Reads as text-reads
+use Rattle.printing.proofs.first.Statement.{statement}
+use Rattle.printing.proofs.first.Tie as tie
+use Rattle.printing.proofs.text.Reads as text-reads
 
 slice-aggregate-text : tie.Need-slice-aggregate-text
 slice-aggregate-text c = sym (length-take-le _ _ (omega arith))

@@ -46,7 +46,7 @@ fn read_ahead(fd: i32, buf: &mut [u8], ahead: Ahead) -> Ahead {
     }
     let got = libc::read(fd, buf);
     if got < 0 {
-        files::unreadable(b"script");
+        crate::unreadable(b"script");
     }
     let end = io::count(got, buf);
     Ahead { at: 0, end }

@@ -2,11 +2,11 @@ use lib.ListN.{length}
 use mathlib.Core.Path.{_≡_, refl}
 use native.Mathlib.Omega.{arith}
 use borrow.Author.Needs.{needs}
-use Rattle.day.proofs.lines.take.Statement.{statement}
-use Rattle.day.proofs.lines.take.Tie as tie
-use Rattle.day.proofs.lines.byte.Reads as byte-reads
-use Rattle.day.proofs.lines.keep.Reads as keep-reads
-use Rattle.day.proofs.lines.read_ahead.Reads as read-ahead-reads
+use Rattle.files.proofs.lines.take.Statement.{statement}
+use Rattle.files.proofs.lines.take.Tie as tie
+use Rattle.files.proofs.lines.byte.Reads as byte-reads
+use Rattle.files.proofs.lines.keep.Reads as keep-reads
+use Rattle.files.proofs.lines.read_ahead.Reads as read-ahead-reads
 
 abbrev Inv-loop : tie.InvT-loop
 Inv-loop fd buf₀ line₀ ahead₀ kept₀ turns₀ is-there₀ buf line ahead kept turns is-there =

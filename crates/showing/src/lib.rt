@@ -1,6 +1,6 @@
 // What stands in the tables, and why what waits has not settled.
-use crate::orders;
-use crate::words;
+mod orders;
+
 use engine::Phase;
 use holding::Debit;
 use holding::Held;
@@ -13,34 +13,34 @@ fn index(x: u64) -> usize {
 }
 
 fn show_moment(name: &[u8], desk: Desk) {
-    words::text(b"day ");
-    words::six_digits(dates::date_of(desk.date));
-    words::text(name);
-    words::field(b" clock ", desk.clock);
-    words::field(b" texts ", desk.texts);
-    words::end();
+    printing::text(b"day ");
+    printing::six_digits(dates::date_of(desk.date));
+    printing::text(name);
+    printing::field(b" clock ", desk.clock);
+    printing::field(b" texts ", desk.texts);
+    printing::end();
 }
 
 fn show_day(desk: Desk) {
     let phase = desk.phase;
     match phase {
-        Phase::Fresh => words::text(b"day none\n"),
+        Phase::Fresh => printing::text(b"day none\n"),
         Phase::Open => show_moment(b" open", desk),
         Phase::Closed => show_moment(b" closed", desk),
     }
 }
 
 fn show_bank(code: u64, flags: u64, balance: u64, limit: u64) {
-    words::text(b"bank ");
-    words::bank(code);
+    printing::text(b"bank ");
+    printing::code(code);
     if flags % 2 == 1 {
-        words::text(b" suspended");
+        printing::text(b" suspended");
     } else {
-        words::text(b" active");
+        printing::text(b" active");
     }
-    words::field(b" balance ", balance);
-    words::field(b" sublimit ", limit);
-    words::end();
+    printing::field(b" balance ", balance);
+    printing::field(b" sublimit ", limit);
+    printing::end();
 }
 
 fn show_banks(codes: &[u64], flags: &[u64], balances: &[u64], limits: &[u64], n: usize) {
@@ -60,14 +60,14 @@ fn show_banks(codes: &[u64], flags: &[u64], balances: &[u64], limits: &[u64], n:
 
 fn show_bin(batches: &[u64], place: usize) {
     if place < orders::NOWHERE {
-        words::space();
-        words::bin(orders::bin_of(batches, place));
+        printing::space();
+        printing::bin(orders::bin_of(batches, place));
     }
 }
 
 // The BINs of a phase.
 fn show_order(name: &[u8], batches: &[u64], bins: &[u64], date: u64, phase: u64) {
-    words::text(name);
+    printing::text(name);
     let mut last = orders::next(batches, bins, date, phase, orders::NOWHERE);
     let mut left = Batch::LIVE;
     while 0 < left {
@@ -78,7 +78,7 @@ fn show_order(name: &[u8], batches: &[u64], bins: &[u64], date: u64, phase: u64)
         last = orders::next(batches, bins, date, phase, last);
         left -= 1;
     }
-    words::end();
+    printing::end();
 }
 
 pub fn show(
@@ -100,15 +100,15 @@ pub fn show(
 
 // The debit that holds a batch, and the account that it is held at.
 fn tell_debit(batches: &[u64], place: usize, debit: Debit, code: u64, balance: u64, limit: u64) {
-    words::text(b"held");
+    printing::text(b"held");
     show_bin(batches, place);
-    words::space();
-    words::bank(code);
-    words::space();
-    words::letter(debit.letter);
-    words::field(b" amount ", debit.cents);
-    words::field(b" balance ", balance);
-    words::field(b" sublimit ", limit);
+    printing::space();
+    printing::code(code);
+    printing::space();
+    printing::letter(debit.letter);
+    printing::field(b" amount ", debit.cents);
+    printing::field(b" balance ", balance);
+    printing::field(b" sublimit ", limit);
 }
 
 fn tell_account(
@@ -134,12 +134,12 @@ fn tell_held(codes: &[u64], balances: &[u64], limits: &[u64], batches: &[u64], p
     match holding::held_at(balances, limits, batches, place) {
         Held::Short(debit, short) => {
             tell_account(codes, balances, limits, batches, place, debit);
-            words::field(b" short ", short);
-            words::end();
+            printing::field(b" short ", short);
+            printing::end();
         }
         Held::Deferred(debit) => {
             tell_account(codes, balances, limits, batches, place, debit);
-            words::text(b" deferred\n");
+            printing::text(b" deferred\n");
         }
         // No queued batch would pass after a call.
         Held::Free => (),
@@ -149,21 +149,21 @@ fn tell_held(codes: &[u64], balances: &[u64], limits: &[u64], batches: &[u64], p
 
 fn tell_pending(batches: &[u64], place: usize) {
     let activation = orders::word(batches, place, Batch::ACTIVATION);
-    words::text(b"pending");
+    printing::text(b"pending");
     show_bin(batches, place);
-    words::space();
+    printing::space();
     if 0 < activation {
-        words::four_digits(clock::hhmm_of(activation - 1));
+        printing::four_digits(clock::hhmm_of(activation - 1));
     }
-    words::end();
+    printing::end();
 }
 
 fn tell_assembling(batches: &[u64], place: usize) {
-    words::text(b"assembling");
+    printing::text(b"assembling");
     show_bin(batches, place);
-    words::field(b" ", orders::word(batches, place, Batch::MESSAGES_THERE));
-    words::field(b" of ", orders::word(batches, place, Batch::COUNT));
-    words::end();
+    printing::field(b" ", orders::word(batches, place, Batch::MESSAGES_THERE));
+    printing::field(b" of ", orders::word(batches, place, Batch::COUNT));
+    printing::end();
 }
 
 fn tell(
