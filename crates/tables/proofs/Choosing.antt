@@ -1,7 +1,7 @@
 -- Whichever test each call chooses, the tables that are left are equal but for the memory words.
-use Prim.Native.Nat.{ℕ, zero, suc, _+_, _-_, _%_, _≤_}
+use Prim.Native.Nat.{ℕ, zero, suc, _+_, _-_, _≤_}
 use mathlib.Core.Path.{_≡_, refl, sym, ap, subst, _∙_}
-use mathlib.Core.Bool.{Bool, true, false}
+use mathlib.Core.Bool.{Bool, true}
 use mathlib.Core.List.{List, [], _∷_, _++_, map}
 use native.Mathlib.Omega.{arith}
 use lib.Dec.{ltb}
@@ -22,8 +22,8 @@ use Rattle.engine.proofs.Holding.{call-memory, cleared-memory}
 use Rattle.tables.specs.declared.Desk.{Desk}
 use Rattle.tables.specs.Rows.{Tables}
 use Rattle.tables.specs.Words.{batchWords, phaseOf, rankOf, placeWords, placesWords, entriesWords, tablesOf, deskOf}
-use Rattle.tables.specs.Lent.{Lent, Left, leftBy, Long, Wiped, Cleared}
-use Rattle.tables.specs.Running.{Lending, lentTo, callIn, Ran, leftIn, leftAll}
+use Rattle.tables.specs.Lent.{Left, Long, Wiped, Cleared}
+use Rattle.tables.specs.Running.{Lending, callIn, Ran, leftIn, leftAll}
 use Rattle.tables.specs.Choosing.{choose, choosing, isMemory, SameBut, AllSameBut}
 use Rattle.tables.proofs.Batching.{AllLie, place-long}
 use Rattle.tables.proofs.Held.{places-lie}

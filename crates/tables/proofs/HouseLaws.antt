@@ -1,12 +1,12 @@
 -- Laws of the tests of the house's rules.
 use Prim.Native.Nat.{ℕ, zero, suc, _+_, _-_, _*_, _/_, _^_, _≤_, _<_}
 use mathlib.Core.Path.{_≡_, refl, sym, ap, _∙_}
-use mathlib.Core.Bool.{Bool, true, false, not, _&&_, false≢true}
+use mathlib.Core.Bool.{Bool, true, false, not, _&&_, cond, false≢true}
 use mathlib.Core.List.{List, [], _∷_}
 use native.Mathlib.Nat.{le-refl}
 use native.Mathlib.Omega.{arith}
 use native.Mathlib.Numerals.{add-one}
-use borrow.Author.Tests.{not-true, not-false, lt-ltb, le-ltb, eqb-true, eqb-false}
+use borrow.Author.Tests.{not-true, not-false, lt-ltb, le-ltb, eq-eqb, ne-eqb, eqb-true, eqb-false}
 use mir.Syntax.{w64}
 use mir.Val.{Fits}
 use lib.Dec.{eqb}
@@ -74,6 +74,33 @@ module _ (v : ℕ) where
 under : (a b : ℕ) → a < b → b ≤ a → ⊥
 under a b h k = omega arith
 
+pub still-zero : (all : Bool) (word : ℕ) → word ≡ 0 → all ≡ cond (eqb word 0) all false
+still-zero all word e = rw (eq-eqb word 0 e)
+
+pub no-more-zero : (all : Bool) (word : ℕ) → (word ≡ 0 → ⊥) → false ≡ cond (eqb word 0) all false
+no-more-zero all word n = rw (ne-eqb word 0 n)
+
+-- all words before a place are zero, or one of them is not
+abbrev pub Zeroed : List ℕ → ℕ → Bool → Type 0
+Zeroed l i true = Both (AllZero l) (AllZero (drop i l))
+Zeroed l i false = AllZero l → ⊥
+
+pub zeroed-start : (l : List ℕ) → Zeroed l 0 true
+zeroed-start l = both-same (AllZero l)
+
+pub zeroed-on : (l : List ℕ) (i : ℕ) (b : Bool) {r : Bool} → Zeroed l i b → i < length l → r ≡ cond (eqb (getD l i 0) 0) b false → Zeroed l (i + 1) r
+zeroed-on l i b z h e = rw e (go (eqb (getD l i 0) 0) refl b z)
+  where
+    go : (c : Bool) → eqb (getD l i 0) 0 ≡ c → (b : Bool) → Zeroed l i b → Zeroed l (i + 1) (cond c b false)
+    go true f true z = row-on (λ x. x ≡ 0) l i z h (eqb-true (getD l i 0) 0 f)
+    go true f false z = z
+    go false f true z = row-not (λ x. x ≡ 0) l i z h (eqb-false (getD l i 0) 0 f)
+    go false f false z = z
+
+pub zeroed-end : (l : List ℕ) (i : ℕ) (b : Bool) → Zeroed l i b → length l ≤ i → Says (AllZero l) b
+zeroed-end l i true z h = row-end (λ x. x ≡ 0) l i z h
+zeroed-end l i false z h = z
+
 module _ {Q : Type 0} (l : List ℕ) (i : ℕ) where
   module _ (b : Both Q (AllShort (drop i l))) where
     pub short-end : length l ≤ i → Q
@@ -84,16 +111,6 @@ module _ {Q : Type 0} (l : List ℕ) (i : ℕ) where
 
     pub short-on : i < length l → {r : Bool} → r ≡ isShort (getD l i 0) → not r ≡ false → Both Q (AllShort (drop (i + 1) l))
     short-on h {r} e n = row-on (λ x. isShort x ≡ true) l i b h (sym e ∙ not-false r n)
-
-  module _ (b : Both Q (AllZero (drop i l))) where
-    pub zero-end : length l ≤ i → Q
-    zero-end h = row-end (λ x. x ≡ 0) l i b h
-
-    pub zero-not : i < length l → (getD l i 0 ≡ 0 → ⊥) → Q → ⊥
-    zero-not h n = row-not (λ x. x ≡ 0) l i b h n
-
-    pub zero-on : i < length l → getD l i 0 ≡ 0 → Both Q (AllZero (drop (i + 1) l))
-    zero-on h e = row-on (λ x. x ≡ 0) l i b h e
 
   module _ (b : Both Q (Limits (drop i l))) where
     pub limit-end : length l ≤ i → Q

@@ -2,7 +2,7 @@
 use Prim.Native.Nat.{ℕ, _+_, _-_, _*_, _/_, _≤_, _<_}
 use mathlib.Core.Path.{_≡_, refl, sym, _∙_}
 use mathlib.Core.Bool.{Bool, true, false, not, _&&_}
-use mathlib.Core.List.{List, []}
+use mathlib.Core.List.{List}
 use native.Mathlib.Omega.{arith}
 use borrow.Author.Tests.{not-true, not-false, lt-ltb, le-ltb, lt-leb, le-leb}
 use lib.Dec.{leb, ltb}
@@ -17,7 +17,6 @@ use Rattle.closing.specs.Closing.{bookBytes, blocksFor, bankOf, streamOf}
 use Rattle.reopening.proofs.Whole.{stream-long, banks-long}
 use Rattle.engine.specs.declared.Action.{Action}
 use Rattle.engine.specs.declared.Action.the-variants.{ClosingBook}
-use Rattle.engine.specs.declared.Answer.{Answer}
 use Rattle.engine.specs.declared.Answer.the-variants.{Done, Refused}
 use Rattle.engine.specs.Days.{rightDate, banksOf, closingText}
 use Rattle.engine.specs.Kinds.{isOpening}

@@ -2,8 +2,9 @@
 use crate::Desk;
 use settle::Bank;
 ghost use mathlib.Core.Path.{_≡_};
-ghost use mathlib.Core.Bool.{true};
+ghost use mathlib.Core.Bool.{true, false, cond};
 ghost use Prim.Native.Nat.{ℕ, _+_, _*_, _^_, _≤_, _<_};
+ghost use lib.Dec.{eqb};
 ghost use lib.ListN.{length, take, drop};
 ghost use Rattle.chars.specs.Words.{Says};
 ghost use Rattle.book.specs.Book.{each};
@@ -126,17 +127,23 @@ pub fn total_right(row: &[u64]) -> bool
     true
 }
 
+fn still_zero(all: bool, word: u64) -> bool
+    ensures { λ r. ⌜ r ≡ cond (eqb word 0) all false ⌝ }
+{
+    if word == 0 { all } else { false }
+}
+
+// To the end, whatever it meets: several words are then looked at at once, and nearly all rows are zero.
 pub fn zero(row: &[u64]) -> bool
     ensures { λ r. ⌜ Says (AllZero (now (row .entry))) r ⌝ }
 {
+    let mut all = true;
     let mut i = 0;
     while i < row.len() {
-        if row[i] != 0 {
-            return false;
-        }
+        all = still_zero(all, row[i]);
         i += 1;
     }
-    true
+    all
 }
 
 fn stream_codes_right(row: &[u64], n: usize) -> bool

@@ -1,29 +1,28 @@
 use borrow.Author.Needs.{needs}
 use Prim.Native.Nat.{_-_, _≤_}
-use lib.ListN.{length, drop}
-use Rattle.tables.proofs.TestLaws.{Both, both-same}
-use Rattle.tables.specs.House.{AllZero}
-use Rattle.tables.proofs.HouseLaws.{zero-end, zero-not, zero-on}
+use lib.ListN.{length}
+use Rattle.tables.proofs.HouseLaws.{Zeroed, zeroed-start, zeroed-on, zeroed-end}
 use Rattle.tables.proofs.house.zero.Statement.{statement}
 use Rattle.tables.proofs.house.zero.Tie as tie
+use Rattle.tables.proofs.house.still_zero.Reads as still-zero-reads
 
 abbrev Inv-loop : tie.InvT-loop
-Inv-loop row i₀ i = (i ≤ length row) × Both (AllZero row) (AllZero (drop i row))
+Inv-loop row all₀ i₀ all i = (i ≤ length row) × Zeroed row i all
 
 abbrev μ-loop : tie.MeasureT-loop
-μ-loop row i₀ i = length row - i
+μ-loop row all₀ i₀ all i = length row - i
 
 loop-holds : tie.Need-loop-holds Inv-loop μ-loop
-loop-holds c = search (needs, both-same)
+loop-holds c = search (needs, zeroed-start)
 
-mul-if1 : tie.Need-mul-if1 Inv-loop μ-loop
-mul-if1 c = search needs
+mul-still-zero : tie.Need-mul-still-zero Inv-loop μ-loop
+mul-still-zero c = search needs
 
-shared-slice-read-if1 : tie.Need-shared-slice-read-if1 Inv-loop μ-loop
-shared-slice-read-if1 c = search needs
+shared-slice-read-still-zero : tie.Need-shared-slice-read-still-zero Inv-loop μ-loop
+shared-slice-read-still-zero c = search needs
 
-returns : tie.Need-returns Inv-loop μ-loop
-returns c = search (needs, zero-not)
+still-zero-requires : tie.Need-still-zero-requires Inv-loop μ-loop
+still-zero-requires c κs = search needs
 
 add-i : tie.Need-add-i Inv-loop μ-loop
 add-i c = search needs
@@ -32,10 +31,10 @@ loop-less : tie.Need-loop-less Inv-loop μ-loop
 loop-less c = search needs
 
 loop-again : tie.Need-loop-again Inv-loop μ-loop
-loop-again c = search (needs, zero-on)
+loop-again c = search (needs, zeroed-on)
 
-returns-2 : tie.Need-returns-2 Inv-loop μ-loop
-returns-2 c = zero-end _ _ (c .before .loop .inv .1) (c .loop-test .left)
+returns : tie.Need-returns Inv-loop μ-loop
+returns c = let l = c .before .loop in zeroed-end _ _ (l .all) (l .inv .1) (c .loop-test .left)
 
 pub zero-spec : {M : Type 1} → statement M
 zero-spec =
@@ -44,10 +43,10 @@ zero-spec =
     Inv-loop
     μ-loop
     loop-holds
-    mul-if1
-    shared-slice-read-if1
-    returns
+    mul-still-zero
+    shared-slice-read-still-zero
+    still-zero-requires
     add-i
     loop-less
     loop-again
-    returns-2)
+    returns)
