@@ -1,44 +1,38 @@
--- Messages that are answered at once, and the courses carried out.
-use Prim.Native.Nat.{ℕ, zero, suc, _+_, _*_, _-_, _≤_, _<_}
-use mathlib.Core.Path.{_≡_, refl, sym, ap, subst, _∙_}
-use mathlib.Core.Bool.{Bool, true, false, cond, _&&_, _||_, not, false≢true}
+-- Messages that are answered at once, and the plans carried out.
+use Prim.Native.Nat.{ℕ, _+_, _-_, _≤_}
+use mathlib.Core.Path.{_≡_, refl, sym}
+use mathlib.Core.Bool.{true, false≢true}
 use mathlib.Core.List.{List, [], _∷_, _++_}
 use native.Mathlib.Omega.{arith}
-use borrow.Author.Tests.{eq-eqb, ne-eqb, eqb-true, eqb-false, lt-ltb}
-use lib.Dec.{eqb}
-use lib.ListN.{length, getD, set, take, length-append, replicate}
-use lib.Seq.{getD-set-same, getD-set-other}
+use borrow.Author.Tests.{lt-ltb}
+use lib.ListN.{length}
 use Rattle.chars.specs.Refusals.{numberOf}
 use Rattle.chars.specs.declared.Refusal.{Refusal}
 use Rattle.chars.specs.declared.Refusal.the-variants.{NothingThere, Recalled as WasRecalled, UsedReference, Malformed}
 use Rattle.codes.specs.declared.Code.{Code}
 use Rattle.request.specs.declared.Reading.{Reading}
 use Rattle.response.specs.Values.{isAnswer}
-use Rattle.response.specs.declared.Outcome.{Outcome}
 use Rattle.response.specs.declared.Outcome.the-variants.{Rejected}
-use Rattle.response.specs.declared.Answer.{Answer as Told}
 use Rattle.response.specs.declared.Answer.the-variants.{Recalled, Kept}
 use Rattle.book.specs.Range.{Each}
 use Rattle.settle.specs.Settlement.{Accounts}
-use Rattle.queue.proofs.MemoryLaws.{byBool}
 use Rattle.engine.specs.declared.Answer.{Answer}
 use Rattle.engine.specs.declared.Answer.the-variants.{Done, Refused}
-use Rattle.engine.specs.State.{Found, at, seek, Message, Batch, Place, free, live, Batches, Known, State, isFree, hasBin, sameCode, placeAt, placeMessages, placeBin}
+use Rattle.engine.specs.State.{at, Place, free, live, Batches, Known, State, hasBin, placeAt, placeMessages, placeBin}
 use Rattle.engine.specs.Replies.{Reply, settlement, recall, repliesTo}
-use Rattle.engine.specs.Messages.{Acted, place, ended, assembling, waiting, waits}
+use Rattle.engine.specs.Messages.{place, assembling, waiting}
 use Rattle.engine.specs.Calls.{woken}
-use Rattle.engine.specs.Rules.{RightMessage, RightBatch, isReference, isBin}
+use Rattle.engine.specs.Rules.{isReference}
 use Rattle.engine.proofs.Remembering.{same-code}
-use Rattle.engine.proofs.Counting.{times}
-use Rattle.engine.proofs.Seeking.{Answers, seek-answers, Assembling, is-assembling, Waiting, is-waiting}
-use Rattle.engine.proofs.Standing.{Standing, vacant, building, awaits, stands, Stood}
+use Rattle.engine.proofs.Seeking.{is-assembling, is-waiting}
+use Rattle.engine.proofs.Standing.{Standing, vacant, building, awaits, stands}
 use Rattle.engine.proofs.Admitting.{TextGives}
 use Rattle.engine.proofs.Fitting.{Fits as Answerable, replies-fit, right-referring, two-digits}
-use Rattle.stages.specs.Stages.{seen, Ready, Became}
+use Rattle.stages.specs.Stages.{seen}
 use Rattle.replies.specs.Writing.{Wrote, Room, Legible, repliesAt}
 use Rattle.replies.proofs.Laws.{wrote-none, wrote-then, room-first, room-rest, room-of, legible}
-use Rattle.deciding.specs.declared.Course.{Course}
-use Rattle.deciding.specs.declared.Course.the-variants.{Untouched, Repeated, Alone, Comes, Begins, RecallsNone, Recalls}
+use Rattle.deciding.specs.declared.Plan.{Plan}
+use Rattle.deciding.specs.declared.Plan.the-variants.{Untouched, Repeated, Alone, RecallsNone, Recalls}
 use Rattle.tables.specs.declared.Desk.{Desk}
 use Rattle.acting.specs.Acting.{actedWith}
 use Rattle.acting.specs.Doing.{stateOn, Ends, Stays, InRows, Actable, referenceOf, binOf}
@@ -133,29 +127,29 @@ module _ (d : Desk) (codes flags : List ℕ) (t q : List ℕ) (nq : ℕ) (w : Li
       (omega (arith, n, few-there (d .banks) (k .stood .each p), k .room))
       (omega (arith, n, few-there (d .banks) (k .stood .each p), k .few-texts))
 
-  -- ---- the courses
+  -- ---- the plans
 
   module _ (r : Reading) (m : List ℕ) (n : Accounts) (o z : Known) where
     abbrev s : State
     s = stateOn d codes flags b n o
 
-    pub untouched-so : (c : Course) (f : Refusal) → c ≡ Untouched f → InRows (actedWith s r z c) m out 0 (d .texts) (Refused f) t q nq w nw m out 0 (d .texts)
+    pub untouched-so : (c : Plan) (f : Refusal) → c ≡ Untouched f → InRows (actedWith s r z c) m out 0 (d .texts) (Refused f) t q nq w nw m out 0 (d .texts)
     unfolding actedWith woken
     untouched-so c f e = rw e (record { answered = refl; batches = record { ready = k .ready; is = refl }; memory = refl; replies = wrote-none out 0 (d .texts) })
 
-    pub alone-so : (c : Course) (j : ℕ) (a : Answer) (nq′ nw′ : ℕ) (out′ : List ℕ) (to texts′ : ℕ) → c ≡ Alone j
+    pub alone-so : (c : Plan) (j : ℕ) (a : Answer) (nq′ nw′ : ℕ) (out′ : List ℕ) (to texts′ : ℕ) → c ≡ Alone j
         → Stays (Refused Malformed) (settlement (referenceOf r) (binOf r) (Rejected (numberOf Malformed)) ∷ []) nq nw out (d .texts) a nq′ nw′ out′ to texts′
         → InRows (actedWith s r z c) m out 0 (d .texts) a t q nq′ w nw′ m out′ to texts′
     unfolding actedWith woken
     alone-so c j a nq′ nw′ out′ to texts′ e h = rw (e, h .queued, h .pending) (record { answered = h .answered; batches = record { ready = k .ready; is = refl }; memory = refl; replies = h .replies })
 
-    pub none-so : (c : Course) (j : ℕ) (a : Answer) (nq′ nw′ : ℕ) (out′ : List ℕ) (to texts′ : ℕ) → c ≡ RecallsNone j
+    pub none-so : (c : Plan) (j : ℕ) (a : Answer) (nq′ nw′ : ℕ) (out′ : List ℕ) (to texts′ : ℕ) → c ≡ RecallsNone j
         → Stays (Refused NothingThere) (recall (referenceOf r) (Kept (numberOf NothingThere)) ∷ []) nq nw out (d .texts) a nq′ nw′ out′ to texts′
         → InRows (actedWith s r z c) m out 0 (d .texts) a t q nq′ w nw′ m out′ to texts′
     unfolding actedWith woken
     none-so c j a nq′ nw′ out′ to texts′ e h = rw (e, h .queued, h .pending) (record { answered = h .answered; batches = record { ready = k .ready; is = refl }; memory = refl; replies = h .replies })
 
-    pub repeated-so : (c : Course) (p : ℕ) (a : Answer) (t′ q′ : List ℕ) (nq′ : ℕ) (w′ : List ℕ) (nw′ : ℕ) (m′ out′ : List ℕ) (to texts′ : ℕ) → c ≡ Repeated p → assembling b (binOf r) ≡ at p
+    pub repeated-so : (c : Plan) (p : ℕ) (a : Answer) (t′ q′ : List ℕ) (nq′ : ℕ) (w′ : List ℕ) (nw′ : ℕ) (m′ out′ : List ℕ) (to texts′ : ℕ) → c ≡ Repeated p → assembling b (binOf r) ≡ at p
         → (a ≡ Refused UsedReference) × Ends (repliesAt t p (Rejected (numberOf UsedReference))) b p m out 0 (d .texts) t′ q′ nq′ w′ nw′ m′ out′ to texts′
         → InRows (actedWith s r z c) m out 0 (d .texts) a t′ q′ nq′ w′ nw′ m′ out′ to texts′
     unfolding actedWith woken
@@ -163,7 +157,7 @@ module _ (d : Desk) (codes flags : List ℕ) (t q : List ℕ) (nq : ℕ) (w : Li
         let g : placeBin (placeAt b p) ≡ binOf r = bin-of (binOf r) (placeAt b p) (is-assembling b (binOf r) p f .there .yes) in
         rw e (record { answered = h .0; batches = h .1 .batches; memory = h .1 .memory; replies = rw g at (h .1 .replies) })
 
-    pub recalled-so : (c : Course) (p j : ℕ) (a : Answer) (t′ q′ : List ℕ) (nq′ : ℕ) (w′ : List ℕ) (nw′ : ℕ) (m′ out′ : List ℕ) (to texts′ : ℕ) → c ≡ Recalls p j → waiting b (binOf r) ≡ at p
+    pub recalled-so : (c : Plan) (p j : ℕ) (a : Answer) (t′ q′ : List ℕ) (nq′ : ℕ) (w′ : List ℕ) (nw′ : ℕ) (m′ out′ : List ℕ) (to texts′ : ℕ) → c ≡ Recalls p j → waiting b (binOf r) ≡ at p
         → (a ≡ Done) × Ends ((recall (referenceOf r) Recalled ∷ []) ++ repliesAt t p (Rejected (numberOf WasRecalled))) b p m out 0 (d .texts) t′ q′ nq′ w′ nw′ m′ out′ to texts′
         → InRows (actedWith s r z c) m out 0 (d .texts) a t′ q′ nq′ w′ nw′ m′ out′ to texts′
     unfolding actedWith woken

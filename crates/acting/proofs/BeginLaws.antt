@@ -1,10 +1,9 @@
 -- A message that comes to a batch, or begins one.
-use Prim.Native.Nat.{ℕ, zero, suc, _+_, _*_, _-_, _≤_, _<_}
+use Prim.Native.Nat.{ℕ, suc, _+_, _-_, _≤_, _<_}
 use mathlib.Core.Path.{_≡_, refl, sym, ap, subst, _∙_}
-use mathlib.Core.Bool.{Bool, true, false, cond, _||_, false≢true}
-use mathlib.Core.List.{List, [], _∷_}
+use mathlib.Core.Bool.{Bool, true, false, _||_, false≢true}
+use mathlib.Core.List.{List, []}
 use native.Mathlib.Omega.{arith}
-use borrow.Author.Tests.{eq-eqb, ne-eqb}
 use lib.Dec.{eqb}
 use lib.ListN.{length, getD, set, replicate}
 use Rattle.chars.specs.Words.{member}
@@ -17,24 +16,22 @@ use Rattle.settle.specs.Rules.{Distinct}
 use Rattle.queue.proofs.MemoryLaws.{byBool}
 use Rattle.engine.specs.declared.Answer.{Answer}
 use Rattle.engine.specs.State.{at, seek, Batch, Place, free, live, Batches, Known, State, isFree, placeAt, withPlace}
-use Rattle.engine.specs.Messages.{Acted, assembling, waiting, waits, firstBatch, admit}
+use Rattle.engine.specs.Messages.{Acted, assembling, waiting, firstBatch, admit}
 use Rattle.engine.specs.Rules.{RightMinute, isReference}
-use Rattle.engine.proofs.Counting.{times}
 use Rattle.engine.proofs.Seeking.{seek-answers, no-times, is-assembling, is-waiting}
-use Rattle.engine.proofs.Standing.{Standing, vacant, building, awaits, stands, Stood}
+use Rattle.engine.proofs.Standing.{Standing, vacant, building, awaits, stands}
 use Rattle.engine.proofs.Admitting.{TextGives, Takes, takes}
 use Rattle.tables.specs.declared.Desk.{Desk}
 use Rattle.tables.specs.Rows.{word, placeIn, batchRows, activationIn}
 use Rattle.tables.specs.Words.{batchWords}
 use Rattle.tables.proofs.Rowing.{Fits}
-use Rattle.stages.specs.Heads.{headed, bareRow, Neat, NeatTable}
-use Rattle.stages.specs.Stages.{seen, Ready, placesIn}
+use Rattle.stages.specs.Heads.{headed, bareRow, Neat}
+use Rattle.stages.specs.Stages.{seen}
 use Rattle.stages.specs.Arriving.{newRow}
 use Rattle.stages.proofs.ArriveLaws.{Placed, placed-so}
 use Rattle.steps.proofs.LiveRows.{not-free, live-at, place-in, live-batch, neat-row, placed-became}
-use Rattle.replies.specs.Writing.{Legible}
-use Rattle.deciding.specs.declared.Course.{Course}
-use Rattle.deciding.specs.declared.Course.the-variants.{Repeated, Alone, Comes, Begins, RecallsNone, Recalls}
+use Rattle.deciding.specs.declared.Plan.{Plan}
+use Rattle.deciding.specs.declared.Plan.the-variants.{Repeated, Alone, Comes, Begins, RecallsNone, Recalls}
 use Rattle.acting.specs.Acting.{actedWith}
 use Rattle.acting.specs.Doing.{stateOn, batchAt, InRows, Actable, Takeable, Beginnable, Apt, binOf, referenceOf}
 use Rattle.acting.proofs.TakeLaws.{batch-now, live-now, legible-now}
@@ -81,7 +78,7 @@ module _ (d : Desk) (codes flags : List ℕ) (t q : List ℕ) (nq : ℕ) (w : Li
         few-texts = k .few-texts;
       }
 
-  pub comes-so : (c : Course) (p i j : ℕ) → c ≡ Comes p i j → Takeable d codes flags r t q nq w nw p out
+  pub comes-so : (c : Plan) (p i j : ℕ) → c ≡ Comes p i j → Takeable d codes flags r t q nq w nw p out
       → (m : List ℕ) (a : Answer) (t′ q′ : List ℕ) (nq′ : ℕ) (w′ : List ℕ) (nw′ : ℕ) (m′ out′ : List ℕ) (to texts′ : ℕ)
       → ((e : Batches) (n : Accounts) (o z : Known) → InRows (admit (stateOn d codes flags e n o) r i b z p (batchAt t p)) m out 0 (d .texts) a t′ q′ nq′ w′ nw′ m′ out′ to texts′)
       → (n : Accounts) (o z : Known) → InRows (actedWith (stateOn d codes flags b n o) r z c) m out 0 (d .texts) a t′ q′ nq′ w′ nw′ m′ out′ to texts′
@@ -94,7 +91,7 @@ module _ (d : Desk) (codes flags : List ℕ) (t q : List ℕ) (nq : ℕ) (w : Li
   free-is free h = refl
   free-is (live y) h = absurd (false≢true h)
 
-  pub begins-so : (c : Course) (p i j l : ℕ) → c ≡ Begins p i j l
+  pub begins-so : (c : Plan) (p i j l : ℕ) → c ≡ Begins p i j l
       → (m : List ℕ) (a : Answer) (t′ q′ : List ℕ) (nq′ : ℕ) (w′ : List ℕ) (nw′ : ℕ) (m′ out′ : List ℕ) (to texts′ : ℕ)
       → ((e : Batches) (n : Accounts) (o z : Known) → InRows (admit (stateOn d codes flags e n o) r i (withPlace b p (live (firstBatch (stateOn d codes flags e n o) r))) z p (firstBatch (stateOn d codes flags e n o) r)) m out 0 (d .texts) a t′ q′ nq′ w′ nw′ m′ out′ to texts′)
       → (n : Accounts) (o z : Known) → InRows (actedWith (stateOn d codes flags b n o) r z c) m out 0 (d .texts) a t′ q′ nq′ w′ nw′ m′ out′ to texts′
@@ -195,9 +192,9 @@ module _ (d : Desk) (codes flags : List ℕ) (r : Reading) (t q : List ℕ) (nq 
         ∙ ap (λ (y : Batches). admit s r stream y z p first) (placed-became t q nq w nw p first t′ (k .ready) placed-first .is) in
         subst (λ (y : Acted). InRows y m out 0 (d .texts) ans t″ q″ nq″ w″ nw″ m″ out″ to texts″) g (h c n o z)
 
--- ---- what a course was chosen for
+-- ---- what a plan was chosen for
 
-module _ (b : Batches) (r : Reading) (c : Course) (h : Apt b r c) where
+module _ (b : Batches) (r : Reading) (c : Plan) (h : Apt b r c) where
   pub apt-repeated : (p : ℕ) → c ≡ Repeated p → assembling b (binOf r) ≡ at p
   apt-repeated p e = rw e at h
 

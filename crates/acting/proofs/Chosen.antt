@@ -1,24 +1,20 @@
--- The course that is chosen for a message does what the model's steps do.
+-- The plan that is chosen for a message does what the model's steps do.
 use Prim.Native.Nat.{ℕ}
-use mathlib.Core.Path.{_≡_, refl, sym, ap, _∙_}
-use mathlib.Core.Bool.{Bool, true, false, cond, _&&_, _||_}
-use mathlib.Core.List.{List, [], _∷_}
-use native.Mathlib.Omega.{arith}
+use mathlib.Core.Path.{_≡_, refl}
+use mathlib.Core.Bool.{true, false}
+use mathlib.Core.List.{List}
 use lib.Dec.{eqb}
-use lib.ListN.{getD, set, length}
-use Rattle.chars.specs.declared.Refusal.the-variants.{NoRoom, Malformed}
 use Rattle.codes.specs.declared.Code.{Code}
 use Rattle.request.specs.declared.Reading.{Reading}
 use Rattle.request.specs.declared.Outcome.{Outcome as Read}
 use Rattle.request.specs.declared.Outcome.the-variants.{Settlement, Recall, Refused as Unread}
 use Rattle.queue.proofs.MemoryLaws.{byBool}
-use Rattle.engine.specs.State.{Found, at, nowhere, onFound, seek, Place, free, live, Batches, Entry, Known, State, isFree, onLive, placeAt, hasBin, batchOf}
+use Rattle.engine.specs.State.{at, nowhere, seek, Entry, State, isFree}
 use Rattle.engine.specs.Memory.{isUsed, vacant, note}
-use Rattle.engine.specs.Messages.{Acted, today, reference, bin, streamCode, streamPlace, administrator, assembling, waiting, SubType, is131, is133, bySubType, onText, onSender, onReference, onRoom, onBin, withReference, withBin, untouched, admit, recalling, message}
+use Rattle.engine.specs.Messages.{Acted, today, reference, bin, streamCode, streamPlace, administrator, assembling, waiting, is131, is133, bySubType, onText, onSender, onReference, onRoom, onBin, admit, recalling, message}
 use Rattle.engine.proofs.Seeking.{byFound}
-use Rattle.deciding.specs.declared.Course.{Course}
-use Rattle.deciding.specs.declared.Course.the-variants.{Untouched, Repeated, Alone, Comes, Begins, RecallsNone, Recalls}
-use Rattle.deciding.specs.Courses.{sentOn, onSent, notedOn, settlementOn, recallOn, courseOn}
+use Rattle.deciding.specs.declared.Plan.{Plan}
+use Rattle.deciding.specs.Plans.{sentOn, notedOn, settlementOn, recallOn, planOn}
 use Rattle.acting.specs.Acting.{notedAt, knownBy, actedWith, actedBy}
 
 note-at : (today : ℕ) (code : Code) (es : List Entry) (q : ℕ) → vacant today es ≡ at q → note today code es ≡ notedAt today code q es
@@ -38,7 +34,7 @@ module _ (s : State) (r : Reading) where
     abbrev settles : Acted
     settles = onReference s r is131 (onRoom s r is131 (λ k. onBin s r k (admit s r stream)))
 
-    abbrev chosen : Course
+    abbrev chosen : Plan
     chosen = settlementOn (today s) (s .batches) rs bs stream (reference s r) (bin s r)
 
     used : isUsed (today s) (reference s r) rs ≡ true → settles ≡ actedBy s r chosen
@@ -85,10 +81,10 @@ module _ (s : State) (r : Reading) where
   abbrev recalls : Acted
   recalls = onReference s r is133 (onRoom s r is133 (λ k. recalling s r k))
 
-  abbrev recallCourse : Course
-  recallCourse = recallOn (today s) (s .batches) rs (reference s r) (bin s r)
+  abbrev recallPlan : Plan
+  recallPlan = recallOn (today s) (s .batches) rs (reference s r) (bin s r)
 
-  recalls-so : recalls ≡ actedBy s r recallCourse
+  recalls-so : recalls ≡ actedBy s r recallPlan
   unfolding recallOn knownBy actedWith recalling note
   recalls-so =
       byBool (isUsed (today s) (reference s r) rs)
@@ -103,8 +99,8 @@ module _ (s : State) (r : Reading) where
 
   -- ---- any message
 
-  abbrev courseAs : (sender : ℕ) → Read → Course
-  courseAs sender o = courseOn (today s) (s .house .streams) sender o (r .head) (s .batches) rs bs
+  abbrev planAs : (sender : ℕ) → Read → Plan
+  planAs sender o = planOn (today s) (s .house .streams) sender o (r .head) (s .batches) rs bs
 
   abbrev actsAs : (sender : ℕ) → Read → Acted
   actsAs sender o =
@@ -112,7 +108,7 @@ module _ (s : State) (r : Reading) where
       onSender s r sender (λ stream.
       onReference s r t (onRoom s r t (λ k. bySubType t (onBin s r k (admit s r stream)) (recalling s r k)))))
 
-  by-outcome : (sender : ℕ) (o : Read) → actsAs sender o ≡ actedBy s r (courseAs sender o)
+  by-outcome : (sender : ℕ) (o : Read) → actsAs sender o ≡ actedBy s r (planAs sender o)
   unfolding onSender streamPlace sentOn knownBy actedWith
   by-outcome sender Settlement =
       byFound (streamPlace (s .house) (streamCode s r))
@@ -130,6 +126,6 @@ module _ (s : State) (r : Reading) where
       (λ e. rw e)
   by-outcome sender (Unread b) = refl
 
-  pub chosen-acts : (sender : ℕ) → message s sender r ≡ actedBy s r (courseAs sender (r .outcome))
+  pub chosen-acts : (sender : ℕ) → message s sender r ≡ actedBy s r (planAs sender (r .outcome))
   unfolding message
   chosen-acts sender = by-outcome sender (r .outcome)

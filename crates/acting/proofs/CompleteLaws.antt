@@ -1,39 +1,33 @@
 -- Step 6 on the rows.
-use Prim.Native.Nat.{ℕ, zero, suc, _+_, _*_, _-_, _≤_, _<_}
+use Prim.Native.Nat.{ℕ, _+_, _*_, _-_, _≤_}
 use mathlib.Core.Path.{_≡_, refl, sym, ap, _∙_}
-use mathlib.Core.Bool.{Bool, true, false, not, cond}
-use mathlib.Core.List.{List, [], _∷_, _++_}
+use mathlib.Core.Bool.{Bool, true, false, not}
+use mathlib.Core.List.{List, [], _∷_}
 use native.Mathlib.Omega.{arith}
 use borrow.Author.Tests.{eq-eqb, ne-eqb, not-true, not-false}
-use lib.Dec.{eqb}
 use lib.ListN.{length, getD, set, take, drop}
 use lib.Seq.{set-getD}
 use Rattle.chars.specs.Words.{Says}
 use Rattle.chars.specs.Refusals.{numberOf}
 use Rattle.chars.specs.declared.Refusal.the-variants.{Unequal}
-use Rattle.clock.specs.Clock.{hasBegun}
 use Rattle.request.specs.declared.Reading.{Reading}
 use Rattle.response.specs.declared.Outcome.the-variants.{Rejected}
 use Rattle.book.specs.Range.{Each}
-use Rattle.settle.specs.Payments.{Payment, paymentsFrom, centsOf}
-use Rattle.settle.specs.Rules.{credits, debits, mostCents}
+use Rattle.settle.specs.Payments.{centsOf}
+use Rattle.settle.specs.Rules.{credits, debits}
 use Rattle.engine.specs.declared.Answer.{Answer}
 use Rattle.engine.specs.declared.Answer.the-variants.{Done, Refused}
-use Rattle.engine.specs.State.{Batch, Place, free, live, Batches, Known, State, placeAt, paymentsOf, withPlace}
-use Rattle.engine.specs.Joining.{minuteOf}
-use Rattle.engine.specs.Messages.{Acted, place, leaving, rejecting, ended, isComplete, isEven, toTail, completed}
-use Rattle.engine.specs.Calls.{woken, woke}
-use Rattle.engine.specs.Replies.{repliesTo}
+use Rattle.engine.specs.State.{Batch, Place, free, live, Batches, Known, State, paymentsOf, withPlace}
+use Rattle.engine.specs.Messages.{place, isComplete, isEven, toTail, completed}
+use Rattle.engine.specs.Calls.{woken}
 use Rattle.tables.specs.Rows.{word, batchIn, batchRows}
 use Rattle.tables.proofs.RowLaws.{row-at}
-use Rattle.stages.specs.Heads.{view, NeatTable}
-use Rattle.stages.specs.Stages.{seen, Ready, Became, placesIn, dueAt, tailed}
+use Rattle.stages.specs.Stages.{seen, Became, dueAt, tailed}
 use Rattle.stages.proofs.HeadLaws.{word-at}
 use Rattle.stages.proofs.Meets.{tail-so}
-use Rattle.steps.specs.Steps.{Counted}
 use Rattle.batch_rules.specs.BatchRules.{paymentsIn}
 use Rattle.batch_rules.proofs.RowWords.{messages-many}
-use Rattle.replies.specs.Writing.{Wrote, Legible, repliesAt}
+use Rattle.replies.specs.Writing.{repliesAt}
 use Rattle.replies.proofs.Laws.{wrote-none}
 use Rattle.acting.specs.Doing.{batchAt, Ends, InRows, Completable}
 

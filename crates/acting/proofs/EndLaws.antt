@@ -1,16 +1,14 @@
 -- A batch that is ended, and what is answered.
-use Prim.Native.Nat.{ℕ, _+_, _≤_, _<_}
-use mathlib.Core.Path.{_≡_, refl, sym, ap, _∙_}
+use Prim.Native.Nat.{ℕ, _+_}
+use mathlib.Core.Path.{_≡_, sym}
 use mathlib.Core.List.{List, [], _∷_, _++_}
-use lib.ListN.{length, set}
+use lib.ListN.{set}
 use Rattle.chars.specs.Refusals.{numberOf}
 use Rattle.chars.specs.declared.Refusal.{Refusal}
 use Rattle.codes.specs.declared.Code.{Code}
-use Rattle.response.specs.declared.Outcome.{Outcome}
 use Rattle.response.specs.declared.Outcome.the-variants.{Rejected}
-use Rattle.engine.specs.declared.Answer.{Answer}
 use Rattle.engine.specs.State.{Batches}
-use Rattle.engine.specs.Replies.{Reply, settlement}
+use Rattle.engine.specs.Replies.{settlement}
 use Rattle.engine.specs.Messages.{ended}
 use Rattle.stages.specs.Stages.{Became}
 use Rattle.replies.specs.Writing.{Wrote, Room, repliesAt}

@@ -1,12 +1,12 @@
 -- A message before its batch, and in it.
 use Prim.Native.Nat.{ℕ, suc, _+_, _*_, _-_, _≤_, _<_}
 use mathlib.Core.Path.{_≡_, refl, sym, ap, subst, _∙_}
-use mathlib.Core.Bool.{Bool, true, false, cond}
-use mathlib.Core.List.{List, [], _∷_, _++_, map}
+use mathlib.Core.Bool.{true}
+use mathlib.Core.List.{List, [], _∷_, _++_}
 use native.Mathlib.Omega.{arith}
 use borrow.Author.Tests.{eqb-true, eqb-false, lt-ltb}
 use lib.Dec.{eqb}
-use lib.ListN.{length, getD, set, take, drop, length-append, length-set, length-map}
+use lib.ListN.{length, getD, set, take, drop, length-append, length-map}
 use lib.Seq.{getD-set-same, getD-set-other, set-set}
 use Rattle.chars.specs.Refusals.{numberOf}
 use Rattle.chars.specs.declared.Refusal.{Refusal}
@@ -17,7 +17,7 @@ use Rattle.response.specs.Values.{isOutcome}
 use Rattle.response.specs.declared.Outcome.{Outcome}
 use Rattle.response.specs.declared.Outcome.the-variants.{Rejected}
 use Rattle.book.specs.Range.{Each}
-use Rattle.settle.specs.Payments.{Payment, paymentsFrom, centsOf}
+use Rattle.settle.specs.Payments.{Payment, centsOf}
 use Rattle.settle.specs.Rules.{mostCents}
 use Rattle.settle.specs.Settlement.{Accounts}
 use Rattle.queue.proofs.MemoryLaws.{byBool}
@@ -25,20 +25,20 @@ use Rattle.engine.specs.declared.Answer.{Answer}
 use Rattle.engine.specs.declared.Answer.the-variants.{Done, Refused}
 use Rattle.engine.specs.State.{Message, Batch, Place, free, live, Batches, Known, State, placeAt, placeMessages, placeBin, paymentsOf, withPlace}
 use Rattle.engine.specs.Replies.{Reply, settlement, repliesTo}
-use Rattle.engine.specs.Messages.{Acted, place, firstBroken, messageRules, arrived, withMessage, ended, completed, isComplete, isEven, admit}
+use Rattle.engine.specs.Messages.{Acted, place, firstBroken, messageRules, arrived, withMessage, ended, completed, admit}
 use Rattle.engine.specs.Calls.{woken}
-use Rattle.engine.specs.Rules.{Priced, RightMessage, RightBatch, isReference, isBin}
-use Rattle.engine.proofs.Admitting.{TextGives, Takes, message-right, payments-last, each-last}
+use Rattle.engine.specs.Rules.{Priced, RightMessage, isBin}
+use Rattle.engine.proofs.Admitting.{message-right, each-last}
 use Rattle.engine.proofs.Fitting.{Fits as Answerable, replies-fit, right-referring, two-digits}
 use Rattle.tables.specs.declared.Desk.{Desk}
-use Rattle.tables.specs.Rows.{word, codeAt, placeIn, batchIn, batchRows}
+use Rattle.tables.specs.Rows.{word, placeIn, batchIn, batchRows}
 use Rattle.tables.specs.Words.{batchWords}
 use Rattle.tables.specs.Arriving.{withOne}
 use Rattle.tables.proofs.Rowing.{Fits}
 use Rattle.tables.proofs.Held.{messages-fit, messages-small}
 use Rattle.batch_rules.proofs.RowWords.{messages-many}
 use Rattle.batch_rules.proofs.RowRules.{each-join}
-use Rattle.stages.specs.Stages.{seen, Ready, Became, placesIn}
+use Rattle.stages.specs.Stages.{seen, Ready, placesIn}
 use Rattle.stages.specs.Arriving.{Roomy, messageOf, rowWith}
 use Rattle.stages.proofs.HeadLaws.{word-at, rows-many}
 use Rattle.stages.proofs.ArriveLaws.{payments-many, Placed, placed-so}
@@ -46,7 +46,7 @@ use Rattle.steps.specs.Steps.{Counted, stateOf}
 use Rattle.steps.proofs.Meets.{counted, message-any}
 use Rattle.steps.proofs.WordLaws.{arrived-any}
 use Rattle.steps.proofs.LiveRows.{live-word, live-batch, wide, neat-row, row-counted, lent, placed-became}
-use Rattle.replies.specs.Writing.{Wrote, Room, Legible, batchesOn, repliesAt}
+use Rattle.replies.specs.Writing.{Room, Legible, batchesOn, repliesAt}
 use Rattle.replies.proofs.Laws.{room-of, replies-append}
 use Rattle.acting.specs.Doing.{stateOn, houseState, batchAt, Ends, InRows, Completable, Takeable, Fair}
 

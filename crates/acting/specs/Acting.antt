@@ -1,4 +1,4 @@
--- What becomes of a message, by the course that was chosen for it.
+-- What becomes of a message, by the plan that was chosen for it.
 use Prim.Native.Nat.{ℕ}
 use mathlib.Core.List.{List, [], _∷_}
 use lib.ListN.{set}
@@ -12,8 +12,8 @@ use Rattle.engine.specs.declared.Answer.the-variants.{Done, Refused}
 use Rattle.engine.specs.State.{Entry, Known, State, live, onLive, placeAt, placeMessages, withPlace}
 use Rattle.engine.specs.Replies.{settlement, recall, repliesTo}
 use Rattle.engine.specs.Messages.{Acted, place, leaving, untouched, rejecting, today, reference, bin, ended, firstBatch, admit}
-use Rattle.deciding.specs.declared.Course.{Course}
-use Rattle.deciding.specs.declared.Course.the-variants.{Untouched, Repeated, Alone, Comes, Begins, RecallsNone, Recalls}
+use Rattle.deciding.specs.declared.Plan.{Plan}
+use Rattle.deciding.specs.declared.Plan.the-variants.{Untouched, Repeated, Alone, Comes, Begins, RecallsNone, Recalls}
 
 -- an entry at a place
 abbrev pub notedAt : (today : ℕ) → Code → ℕ → List Entry → List Entry
@@ -23,7 +23,7 @@ abbrev pub withReferenceAt : (today : ℕ) → Code → ℕ → Known → Known
 withReferenceAt today code q k = record { references = notedAt today code q (k .references); bins = k .bins }
 
 -- what is noted: "the reference is noted", "A new BIN is noted"
-unfoldable pub knownBy : (today : ℕ) (reference bin : Code) → Course → Known → Known
+unfoldable pub knownBy : (today : ℕ) (reference bin : Code) → Plan → Known → Known
 knownBy today r b (Untouched f) k = k
 knownBy today r b (Repeated p) k = k
 knownBy today r b (Alone q) k = withReferenceAt today r q k
@@ -33,7 +33,7 @@ knownBy today r b (RecallsNone q) k = withReferenceAt today r q k
 knownBy today r b (Recalls p q) k = withReferenceAt today r q k
 
 -- what is done with the batches, with k noted
-unfoldable pub actedWith : State → Reading → Known → Course → Acted
+unfoldable pub actedWith : State → Reading → Known → Plan → Acted
 actedWith s r k (Untouched f) = leaving s (Refused f) [] [] (s .batches) k
 actedWith s r k (Repeated p) = rejecting s UsedReference p (s .batches) (placeMessages (placeAt (s .batches) p)) (bin s r) k
 actedWith s r k (Alone q) =
@@ -48,5 +48,5 @@ actedWith s r k (Recalls p q) =
     (ended (s .batches) p)
     k
 
-abbrev pub actedBy : State → Reading → Course → Acted
+abbrev pub actedBy : State → Reading → Plan → Acted
 actedBy s r c = actedWith s r (knownBy (today s) (reference s r) (bin s r) c (s .known)) c

@@ -28,8 +28,8 @@ use Rattle.tables.specs.Rows.{batchRows}
 use Rattle.stages.specs.Stages.{seen, Ready, Became}
 use Rattle.steps.specs.Steps.{Counted}
 pub use Rattle.steps.specs.Steps.{batchAt}
-use Rattle.deciding.specs.declared.Course.{Course}
-use Rattle.deciding.specs.declared.Course.the-variants.{Untouched, Repeated, Alone, Comes, Begins, RecallsNone, Recalls}
+use Rattle.deciding.specs.declared.Plan.{Plan}
+use Rattle.deciding.specs.declared.Plan.the-variants.{Untouched, Repeated, Alone, Comes, Begins, RecallsNone, Recalls}
 use Rattle.replies.specs.Writing.{Wrote, Room, Legible, repliesAt}
 
 -- the state in the middle of a call: its batches stand in the rows
@@ -127,8 +127,8 @@ referenceOf r = r .head .reference .code
 abbrev pub binOf : Reading → Code
 binOf r = r .head .address .bin .code
 
--- what is known of a course that was chosen
-abbrev pub Apt : Batches → Reading → Course → Type 0
+-- what is known of a plan that was chosen
+abbrev pub Apt : Batches → Reading → Plan → Type 0
 Apt b r (Untouched f) = Unit {0}
 Apt b r (Repeated p) = assembling b (binOf r) ≡ at p
 Apt b r (Alone q) = TextGives r

@@ -4,7 +4,7 @@ mod completing;
 mod ending;
 mod taking;
 
-use deciding::Course;
+use deciding::Plan;
 use engine::Answer;
 use request::Reading;
 use tables::Desk;
@@ -26,9 +26,9 @@ pub struct Acted {
     pub texts: u64,
 }
 
-// The course that was chosen for a message, carried out. The desk's clock is the call's.
+// The plan that was chosen for a message, carried out. The desk's clock is the call's.
 pub fn perform(
-    course: Course,
+    plan: Plan,
     desk: Desk,
     codes: &[u64],
     flags: &[u64],
@@ -42,19 +42,19 @@ pub fn perform(
     out: &mut [u8],
 ) -> Acted
     requires { ⌜ Actable desk (now codes) (now flags) (now batches) (now queue) nq (now pending) nw (now out) ⌝ }
-    requires { ⌜ Apt (seen (now batches) (now queue) nq (now pending) nw) r course ⌝ }
-    ensures { λ y. ⌜ ((n : Accounts) (o k : Known) → InRows (actedWith (stateOn desk (now (codes .entry)) (now (flags .entry)) (seen (now (batches .entry)) (now (queue .entry)) nq (now (pending .entry)) nw) n o) r k course) (now (memory .entry)) (now (out .entry)) 0 (desk .texts) (y .answer) (now (batches .exit)) (now (queue .exit)) (y .queued) (now (pending .exit)) (y .pending) (now (memory .exit)) (now (out .exit)) (y .at) (y .texts)) ⌝ }
+    requires { ⌜ Apt (seen (now batches) (now queue) nq (now pending) nw) r plan ⌝ }
+    ensures { λ y. ⌜ ((n : Accounts) (o k : Known) → InRows (actedWith (stateOn desk (now (codes .entry)) (now (flags .entry)) (seen (now (batches .entry)) (now (queue .entry)) nq (now (pending .entry)) nw) n o) r k plan) (now (memory .entry)) (now (out .entry)) 0 (desk .texts) (y .answer) (now (batches .exit)) (now (queue .exit)) (y .queued) (now (pending .exit)) (y .pending) (now (memory .exit)) (now (out .exit)) (y .at) (y .texts)) ⌝ }
 {
     let head = r.head;
-    match course {
-        Course::Untouched(f) => Acted {
+    match plan {
+        Plan::Untouched(f) => Acted {
             answer: Answer::Refused(f),
             queued: nq,
             pending: nw,
             at: 0,
             texts: desk.texts,
         },
-        Course::Repeated(p) => answering::repeat(
+        Plan::Repeated(p) => answering::repeat(
             batches,
             queue,
             nq,
@@ -65,8 +65,8 @@ pub fn perform(
             desk.texts,
             out,
         ),
-        Course::Alone(q) => answering::refuse_alone(head, nq, nw, desk.texts, out),
-        Course::Comes(p, i, q) => taking::admit(
+        Plan::Alone(q) => answering::refuse_alone(head, nq, nw, desk.texts, out),
+        Plan::Comes(p, i, q) => taking::admit(
             desk,
             codes,
             flags,
@@ -81,7 +81,7 @@ pub fn perform(
             p,
             out,
         ),
-        Course::Begins(p, i, q, k) => taking::begin(
+        Plan::Begins(p, i, q, k) => taking::begin(
             desk,
             codes,
             flags,
@@ -96,8 +96,8 @@ pub fn perform(
             p,
             out,
         ),
-        Course::RecallsNone(q) => answering::recall_none(head, nq, nw, desk.texts, out),
-        Course::Recalls(p, q) => answering::recall(
+        Plan::RecallsNone(q) => answering::recall_none(head, nq, nw, desk.texts, out),
+        Plan::Recalls(p, q) => answering::recall(
             head,
             batches,
             queue,

@@ -1,2 +1,2 @@
 pub mod FindingLaws
-pub mod CourseLaws
+pub mod PlanLaws

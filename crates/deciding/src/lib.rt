@@ -14,10 +14,10 @@ ghost use lib.ListN.{length};
 ghost use Rattle.tables.specs.Rows.{entriesIn, streamsOn};
 ghost use Rattle.tables.specs.Seeking.{foundBy};
 ghost use Rattle.stages.specs.Stages.{seen, placesIn};
-ghost use Rattle.deciding.specs.Courses.{repeatedOn, knownOn, newOn, notedOn, settlementOn, recallOn, sentOn, Lookable, courseOn};
+ghost use Rattle.deciding.specs.Plans.{repeatedOn, knownOn, newOn, notedOn, settlementOn, recallOn, sentOn, Lookable, planOn};
 
 // What becomes of a message. The numbers are places: of a batch, of its stream, and the free ones that its reference and its BIN take.
-pub enum Course {
+pub enum Plan {
     // It is refused, touches no batch and is not noted.
     Untouched(Refusal),
     // Its reference is used, and the batch that it is for is ended.
@@ -41,36 +41,36 @@ pub enum Sent {
 }
 
 // "For a 131 whose BIN is being assembled, that batch is rejected with 74."
-fn on_repeated(assembling: Sought) -> Course
+fn on_repeated(assembling: Sought) -> Plan
     ensures { λ r. ⌜ r ≡ repeatedOn (foundBy assembling) ⌝ }
 {
     match assembling {
-        Sought::Here(p) => Course::Repeated(p),
-        Sought::Nowhere => Course::Untouched(Refusal::UsedReference),
+        Sought::Here(p) => Plan::Repeated(p),
+        Sought::Nowhere => Plan::Untouched(Refusal::UsedReference),
     }
 }
 
 // "a remembered BIN that is not being assembled 87, this message alone"
-fn on_known(assembling: Sought, stream: usize, reference: usize) -> Course
+fn on_known(assembling: Sought, stream: usize, reference: usize) -> Plan
     ensures { λ r. ⌜ r ≡ knownOn (foundBy assembling) stream reference ⌝ }
 {
     match assembling {
-        Sought::Here(p) => Course::Comes(p, stream, reference),
-        Sought::Nowhere => Course::Alone(reference),
+        Sought::Here(p) => Plan::Comes(p, stream, reference),
+        Sought::Nowhere => Plan::Alone(reference),
     }
 }
 
 // "04 .. if a 131's BIN is not remembered and there is no free batch or BIN place"
-fn on_new(place: Sought, bin: Sought, stream: usize, reference: usize) -> Course
+fn on_new(place: Sought, bin: Sought, stream: usize, reference: usize) -> Plan
     ensures { λ r. ⌜ r ≡ newOn (foundBy place) (foundBy bin) stream reference ⌝ }
 {
     let Sought::Here(p) = place else {
-        return Course::Untouched(Refusal::NoRoom);
+        return Plan::Untouched(Refusal::NoRoom);
     };
     let Sought::Here(b) = bin else {
-        return Course::Untouched(Refusal::NoRoom);
+        return Plan::Untouched(Refusal::NoRoom);
     };
-    Course::Begins(p, stream, reference, b)
+    Plan::Begins(p, stream, reference, b)
 }
 
 // A 131 whose reference can be noted.
@@ -82,7 +82,7 @@ fn on_noted(
     stream: usize,
     reference: usize,
     bin: Code,
-) -> Course
+) -> Plan
     requires { ⌜ (length (now batches) ≡ 11168) × (length (now bins) ≡ 1536) ⌝ }
     ensures { λ r. ⌜ r ≡ notedOn today (placesIn (now (batches .entry))) (entriesIn 512 (now (bins .entry))) (foundBy assembling) stream reference bin ⌝ }
 {
@@ -96,7 +96,7 @@ fn on_noted(
 }
 
 // Steps 3 to 5 of a 131.
-fn settlement_course(
+fn settlement_plan(
     batches: &[u64],
     queue: &[u64],
     nq: usize,
@@ -108,7 +108,7 @@ fn settlement_course(
     stream: usize,
     reference: Code,
     bin: Code,
-) -> Course
+) -> Plan
     requires { ⌜ Lookable (now batches) (now queue) nq (now pending) nw (now references) (now bins) ⌝ }
     ensures { λ r. ⌜ r ≡ settlementOn today (seen (now (batches .entry)) (now (queue .entry)) nq (now (pending .entry)) nw) (entriesIn 2048 (now (references .entry))) (entriesIn 512 (now (bins .entry))) stream reference bin ⌝ }
 {
@@ -120,12 +120,12 @@ fn settlement_course(
     let free = l.free;
     match free {
         Sought::Here(q) => on_noted(batches, bins, today, assembling, stream, q, bin),
-        Sought::Nowhere => Course::Untouched(Refusal::NoRoom),
+        Sought::Nowhere => Plan::Untouched(Refusal::NoRoom),
     }
 }
 
 // Steps 3 and 4 of a 133: "A recall acts on a pending or queued batch".
-fn recall_course(
+fn recall_plan(
     batches: &[u64],
     queue: &[u64],
     nq: usize,
@@ -135,22 +135,22 @@ fn recall_course(
     today: u64,
     reference: Code,
     bin: Code,
-) -> Course
+) -> Plan
     requires { ⌜ (length (now batches) ≡ 11168) × (nq ≤ length (now queue)) × (nw ≤ length (now pending)) × (length (now references) ≡ 6144) ⌝ }
     ensures { λ r. ⌜ r ≡ recallOn today (seen (now (batches .entry)) (now (queue .entry)) nq (now (pending .entry)) nw) (entriesIn 2048 (now (references .entry))) reference bin ⌝ }
 {
     let l = noting::look(references, 2048, today, reference);
     if l.used {
-        return Course::Untouched(Refusal::UsedReference);
+        return Plan::Untouched(Refusal::UsedReference);
     }
     let free = l.free;
     let Sought::Here(q) = free else {
-        return Course::Untouched(Refusal::NoRoom);
+        return Plan::Untouched(Refusal::NoRoom);
     };
     let waiting = finding::waiting(batches, queue, nq, pending, nw, bin);
     match waiting {
-        Sought::Here(p) => Course::Recalls(p, q),
-        Sought::Nowhere => Course::RecallsNone(q),
+        Sought::Here(p) => Plan::Recalls(p, q),
+        Sought::Nowhere => Plan::RecallsNone(q),
     }
 }
 
@@ -185,10 +185,10 @@ pub fn choose(
     nw: usize,
     references: &[u64],
     bins: &[u64],
-) -> Course
+) -> Plan
     requires { ⌜ desk .n ≤ 8 ⌝ }
     requires { ⌜ Lookable (now batches) (now queue) nq (now pending) nw (now references) (now bins) ⌝ }
-    ensures { λ r. ⌜ r ≡ courseOn (desk .date) (streamsOn desk) sender outcome head (seen (now (batches .entry)) (now (queue .entry)) nq (now (pending .entry)) nw) (entriesIn 2048 (now (references .entry))) (entriesIn 512 (now (bins .entry))) ⌝ }
+    ensures { λ r. ⌜ r ≡ planOn (desk .date) (streamsOn desk) sender outcome head (seen (now (batches .entry)) (now (queue .entry)) nq (now (pending .entry)) nw) (entriesIn 2048 (now (references .entry))) (entriesIn 512 (now (bins .entry))) ⌝ }
 {
     let address = head.address;
     let stream = address.stream;
@@ -199,12 +199,12 @@ pub fn choose(
     match outcome {
         Outcome::Refused(b) => {
             let f = b.refusal;
-            Course::Untouched(f)
+            Plan::Untouched(f)
         }
         Outcome::Settlement => {
             let from = sender_stream(desk, sender, stream.number);
             match from {
-                Sent::In(i) => settlement_course(
+                Sent::In(i) => settlement_plan(
                     batches,
                     queue,
                     nq,
@@ -217,13 +217,13 @@ pub fn choose(
                     reference,
                     bin,
                 ),
-                Sent::Not(f) => Course::Untouched(f),
+                Sent::Not(f) => Plan::Untouched(f),
             }
         }
         Outcome::Recall => {
             let from = sender_stream(desk, sender, stream.number);
             match from {
-                Sent::In(_) => recall_course(
+                Sent::In(_) => recall_plan(
                     batches,
                     queue,
                     nq,
@@ -234,7 +234,7 @@ pub fn choose(
                     reference,
                     bin,
                 ),
-                Sent::Not(f) => Course::Untouched(f),
+                Sent::Not(f) => Plan::Untouched(f),
             }
         }
     }

@@ -33,11 +33,11 @@ use Rattle.tables.specs.Rows.{rows, entryIn, entriesIn, streamsOn}
 use Rattle.tables.proofs.MemoryLaws.{map-set, entries-long}
 use Rattle.tables.proofs.RowLaws.{put}
 use Rattle.stages.specs.Stages.{seen}
-use Rattle.deciding.specs.declared.Course.{Course}
-use Rattle.deciding.specs.declared.Course.the-variants.{Untouched, Repeated, Alone, Comes, Begins, RecallsNone, Recalls}
+use Rattle.deciding.specs.declared.Plan.{Plan}
+use Rattle.deciding.specs.declared.Plan.the-variants.{Untouched, Repeated, Alone, Comes, Begins, RecallsNone, Recalls}
 use Rattle.deciding.specs.declared.Sent.{Sent}
 use Rattle.deciding.specs.declared.Sent.the-variants.{In, Not}
-use Rattle.deciding.specs.Courses.{sentOn, notedOn, settlementOn, recallOn, courseOn}
+use Rattle.deciding.specs.Plans.{sentOn, notedOn, settlementOn, recallOn, planOn}
 use Rattle.acting.specs.Acting.{notedAt, knownBy, actedWith, actedBy}
 use Rattle.acting.specs.Doing.{stateOn, batchAt, InRows, Actable, Apt, binOf, referenceOf}
 use Rattle.acting.proofs.BeginLaws.{comes-takeable}
@@ -56,7 +56,7 @@ noted-entry n t q code today h l =
     ap (λ (x : List (List ℕ)). map entryIn x) (row-put n t q (code .high ∷ code .low ∷ today ∷ []) refl h l)
     ∙ map-set entryIn (rows 3 n t) q (code .high ∷ code .low ∷ today ∷ [])
 
-module _ (c : Course) (w : Within c) where
+module _ (c : Plan) (w : Within c) where
   pub within-alone : (q : ℕ) → c ≡ Alone q → q < 2048
   within-alone q e = rw e at w
 
@@ -72,7 +72,7 @@ module _ (c : Course) (w : Within c) where
   pub within-recalls : (p q : ℕ) → c ≡ Recalls p q → q < 2048
   within-recalls p q e = rw e at w
 
-module _ (today : ℕ) (r b : Code) (c : Course) (rs bs : List ℕ) (long : length rs ≡ 6144) (wide : length bs ≡ 1536) where
+module _ (today : ℕ) (r b : Code) (c : Plan) (rs bs : List ℕ) (long : length rs ≡ 6144) (wide : length bs ≡ 1536) where
   pub noted-untouched : (f : Refusal) → c ≡ Untouched f → Noted (knownBy today r b c (knownIn rs bs)) rs bs
   unfolding knownBy
   noted-untouched f e = rw e (record { references = refl; bins = refl })
@@ -106,14 +106,14 @@ module _ (today : ℕ) (r b : Code) (c : Course) (rs bs : List ℕ) (long : leng
     unfolding knownBy
     noted-begins p j k bs′ g f e = rw e (record { references = reference-noted; bins = ap (entriesIn 512) f ∙ noted-entry 512 bs k b today g (omega arith) })
 
--- ---- what is known of the course that was chosen
+-- ---- what is known of the plan that was chosen
 
 vacant-below : (today n : ℕ) (t : List ℕ) (q : ℕ) → vacant today (entriesIn n t) ≡ at q → q < n
 unfolding vacant
 vacant-below today n t q e = omega (arith, seek-answers (isVacant today) noEntry (entriesIn n t) q e .inside, entries-long n t)
 
--- a course is apt, and its places are places of the tables
-abbrev Good : Batches → Reading → Course → Type 0
+-- a plan is apt, and its places are places of the tables
+abbrev Good : Batches → Reading → Plan → Type 0
 Good b r c = Apt b r c × Within c
 
 module _ (d : Desk) (few : d .n ≤ 8) (b : Batches) (rs bs : List ℕ) (text : List ℕ) where
@@ -180,7 +180,7 @@ module _ (d : Desk) (few : d .n ≤ 8) (b : Batches) (rs bs : List ℕ) (text : 
   bySent (In i) g h = g i refl
   bySent (Not f) g h = h f refl
 
-  by-outcome : (sender : ℕ) (o : Read) → r .outcome ≡ o → Good b r (courseOn (d .date) (streamsOn d) sender o (r .head) b (entriesIn 2048 rs) (entriesIn 512 bs))
+  by-outcome : (sender : ℕ) (o : Read) → r .outcome ≡ o → Good b r (planOn (d .date) (streamsOn d) sender o (r .head) b (entriesIn 2048 rs) (entriesIn 512 bs))
   by-outcome sender Settlement e =
       bySent (sentOn (streamsOn d) sender (r .head .address .stream .number))
       (λ i f. rw f (settlement-good e i (sent-small sender (r .head .address .stream .number) i f)))
@@ -191,13 +191,13 @@ module _ (d : Desk) (few : d .n ≤ 8) (b : Batches) (rs bs : List ℕ) (text : 
       (λ g f. rw f (tt, tt))
   by-outcome sender (Unread k) e = (tt, tt)
 
-  pub chosen-good : (sender : ℕ) (g : Reading) (c : Course) → g ≡ requestAt text
-      → c ≡ courseOn (d .date) (streamsOn d) sender (g .outcome) (g .head) b (entriesIn 2048 rs) (entriesIn 512 bs) → Apt b g c × Within c
+  pub chosen-good : (sender : ℕ) (g : Reading) (c : Plan) → g ≡ requestAt text
+      → c ≡ planOn (d .date) (streamsOn d) sender (g .outcome) (g .head) b (entriesIn 2048 rs) (entriesIn 512 bs) → Apt b g c × Within c
   chosen-good sender g c f e =
-      let h : c ≡ courseOn (d .date) (streamsOn d) sender (r .outcome) (r .head) b (entriesIn 2048 rs) (entriesIn 512 bs) = rw f at e in
+      let h : c ≡ planOn (d .date) (streamsOn d) sender (r .outcome) (r .head) b (entriesIn 2048 rs) (entriesIn 512 bs) = rw f at e in
       rw (f, h) (by-outcome sender (r .outcome) refl)
 
--- ---- the course carried out: what is known behind it is what was noted
+-- ---- the plan carried out: what is known behind it is what was noted
 
 known-completed : (s : State) (r : Reading) (b : Batches) (k : Known) (p : ℕ) (x : Batch) → completed s r b k p x .known ≡ k
 unfolding completed
@@ -215,7 +215,7 @@ module _ (d : Desk) (codes flags : List ℕ) (t q : List ℕ) (nq : ℕ) (w : Li
   abbrev on : Accounts → Known → State
   on n k = stateOn d codes flags (seen t q nq w nw) n k
 
-  known-acted : (n : Accounts) (o k : Known) (r : Reading) (c : Course) → Apt (seen t q nq w nw) r c → actedWith (on n o) r k c .known ≡ k
+  known-acted : (n : Accounts) (o k : Known) (r : Reading) (c : Plan) → Apt (seen t q nq w nw) r c → actedWith (on n o) r k c .known ≡ k
   unfolding actedWith
   known-acted n o k r (Untouched f) h = refl
   known-acted n o k r (Repeated p) h = refl
@@ -227,13 +227,13 @@ module _ (d : Desk) (codes flags : List ℕ) (t q : List ℕ) (nq : ℕ) (w : Li
   known-acted n o k r (RecallsNone j) h = refl
   known-acted n o k r (Recalls p j) h = refl
 
-  module _ (few : d .n ≤ 8) (rs bs text : List ℕ) (sender : ℕ) (r : Reading) (read : r ≡ requestAt text) (c : Course)
-      (chosen : c ≡ courseOn (d .date) (streamsOn d) sender (r .outcome) (r .head) (seen t q nq w nw) (entriesIn 2048 rs) (entriesIn 512 bs)) where
+  module _ (few : d .n ≤ 8) (rs bs text : List ℕ) (sender : ℕ) (r : Reading) (read : r ≡ requestAt text) (c : Plan)
+      (chosen : c ≡ planOn (d .date) (streamsOn d) sender (r .outcome) (r .head) (seen t q nq w nw) (entriesIn 2048 rs) (entriesIn 512 bs)) where
     acted-so : (n : Accounts) → message (on n (knownIn rs bs)) sender (requestAt text) ≡ actedBy (on n (knownIn rs bs)) r c
     acted-so n =
         ap (message (on n (knownIn rs bs)) sender) (sym read)
         ∙ chosen-acts (on n (knownIn rs bs)) r sender
-        ∙ ap (λ (x : Course). actedBy (on n (knownIn rs bs)) r x) (sym chosen)
+        ∙ ap (λ (x : Plan). actedBy (on n (knownIn rs bs)) r x) (sym chosen)
 
     pub received : (rs′ bs′ : List ℕ) → Noted (knownBy (d .date) (referenceOf r) (binOf r) c (knownIn rs bs)) rs′ bs′
         → (m : List ℕ) (a : Answer) (t′ q′ : List ℕ) (nq′ : ℕ) (w′ : List ℕ) (nw′ : ℕ) (m′ out′ : List ℕ) (to texts′ : ℕ)

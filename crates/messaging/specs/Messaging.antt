@@ -6,15 +6,15 @@ use Rattle.engine.specs.declared.Answer.{Answer}
 use Rattle.engine.specs.State.{Known}
 use Rattle.engine.specs.Messages.{Acted}
 use Rattle.tables.specs.Rows.{entriesIn}
-use Rattle.deciding.specs.declared.Course.{Course}
-use Rattle.deciding.specs.declared.Course.the-variants.{Untouched, Repeated, Alone, Comes, Begins, RecallsNone, Recalls}
+use Rattle.deciding.specs.declared.Plan.{Plan}
+use Rattle.deciding.specs.declared.Plan.the-variants.{Untouched, Repeated, Alone, Comes, Begins, RecallsNone, Recalls}
 use Rattle.acting.specs.Doing.{InRows}
 
 abbrev pub knownIn : (references bins : List ℕ) → Known
 knownIn references bins = record { references = entriesIn 2048 references; bins = entriesIn 512 bins }
 
--- the places of a course's entries are places of the tables
-abbrev pub Within : Course → Type 0
+-- the places of a plan's entries are places of the tables
+abbrev pub Within : Plan → Type 0
 Within (Untouched f) = Unit {0}
 Within (Repeated p) = Unit {0}
 Within (Alone q) = q < 2048

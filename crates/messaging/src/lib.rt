@@ -1,7 +1,7 @@
-// A message's action: it is read, a course is chosen for it, what is to be noted is noted, and the course is carried out.
+// A message's action: it is read, a plan is chosen for it, what is to be noted is noted, and the plan is carried out.
 use acting::Acted;
 use codes::Code;
-use deciding::Course;
+use deciding::Plan;
 use tables::Desk;
 ghost use mathlib.Core.Path.{_≡_};
 ghost use Prim.Native.Nat.{_≤_};
@@ -15,28 +15,28 @@ ghost use Rattle.acting.specs.Doing.{stateOn, Actable};
 ghost use Rattle.messaging.specs.Messaging.{knownIn, Within, Noted, Received};
 
 // "the reference is noted", "A new BIN is noted"
-fn note_course(
-    course: Course,
+fn note_plan(
+    plan: Plan,
     reference: Code,
     bin: Code,
     today: u64,
     references: &mut [u64],
     bins: &mut [u64],
 )
-    requires { ⌜ (length (now references) ≡ 6144) × (length (now bins) ≡ 1536) × Within course ⌝ }
-    ensures { λ _. ⌜ Noted (knownBy today reference bin course (knownIn (now (references .entry)) (now (bins .entry)))) (now (references .exit)) (now (bins .exit)) ⌝ }
+    requires { ⌜ (length (now references) ≡ 6144) × (length (now bins) ≡ 1536) × Within plan ⌝ }
+    ensures { λ _. ⌜ Noted (knownBy today reference bin plan (knownIn (now (references .entry)) (now (bins .entry)))) (now (references .exit)) (now (bins .exit)) ⌝ }
 {
-    match course {
-        Course::Untouched(_) => {}
-        Course::Repeated(_) => {}
-        Course::Alone(q) => noting::note(references, q, today, reference),
-        Course::Comes(_, _, q) => noting::note(references, q, today, reference),
-        Course::Begins(_, _, q, k) => {
+    match plan {
+        Plan::Untouched(_) => {}
+        Plan::Repeated(_) => {}
+        Plan::Alone(q) => noting::note(references, q, today, reference),
+        Plan::Comes(_, _, q) => noting::note(references, q, today, reference),
+        Plan::Begins(_, _, q, k) => {
             noting::note(references, q, today, reference);
             noting::note(bins, k, today, bin);
         }
-        Course::RecallsNone(q) => noting::note(references, q, today, reference),
-        Course::Recalls(_, q) => noting::note(references, q, today, reference),
+        Plan::RecallsNone(q) => noting::note(references, q, today, reference),
+        Plan::Recalls(_, q) => noting::note(references, q, today, reference),
     }
 }
 
@@ -64,7 +64,7 @@ pub fn receive(
     let r = request::read_request(text);
     let outcome = r.outcome;
     let head = r.head;
-    let course = deciding::choose(
+    let plan = deciding::choose(
         desk,
         sender,
         outcome,
@@ -82,9 +82,9 @@ pub fn receive(
     let named = address.bin;
     let reference = by.code;
     let bin = named.code;
-    note_course(course, reference, bin, desk.date, references, bins);
+    note_plan(plan, reference, bin, desk.date, references, bins);
     acting::perform(
-        course,
+        plan,
         desk,
         codes,
         flags,

@@ -1,8 +1,7 @@
 -- (b) behind the loading.
 use Prim.Native.Nat.{ℕ}
-use mathlib.Core.Path.{_≡_, ap, _∙_}
+use mathlib.Core.Path.{ap, _∙_}
 use mathlib.Core.List.{List}
-use Rattle.engine.specs.State.{Batches}
 use Rattle.engine.specs.Joining.{join}
 use Rattle.tables.specs.Rows.{batchesIn}
 use Rattle.stages.specs.Stages.{seen, Became}

@@ -1,4 +1,2 @@
 pub mod EdgeLaws
-pub mod ActLaws
-pub mod WorkLaws
 pub mod StepLaws

@@ -1,29 +1,27 @@
 -- A call on an open day leaves what the model's steps leave.
-use Prim.Native.Nat.{ℕ, _+_, _*_, _≤_, _<_}
-use mathlib.Core.Path.{_≡_, refl, sym, ap, subst, _∙_}
+use Prim.Native.Nat.{ℕ, _+_, _*_, _≤_}
+use mathlib.Core.Path.{_≡_, sym, ap, subst, _∙_}
 use mathlib.Core.Bool.{Bool, true, false, cond, false≢true}
 use mathlib.Core.List.{List, _++_}
 use native.Mathlib.Omega.{arith}
-use lib.ListN.{length, take, replicate}
-use lib.Seq.{sets, length-take-le}
+use lib.ListN.{length, replicate}
+use lib.Seq.{length-take-le}
 use Rattle.book.specs.Accounts.{streamRow}
-use Rattle.settle.specs.Settlement.{Accounts, accounts}
+use Rattle.settle.specs.Settlement.{Accounts}
 use Rattle.queue.specs.Tests.{Outcome}
 use Rattle.queue.specs.Memory.{forgotten}
-use Rattle.queue.proofs.MemoryLaws.{byBool}
 use Rattle.engine.specs.declared.Action.{Action}
 use Rattle.engine.specs.declared.Answer.{Answer}
 use Rattle.engine.specs.declared.Phase.{Phase}
-use Rattle.engine.specs.declared.Phase.the-variants.{Open, Closed}
-use Rattle.engine.specs.State.{Batches, Entry, Known, State, noBatches, noMemory}
+use Rattle.engine.specs.declared.Phase.the-variants.{Closed}
+use Rattle.engine.specs.State.{Batches, Entry, State, noBatches, noMemory}
 use Rattle.engine.specs.Replies.{Reply, textsFrom}
 use Rattle.engine.specs.Kinds.{isClose, ownOf}
 use Rattle.engine.specs.Joining.{join}
 use Rattle.engine.specs.Messages.{Acted}
 use Rattle.engine.specs.Ending.{closeReplies}
-use Rattle.engine.specs.Calls.{Call, Engine, Result, begun, act, tested, replies, left, lastReplies, goesOn, closes, stepped}
-use Rattle.engine.specs.Rules.{Opened, Valid, ValidIn}
-use Rattle.engine.specs.Answered.{steppedReplies}
+use Rattle.engine.specs.Calls.{Call, Engine, begun, act, tested, replies, left, lastReplies, goesOn, closes, stepped}
+use Rattle.engine.specs.Rules.{Opened, ValidIn}
 use Rattle.engine.proofs.Reading.{readers}
 use Rattle.engine.proofs.Keeping.{tested-stood}
 use Rattle.engine.proofs.Validity.{valid-kept}
@@ -32,7 +30,7 @@ use Rattle.tables.specs.declared.Desk.{Desk}
 use Rattle.tables.specs.Moment.{movedTo, callFor, lentWith}
 use Rattle.tables.specs.Rows.{Tables, batchesIn, memoryIn, entriesIn, streamsOn, stateIn, engineIn}
 use Rattle.tables.specs.Words.{filled, entriesWords, tablesOf, deskOf}
-use Rattle.tables.specs.Lent.{Right, leftBy}
+use Rattle.tables.specs.Lent.{leftBy}
 use Rattle.table_rules.proofs.Parts.{entries-words, none-words}
 use Rattle.granted.proofs.Granted.{Granted, open-grants}
 use Rattle.stages.specs.Heads.{NeatTable, wordsOf}
@@ -41,7 +39,8 @@ use Rattle.stages.proofs.Canon.{stored-so}
 use Rattle.replies.specs.Writing.{Wrote, Room, Legible, batchesOn}
 use Rattle.replies.proofs.Laws.{legible, close-any, room-first, room-rest, wrote-then}
 use Rattle.replies.proofs.Whole.{stepped-room}
-use Rattle.stepping.specs.Stepping.{middle, actedIn, testedIn, Workable, Worked, Steppable, lentAs, leftAs, deskAfter}
+use Rattle.working.specs.Working.{middle, actedIn, testedIn, Workable, Worked}
+use Rattle.stepping.specs.Stepping.{Steppable, lentAs, leftAs, deskAfter}
 
 module _ (quick : Bool) (d : Desk) (x : Action) (clock : ℕ) (input codes flags balances limits t rs bs out r : List ℕ)
     (k : Steppable d (lentWith codes flags balances limits t rs bs) clock x out r) where

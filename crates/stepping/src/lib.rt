@@ -1,7 +1,5 @@
 // A call on a day that is open: (a) to (d), and the close.
-mod acts;
 mod edges;
-mod works;
 
 use engine::Action;
 use engine::Answer;
@@ -81,7 +79,7 @@ pub fn step(
     let mut memory = [0u64; 32];
     let moved = tables::moment::moved(desk, clock);
     let found = edges::begin(batches, &mut queue, &mut pending, &mut memory, clock);
-    let done = works::work(
+    let done = working::work(
         quick,
         action,
         moved,

@@ -14,60 +14,60 @@ use Rattle.acting.proofs.taking.admit.Reads as admit-reads
 use Rattle.acting.proofs.taking.begin.Reads as begin-reads
 
 -- src/lib.rt:50:27
-enum-known-course : tie.Need-enum-known-course
-enum-known-course c = search needs
+enum-known-plan : tie.Need-enum-known-plan
+enum-known-plan c = search needs
 
 -- src/lib.rt:57:26
-enum-known-course-2 : tie.Need-enum-known-course-2
-enum-known-course-2 c = search needs
+enum-known-plan-2 : tie.Need-enum-known-plan-2
+enum-known-plan-2 c = search needs
 
 -- src/lib.rt:57:32
 repeat-requires : tie.Need-repeat-requires
-repeat-requires c κs = ((c .before .before .before .before .before .before .before .before .before .before .before .before .before .before .before .before .pre .0 .ready, act-legible _ _ _ _ _ _ _ _ _ (c .before .before .before .before .before .before .before .before .before .before .before .before .before .before .before .before .pre .0), assembling-below _ _ _ _ _ _ _ _ _ (c .before .before .before .before .before .before .before .before .before .before .before .before .before .before .before .before .pre .0) _ _ (apt-repeated _ _ _ (c .before .before .before .before .before .before .before .before .before .before .before .before .before .before .before .before .pre .1) _ (c .before .before .before .before .before .before .course2 .given .1))), at-room _ _ _ _ _ _ _ _ _ (c .before .before .before .before .before .before .before .before .before .before .before .before .before .before .before .before .pre .0) _ UsedReference)
+repeat-requires c κs = ((c .before .before .before .before .before .before .before .before .before .before .before .before .before .before .before .before .pre .0 .ready, act-legible _ _ _ _ _ _ _ _ _ (c .before .before .before .before .before .before .before .before .before .before .before .before .before .before .before .before .pre .0), assembling-below _ _ _ _ _ _ _ _ _ (c .before .before .before .before .before .before .before .before .before .before .before .before .before .before .before .before .pre .0) _ _ (apt-repeated _ _ _ (c .before .before .before .before .before .before .before .before .before .before .before .before .before .before .before .before .pre .1) _ (c .before .before .before .before .before .before .plan2 .given .1))), at-room _ _ _ _ _ _ _ _ _ (c .before .before .before .before .before .before .before .before .before .before .before .before .before .before .before .before .pre .0) _ UsedReference)
 
 -- src/lib.rt:60:23
-enum-known-course-3 : tie.Need-enum-known-course-3
-enum-known-course-3 c = search needs
+enum-known-plan-3 : tie.Need-enum-known-plan-3
+enum-known-plan-3 c = search needs
 
 -- src/lib.rt:60:29
 refuse-alone-requires : tie.Need-refuse-alone-requires
-refuse-alone-requires c κs = alone-fits _ _ _ _ _ _ _ _ _ (c .before .before .before .before .before .before .before .before .before .before .before .before .pre .0) (c .before .before .before .before .before .before .before .before .before .before .before .before .args .r) Malformed (apt-alone _ _ _ (c .before .before .before .before .before .before .before .before .before .before .before .before .pre .1) _ (c .before .before .course3 .given .1))
+refuse-alone-requires c κs = alone-fits _ _ _ _ _ _ _ _ _ (c .before .before .before .before .before .before .before .before .before .before .before .before .pre .0) (c .before .before .before .before .before .before .before .before .before .before .before .before .args .r) Malformed (apt-alone _ _ _ (c .before .before .before .before .before .before .before .before .before .before .before .before .pre .1) _ (c .before .before .plan3 .given .1))
 
 -- src/lib.rt:61:23
-enum-known-course-4 : tie.Need-enum-known-course-4
-enum-known-course-4 c = search needs
+enum-known-plan-4 : tie.Need-enum-known-plan-4
+enum-known-plan-4 c = search needs
 
 -- src/lib.rt:61:35
 admit-requires : tie.Need-admit-requires
-admit-requires c κs = (comes-takeable _ _ _ _ _ _ _ _ _ (c .before .before .before .before .before .before .before .before .before .before .before .before .before .before .before .before .pre .0) _ _ ((apt-comes _ _ _ (c .before .before .before .before .before .before .before .before .before .before .before .before .before .before .before .before .pre .1) _ _ _ (c .before .before .before .before .before .before .course4 .given .1)) .0) ((apt-comes _ _ _ (c .before .before .before .before .before .before .before .before .before .before .before .before .before .before .before .before .pre .1) _ _ _ (c .before .before .before .before .before .before .course4 .given .1)) .1) ((apt-comes _ _ _ (c .before .before .before .before .before .before .before .before .before .before .before .before .before .before .before .before .pre .1) _ _ _ (c .before .before .before .before .before .before .course4 .given .1)) .2), (apt-comes _ _ _ (c .before .before .before .before .before .before .before .before .before .before .before .before .before .before .before .before .pre .1) _ _ _ (c .before .before .before .before .before .before .course4 .given .1)) .3)
+admit-requires c κs = (comes-takeable _ _ _ _ _ _ _ _ _ (c .before .before .before .before .before .before .before .before .before .before .before .before .before .before .before .before .pre .0) _ _ ((apt-comes _ _ _ (c .before .before .before .before .before .before .before .before .before .before .before .before .before .before .before .before .pre .1) _ _ _ (c .before .before .before .before .before .before .plan4 .given .1)) .0) ((apt-comes _ _ _ (c .before .before .before .before .before .before .before .before .before .before .before .before .before .before .before .before .pre .1) _ _ _ (c .before .before .before .before .before .before .plan4 .given .1)) .1) ((apt-comes _ _ _ (c .before .before .before .before .before .before .before .before .before .before .before .before .before .before .before .before .pre .1) _ _ _ (c .before .before .before .before .before .before .plan4 .given .1)) .2), (apt-comes _ _ _ (c .before .before .before .before .before .before .before .before .before .before .before .before .before .before .before .before .pre .1) _ _ _ (c .before .before .before .before .before .before .plan4 .given .1)) .3)
 
 -- src/lib.rt:64:24
-enum-known-course-5 : tie.Need-enum-known-course-5
-enum-known-course-5 c = search needs
+enum-known-plan-5 : tie.Need-enum-known-plan-5
+enum-known-plan-5 c = search needs
 
 -- src/lib.rt:64:39
 begin-requires : tie.Need-begin-requires
-begin-requires c κs = (begins-able _ _ _ _ _ _ _ _ _ (c .before .before .before .before .before .before .before .before .before .before .before .before .before .before .before .before .pre .0) _ _ ((apt-begins _ _ _ (c .before .before .before .before .before .before .before .before .before .before .before .before .before .before .before .before .pre .1) _ _ _ _ (c .before .before .before .before .before .before .course5 .given .1)) .0) ((apt-begins _ _ _ (c .before .before .before .before .before .before .before .before .before .before .before .before .before .before .before .before .pre .1) _ _ _ _ (c .before .before .before .before .before .before .course5 .given .1)) .1) ((apt-begins _ _ _ (c .before .before .before .before .before .before .before .before .before .before .before .before .before .before .before .before .pre .1) _ _ _ _ (c .before .before .before .before .before .before .course5 .given .1)) .2), (apt-begins _ _ _ (c .before .before .before .before .before .before .before .before .before .before .before .before .before .before .before .before .pre .1) _ _ _ _ (c .before .before .before .before .before .before .course5 .given .1)) .3)
+begin-requires c κs = (begins-able _ _ _ _ _ _ _ _ _ (c .before .before .before .before .before .before .before .before .before .before .before .before .before .before .before .before .pre .0) _ _ ((apt-begins _ _ _ (c .before .before .before .before .before .before .before .before .before .before .before .before .before .before .before .before .pre .1) _ _ _ _ (c .before .before .before .before .before .before .plan5 .given .1)) .0) ((apt-begins _ _ _ (c .before .before .before .before .before .before .before .before .before .before .before .before .before .before .before .before .pre .1) _ _ _ _ (c .before .before .before .before .before .before .plan5 .given .1)) .1) ((apt-begins _ _ _ (c .before .before .before .before .before .before .before .before .before .before .before .before .before .before .before .before .pre .1) _ _ _ _ (c .before .before .before .before .before .before .plan5 .given .1)) .2), (apt-begins _ _ _ (c .before .before .before .before .before .before .before .before .before .before .before .before .before .before .before .before .pre .1) _ _ _ _ (c .before .before .before .before .before .before .plan5 .given .1)) .3)
 
 -- src/lib.rt:67:29
-enum-known-course-6 : tie.Need-enum-known-course-6
-enum-known-course-6 c = search needs
+enum-known-plan-6 : tie.Need-enum-known-plan-6
+enum-known-plan-6 c = search needs
 
 -- src/lib.rt:67:35
 recall-none-requires : tie.Need-recall-none-requires
-recall-none-requires c κs = kept-fits _ _ _ _ _ _ _ _ _ (c .before .before .before .before .before .before .before .before .before .before .before .before .pre .0) (c .before .before .before .before .before .before .before .before .before .before .before .before .args .r) NothingThere (apt-none _ _ _ (c .before .before .before .before .before .before .before .before .before .before .before .before .pre .1) _ (c .before .before .course6 .given .1))
+recall-none-requires c κs = kept-fits _ _ _ _ _ _ _ _ _ (c .before .before .before .before .before .before .before .before .before .before .before .before .pre .0) (c .before .before .before .before .before .before .before .before .before .before .before .before .args .r) NothingThere (apt-none _ _ _ (c .before .before .before .before .before .before .before .before .before .before .before .before .pre .1) _ (c .before .before .plan6 .given .1))
 
 -- src/lib.rt:68:25
-enum-known-course-7 : tie.Need-enum-known-course-7
-enum-known-course-7 c = search needs
+enum-known-plan-7 : tie.Need-enum-known-plan-7
+enum-known-plan-7 c = search needs
 
 -- src/lib.rt:68:34
 recall-requires : tie.Need-recall-requires
-recall-requires c κs = ((c .before .before .before .before .before .before .before .before .before .before .before .before .before .before .before .before .pre .0 .ready, act-legible _ _ _ _ _ _ _ _ _ (c .before .before .before .before .before .before .before .before .before .before .before .before .before .before .before .before .pre .0), waiting-below _ _ _ _ _ _ _ _ _ (c .before .before .before .before .before .before .before .before .before .before .before .before .before .before .before .before .pre .0) _ _ ((apt-recalls _ _ _ (c .before .before .before .before .before .before .before .before .before .before .before .before .before .before .before .before .pre .1) _ _ (c .before .before .before .before .before .before .course7 .given .1)) .0)), recall-fits _ _ _ _ _ _ _ _ _ (c .before .before .before .before .before .before .before .before .before .before .before .before .before .before .before .before .pre .0) (c .before .before .before .before .before .before .before .before .before .before .before .before .before .before .before .before .args .r) _ ((apt-recalls _ _ _ (c .before .before .before .before .before .before .before .before .before .before .before .before .before .before .before .before .pre .1) _ _ (c .before .before .before .before .before .before .course7 .given .1)) .1))
+recall-requires c κs = ((c .before .before .before .before .before .before .before .before .before .before .before .before .before .before .before .before .pre .0 .ready, act-legible _ _ _ _ _ _ _ _ _ (c .before .before .before .before .before .before .before .before .before .before .before .before .before .before .before .before .pre .0), waiting-below _ _ _ _ _ _ _ _ _ (c .before .before .before .before .before .before .before .before .before .before .before .before .before .before .before .before .pre .0) _ _ ((apt-recalls _ _ _ (c .before .before .before .before .before .before .before .before .before .before .before .before .before .before .before .before .pre .1) _ _ (c .before .before .before .before .before .before .plan7 .given .1)) .0)), recall-fits _ _ _ _ _ _ _ _ _ (c .before .before .before .before .before .before .before .before .before .before .before .before .before .before .before .before .pre .0) (c .before .before .before .before .before .before .before .before .before .before .before .before .before .before .before .before .args .r) _ ((apt-recalls _ _ _ (c .before .before .before .before .before .before .before .before .before .before .before .before .before .before .before .before .pre .1) _ _ (c .before .before .before .before .before .before .plan7 .given .1)) .1))
 
 -- src/lib.rt:30:1
 returns : tie.Need-returns
-returns c = λ n o z. untouched-so _ _ _ _ _ _ _ _ _ (c .before .before .before .before .before .before .before .before .before .before .before .pre .0) _ _ n o z _ _ (c .before .course .given .1)
+returns c = λ n o z. untouched-so _ _ _ _ _ _ _ _ _ (c .before .before .before .before .before .before .before .before .before .before .before .pre .0) _ _ n o z _ _ (c .before .plan .given .1)
 
 -- src/lib.rt:30:1
 same-length : tie.Need-same-length
@@ -91,7 +91,7 @@ same-length-5 c = search needs
 
 -- src/lib.rt:30:1
 returns-2 : tie.Need-returns-2
-returns-2 c = λ n o z. repeated-so _ _ _ _ _ _ _ _ _ (c .before .before .before .before .before .before .before .before .before .before .before .before .before .before .before .before .before .before .before .before .before .before .before .before .before .before .before .pre .0) _ _ n o z _ _ _ _ _ _ _ _ _ _ _ _ (c .before .before .before .before .before .before .before .before .before .before .before .before .before .before .before .before .before .course2 .given .1) (apt-repeated _ _ _ (c .before .before .before .before .before .before .before .before .before .before .before .before .before .before .before .before .before .before .before .before .before .before .before .before .before .before .before .pre .1) _ (c .before .before .before .before .before .before .before .before .before .before .before .before .before .before .before .before .before .course2 .given .1)) (c .before .before .before .before .before .before .before .before .before .before .repeat .ensures)
+returns-2 c = λ n o z. repeated-so _ _ _ _ _ _ _ _ _ (c .before .before .before .before .before .before .before .before .before .before .before .before .before .before .before .before .before .before .before .before .before .before .before .before .before .before .before .pre .0) _ _ n o z _ _ _ _ _ _ _ _ _ _ _ _ (c .before .before .before .before .before .before .before .before .before .before .before .before .before .before .before .before .before .plan2 .given .1) (apt-repeated _ _ _ (c .before .before .before .before .before .before .before .before .before .before .before .before .before .before .before .before .before .before .before .before .before .before .before .before .before .before .before .pre .1) _ (c .before .before .before .before .before .before .before .before .before .before .before .before .before .before .before .before .before .plan2 .given .1)) (c .before .before .before .before .before .before .before .before .before .before .repeat .ensures)
 
 -- src/lib.rt:30:1
 same-length-6 : tie.Need-same-length-6
@@ -99,7 +99,7 @@ same-length-6 c = search needs
 
 -- src/lib.rt:30:1
 returns-3 : tie.Need-returns-3
-returns-3 c = λ n o z. alone-so _ _ _ _ _ _ _ _ _ (c .before .before .before .before .before .before .before .before .before .before .before .before .before .before .before .pre .0) _ _ n o z _ _ _ _ _ _ _ _ (c .before .before .before .before .before .course3 .given .1) (c .before .before .refuse-alone .ensures)
+returns-3 c = λ n o z. alone-so _ _ _ _ _ _ _ _ _ (c .before .before .before .before .before .before .before .before .before .before .before .before .before .before .before .pre .0) _ _ n o z _ _ _ _ _ _ _ _ (c .before .before .before .before .before .plan3 .given .1) (c .before .before .refuse-alone .ensures)
 
 -- src/lib.rt:30:1
 same-length-7 : tie.Need-same-length-7
@@ -123,7 +123,7 @@ same-length-11 c = search needs
 
 -- src/lib.rt:30:1
 returns-4 : tie.Need-returns-4
-returns-4 c = comes-so _ _ _ _ _ _ _ _ _ (c .before .before .before .before .before .before .before .before .before .before .before .before .before .before .before .before .before .before .before .before .before .before .before .before .before .before .before .pre .0) _ _ _ _ _ (c .before .before .before .before .before .before .before .before .before .before .before .before .before .before .before .before .before .course4 .given .1) (comes-takeable _ _ _ _ _ _ _ _ _ (c .before .before .before .before .before .before .before .before .before .before .before .before .before .before .before .before .before .before .before .before .before .before .before .before .before .before .before .pre .0) _ _ ((apt-comes _ _ _ (c .before .before .before .before .before .before .before .before .before .before .before .before .before .before .before .before .before .before .before .before .before .before .before .before .before .before .before .pre .1) _ _ _ (c .before .before .before .before .before .before .before .before .before .before .before .before .before .before .before .before .before .course4 .given .1)) .0) ((apt-comes _ _ _ (c .before .before .before .before .before .before .before .before .before .before .before .before .before .before .before .before .before .before .before .before .before .before .before .before .before .before .before .pre .1) _ _ _ (c .before .before .before .before .before .before .before .before .before .before .before .before .before .before .before .before .before .course4 .given .1)) .1) ((apt-comes _ _ _ (c .before .before .before .before .before .before .before .before .before .before .before .before .before .before .before .before .before .before .before .before .before .before .before .before .before .before .before .pre .1) _ _ _ (c .before .before .before .before .before .before .before .before .before .before .before .before .before .before .before .before .before .course4 .given .1)) .2)) _ _ _ _ _ _ _ _ _ _ _ (c .before .before .before .before .before .before .before .before .before .before .admit .ensures)
+returns-4 c = comes-so _ _ _ _ _ _ _ _ _ (c .before .before .before .before .before .before .before .before .before .before .before .before .before .before .before .before .before .before .before .before .before .before .before .before .before .before .before .pre .0) _ _ _ _ _ (c .before .before .before .before .before .before .before .before .before .before .before .before .before .before .before .before .before .plan4 .given .1) (comes-takeable _ _ _ _ _ _ _ _ _ (c .before .before .before .before .before .before .before .before .before .before .before .before .before .before .before .before .before .before .before .before .before .before .before .before .before .before .before .pre .0) _ _ ((apt-comes _ _ _ (c .before .before .before .before .before .before .before .before .before .before .before .before .before .before .before .before .before .before .before .before .before .before .before .before .before .before .before .pre .1) _ _ _ (c .before .before .before .before .before .before .before .before .before .before .before .before .before .before .before .before .before .plan4 .given .1)) .0) ((apt-comes _ _ _ (c .before .before .before .before .before .before .before .before .before .before .before .before .before .before .before .before .before .before .before .before .before .before .before .before .before .before .before .pre .1) _ _ _ (c .before .before .before .before .before .before .before .before .before .before .before .before .before .before .before .before .before .plan4 .given .1)) .1) ((apt-comes _ _ _ (c .before .before .before .before .before .before .before .before .before .before .before .before .before .before .before .before .before .before .before .before .before .before .before .before .before .before .before .pre .1) _ _ _ (c .before .before .before .before .before .before .before .before .before .before .before .before .before .before .before .before .before .plan4 .given .1)) .2)) _ _ _ _ _ _ _ _ _ _ _ (c .before .before .before .before .before .before .before .before .before .before .admit .ensures)
 
 -- src/lib.rt:30:1
 same-length-12 : tie.Need-same-length-12
@@ -147,7 +147,7 @@ same-length-16 c = search needs
 
 -- src/lib.rt:30:1
 returns-5 : tie.Need-returns-5
-returns-5 c = begins-so _ _ _ _ _ _ _ _ _ (c .before .before .before .before .before .before .before .before .before .before .before .before .before .before .before .before .before .before .before .before .before .before .before .before .before .before .before .pre .0) _ _ _ _ _ _ (c .before .before .before .before .before .before .before .before .before .before .before .before .before .before .before .before .before .course5 .given .1) _ _ _ _ _ _ _ _ _ _ _ (c .before .before .before .before .before .before .before .before .before .before .begin .ensures)
+returns-5 c = begins-so _ _ _ _ _ _ _ _ _ (c .before .before .before .before .before .before .before .before .before .before .before .before .before .before .before .before .before .before .before .before .before .before .before .before .before .before .before .pre .0) _ _ _ _ _ _ (c .before .before .before .before .before .before .before .before .before .before .before .before .before .before .before .before .before .plan5 .given .1) _ _ _ _ _ _ _ _ _ _ _ (c .before .before .before .before .before .before .before .before .before .before .begin .ensures)
 
 -- src/lib.rt:30:1
 same-length-17 : tie.Need-same-length-17
@@ -155,7 +155,7 @@ same-length-17 c = search needs
 
 -- src/lib.rt:30:1
 returns-6 : tie.Need-returns-6
-returns-6 c = λ n o z. none-so _ _ _ _ _ _ _ _ _ (c .before .before .before .before .before .before .before .before .before .before .before .before .before .before .before .pre .0) _ _ n o z _ _ _ _ _ _ _ _ (c .before .before .before .before .before .course6 .given .1) (c .before .before .recall-none .ensures)
+returns-6 c = λ n o z. none-so _ _ _ _ _ _ _ _ _ (c .before .before .before .before .before .before .before .before .before .before .before .before .before .before .before .pre .0) _ _ n o z _ _ _ _ _ _ _ _ (c .before .before .before .before .before .plan6 .given .1) (c .before .before .recall-none .ensures)
 
 -- src/lib.rt:30:1
 same-length-18 : tie.Need-same-length-18
@@ -179,24 +179,24 @@ same-length-22 c = search needs
 
 -- src/lib.rt:30:1
 returns-7 : tie.Need-returns-7
-returns-7 c = λ n o z. recalled-so _ _ _ _ _ _ _ _ _ (c .before .before .before .before .before .before .before .before .before .before .before .before .before .before .before .before .before .before .before .before .before .before .before .before .before .before .before .pre .0) _ _ n o z _ _ _ _ _ _ _ _ _ _ _ _ _ (c .before .before .before .before .before .before .before .before .before .before .before .before .before .before .before .before .before .course7 .given .1) ((apt-recalls _ _ _ (c .before .before .before .before .before .before .before .before .before .before .before .before .before .before .before .before .before .before .before .before .before .before .before .before .before .before .before .pre .1) _ _ (c .before .before .before .before .before .before .before .before .before .before .before .before .before .before .before .before .before .course7 .given .1)) .0) (c .before .before .before .before .before .before .before .before .before .before .recall .ensures)
+returns-7 c = λ n o z. recalled-so _ _ _ _ _ _ _ _ _ (c .before .before .before .before .before .before .before .before .before .before .before .before .before .before .before .before .before .before .before .before .before .before .before .before .before .before .before .pre .0) _ _ n o z _ _ _ _ _ _ _ _ _ _ _ _ _ (c .before .before .before .before .before .before .before .before .before .before .before .before .before .before .before .before .before .plan7 .given .1) ((apt-recalls _ _ _ (c .before .before .before .before .before .before .before .before .before .before .before .before .before .before .before .before .before .before .before .before .before .before .before .before .before .before .before .pre .1) _ _ (c .before .before .before .before .before .before .before .before .before .before .before .before .before .before .before .before .before .plan7 .given .1)) .0) (c .before .before .before .before .before .before .before .before .before .before .recall .ensures)
 
 pub perform-spec : {M : Type 1} → statement M
 perform-spec =
     tie.close
     (tie.spec
-    enum-known-course
-    enum-known-course-2
+    enum-known-plan
+    enum-known-plan-2
     repeat-requires
-    enum-known-course-3
+    enum-known-plan-3
     refuse-alone-requires
-    enum-known-course-4
+    enum-known-plan-4
     admit-requires
-    enum-known-course-5
+    enum-known-plan-5
     begin-requires
-    enum-known-course-6
+    enum-known-plan-6
     recall-none-requires
-    enum-known-course-7
+    enum-known-plan-7
     recall-requires
     returns
     same-length

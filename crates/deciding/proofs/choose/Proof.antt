@@ -1,12 +1,12 @@
-use Rattle.deciding.proofs.CourseLaws.{course-broken, course-not, recall-not, course-settlement, course-recall}
+use Rattle.deciding.proofs.PlanLaws.{plan-broken, plan-not, recall-not, plan-settlement, plan-recall}
 use borrow.Author.Needs.{needs}
 use Rattle.deciding.proofs.choose.Statement.{statement}
 use Rattle.deciding.proofs.choose.Tie as tie
 use Rattle.deciding.proofs.choose.Reads as reads
 use Rattle.deciding.proofs.choose.Lts as lts
-use Rattle.deciding.proofs.recall_course.Reads as recall-course-reads
+use Rattle.deciding.proofs.recall_plan.Reads as recall-plan-reads
 use Rattle.deciding.proofs.sender_stream.Reads as sender-stream-reads
-use Rattle.deciding.proofs.settlement_course.Reads as settlement-course-reads
+use Rattle.deciding.proofs.settlement_plan.Reads as settlement-plan-reads
 
 -- src/lib.rt:200:26
 enum-known-outcome : tie.Need-enum-known-outcome
@@ -25,8 +25,8 @@ enum-known-from : tie.Need-enum-known-from
 enum-known-from c = search needs
 
 -- src/lib.rt:207:32
-settlement-course-requires : tie.Need-settlement-course-requires
-settlement-course-requires c κs = search needs
+settlement-plan-requires : tie.Need-settlement-plan-requires
+settlement-plan-requires c κs = search needs
 
 -- src/lib.rt:220:27
 enum-known-from-2 : tie.Need-enum-known-from-2
@@ -45,8 +45,8 @@ enum-told-3 : tie.Need-enum-told-3
 enum-told-3 c = search needs
 
 -- src/lib.rt:226:32
-recall-course-requires : tie.Need-recall-course-requires
-recall-course-requires c κs = search needs
+recall-plan-requires : tie.Need-recall-plan-requires
+recall-plan-requires c κs = search needs
 
 -- src/lib.rt:237:27
 enum-known-from-3 : tie.Need-enum-known-from-3
@@ -54,19 +54,19 @@ enum-known-from-3 c = search needs
 
 -- src/lib.rt:176:1
 returns : tie.Need-returns
-returns c = search (needs, course-broken)
+returns c = search (needs, plan-broken)
 
 -- src/lib.rt:176:1
 returns-2 : tie.Need-returns-2
-returns-2 c = search (needs, course-settlement)
+returns-2 c = search (needs, plan-settlement)
 
 -- src/lib.rt:176:1
 returns-3 : tie.Need-returns-3
-returns-3 c = search (needs, course-not)
+returns-3 c = search (needs, plan-not)
 
 -- src/lib.rt:176:1
 returns-4 : tie.Need-returns-4
-returns-4 c = search (needs, course-recall)
+returns-4 c = search (needs, plan-recall)
 
 -- src/lib.rt:176:1
 returns-5 : tie.Need-returns-5
@@ -80,12 +80,12 @@ choose-spec =
     enum-told
     sender-stream-requires
     enum-known-from
-    settlement-course-requires
+    settlement-plan-requires
     enum-known-from-2
     enum-told-2
     sender-stream-requires-2
     enum-told-3
-    recall-course-requires
+    recall-plan-requires
     enum-known-from-3
     returns
     returns-2

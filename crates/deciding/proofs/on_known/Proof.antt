@@ -1,4 +1,4 @@
-use Rattle.deciding.proofs.CourseLaws.{known-here, known-none}
+use Rattle.deciding.proofs.PlanLaws.{known-here, known-none}
 use borrow.Author.Needs.{needs}
 use Rattle.deciding.proofs.on_known.Statement.{statement}
 use Rattle.deciding.proofs.on_known.Tie as tie

@@ -1,4 +1,4 @@
-use Rattle.deciding.proofs.CourseLaws.{new-none, new-no-bin, new-here}
+use Rattle.deciding.proofs.PlanLaws.{new-none, new-no-bin, new-here}
 use borrow.Author.Needs.{needs}
 use Rattle.deciding.proofs.on_new.Statement.{statement}
 use Rattle.deciding.proofs.on_new.Tie as tie

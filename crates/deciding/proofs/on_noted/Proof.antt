@@ -1,4 +1,4 @@
-use Rattle.deciding.proofs.CourseLaws.{noted-known, noted-new}
+use Rattle.deciding.proofs.PlanLaws.{noted-known, noted-new}
 use borrow.Author.Needs.{needs}
 use Rattle.deciding.proofs.on_noted.Statement.{statement}
 use Rattle.deciding.proofs.on_noted.Tie as tie

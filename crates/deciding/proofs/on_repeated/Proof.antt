@@ -1,4 +1,4 @@
-use Rattle.deciding.proofs.CourseLaws.{repeated-here, repeated-none}
+use Rattle.deciding.proofs.PlanLaws.{repeated-here, repeated-none}
 use borrow.Author.Needs.{needs}
 use Rattle.deciding.proofs.on_repeated.Statement.{statement}
 use Rattle.deciding.proofs.on_repeated.Tie as tie

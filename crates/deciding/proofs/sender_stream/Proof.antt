@@ -1,5 +1,5 @@
 use native.Mathlib.Omega.{arith}
-use Rattle.deciding.proofs.CourseLaws.{sent-none, sent-in, sent-not, stream-below}
+use Rattle.deciding.proofs.PlanLaws.{sent-none, sent-in, sent-not, stream-below}
 use borrow.Author.Needs.{needs}
 use Rattle.deciding.proofs.sender_stream.Statement.{statement}
 use Rattle.deciding.proofs.sender_stream.Tie as tie

@@ -12,8 +12,8 @@ choose-requires c κs =
     let start = c .before .before .before .before .before .before .before .before .before .before .before .before .before .before .before .before .before in
     (start .pre .1 .0, record { table = start .pre .0 .ready .table .long; queue = start .pre .0 .ready .queue; pending = start .pre .0 .ready .pending; references = start .pre .1 .1; bins = start .pre .1 .2 })
 
-note-course-requires : tie.Need-note-course-requires
-note-course-requires c κs =
+note-plan-requires : tie.Need-note-plan-requires
+note-plan-requires c κs =
     let start = c .before .before .before .before .before .before .before .before .before .before .before .before .before .before .before .before .before .before .before .before .before .before .before .before .before in
     (start .pre .1 .1, start .pre .1 .2, chosen-good (start .args .desk) (start .pre .1 .0) (seen (start .args .batches .now) (start .args .queue .now) (start .args .nq) (start .args .pending .now) (start .args .nw)) (start .args .references .now) (start .args .bins .now) _ (start .args .sender) _ _ (c .before .before .before .before .before .before .before .before .before .before .before .before .before .before .read-request .ensures) (c .before .before .before .before .before .before .before .choose .ensures) .1)
 
@@ -46,7 +46,7 @@ same-length-7 c = search needs
 returns : tie.Need-returns
 returns c =
     let start = c .before .before .before .before .before .before .before .before .before .before .before .before .before .before .before .before .before .before .before .before .before .before .before .before .before .before .before .before .before .before .before .before .before .before .before .before .before .before .before .before .before .before .before .before .before .before in
-    received _ _ _ _ _ _ _ _ _ (start .pre .0) (start .pre .1 .0) _ _ _ _ _ (c .before .before .before .before .before .before .before .before .before .before .before .before .before .before .before .before .before .before .before .before .before .before .before .before .before .before .before .before .before .before .before .before .before .before .before .read-request .ensures) _ (c .before .before .before .before .before .before .before .before .before .before .before .before .before .before .before .before .before .before .before .before .before .before .before .before .before .before .before .before .choose .ensures) _ _ (c .before .before .before .before .before .before .before .before .before .before .before .before .before .before .before .before .before .before .before .before .note-course .ensures) _ _ _ _ _ _ _ _ _ _ _ (c .before .before .before .before .before .before .before .before .before .before .perform .ensures)
+    received _ _ _ _ _ _ _ _ _ (start .pre .0) (start .pre .1 .0) _ _ _ _ _ (c .before .before .before .before .before .before .before .before .before .before .before .before .before .before .before .before .before .before .before .before .before .before .before .before .before .before .before .before .before .before .before .before .before .before .before .read-request .ensures) _ (c .before .before .before .before .before .before .before .before .before .before .before .before .before .before .before .before .before .before .before .before .before .before .before .before .before .before .before .before .choose .ensures) _ _ (c .before .before .before .before .before .before .before .before .before .before .before .before .before .before .before .before .before .before .before .before .note-plan .ensures) _ _ _ _ _ _ _ _ _ _ _ (c .before .before .before .before .before .before .before .before .before .before .perform .ensures)
 
 pub receive-spec : {M : Type 1} → statement M
 receive-spec =
@@ -54,7 +54,7 @@ receive-spec =
     (tie.spec
     read-request-requires
     choose-requires
-    note-course-requires
+    note-plan-requires
     perform-requires
     same-length
     same-length-2

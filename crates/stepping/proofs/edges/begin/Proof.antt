@@ -1,5 +1,4 @@
 use borrow.Author.Needs.{needs}
-use native.Mathlib.Omega.{arith}
 use Rattle.stepping.proofs.EdgeLaws.{loaded-joined}
 use Rattle.stepping.proofs.edges.begin.Statement.{statement}
 use Rattle.stepping.proofs.edges.begin.Tie as tie

@@ -1,8 +1,7 @@
 -- (c): each action leaves in the rows what the model's action leaves.
-use Prim.Native.Nat.{ℕ, _≤_}
-use mathlib.Core.Path.{_≡_, refl, sym, ap, subst, _∙_}
+use Prim.Native.Nat.{ℕ}
+use mathlib.Core.Path.{_≡_, refl, sym, ap, subst}
 use mathlib.Core.List.{List, []}
-use lib.ListN.{length}
 use Rattle.codes.specs.declared.Code.{Code}
 use Rattle.request.specs.Request.{requestAt}
 use Rattle.request.specs.declared.Reading.{Reading}
@@ -11,20 +10,20 @@ use Rattle.engine.specs.declared.Action.{Action}
 use Rattle.engine.specs.declared.Action.the-variants.{Opening, Message, SubLimit, Status, Tick, Close, ClosingBook}
 use Rattle.engine.specs.declared.Answer.{Answer}
 use Rattle.engine.specs.declared.Answer.the-variants.{Done}
-use Rattle.engine.specs.State.{Batches, Known, State}
+use Rattle.engine.specs.State.{Known, State}
 use Rattle.engine.specs.Replies.{Reply}
 use Rattle.engine.specs.Messages.{Acted, leaving, message}
 use Rattle.engine.specs.Changes.{subLimit, status}
 use Rattle.engine.specs.Calls.{woken, act}
 use Rattle.engine.proofs.Doing.{Told, idle, alone, repeats, recalls, completes, grows, rejects, did-message}
 use Rattle.tables.specs.declared.Desk.{Desk}
-use Rattle.stages.specs.Stages.{seen, Ready, Became}
+use Rattle.stages.specs.Stages.{seen, Ready}
 use Rattle.replies.specs.Writing.{Wrote}
 use Rattle.replies.proofs.Laws.{wrote-none}
 use Rattle.acting.specs.Doing.{stateOn, Actable}
-use Rattle.messaging.specs.Messaging.{knownIn, Noted, Received}
+use Rattle.messaging.specs.Messaging.{knownIn, Received}
 use Rattle.changing.specs.Changing.{Changed}
-use Rattle.stepping.specs.Stepping.{middle, actedIn, Carried}
+use Rattle.working.specs.Working.{middle, actedIn, Carried}
 
 -- a message touches no account
 told-books : (s : State) (r : Reading) {a : Acted} → Told s r a → a .books ≡ s .books

@@ -1,9 +1,9 @@
-use Rattle.stepping.proofs.WorkLaws.{test-able, test-room, worked}
+use Rattle.working.proofs.WorkLaws.{test-able, test-room, worked}
 use borrow.Author.Needs.{needs}
-use Rattle.stepping.proofs.works.work.Statement.{statement}
-use Rattle.stepping.proofs.works.work.Tie as tie
-use Rattle.stepping.proofs.works.work.Reads as reads
-use Rattle.stepping.proofs.works.work.Lts as lts
+use Rattle.working.proofs.work.Statement.{statement}
+use Rattle.working.proofs.work.Tie as tie
+use Rattle.working.proofs.work.Reads as reads
+use Rattle.working.proofs.work.Lts as lts
 
 act-requires : tie.Need-act-requires
 act-requires c κs = (c .before .before .before .before .before .before .before .before .before .before .before .before .before .before .before .before .before .before .before .before .before .pre .actable, (c .before .before .before .before .before .before .before .before .before .before .before .before .before .before .before .before .before .before .before .before .before .pre .few-streams, c .before .before .before .before .before .before .before .before .before .before .before .before .before .before .before .before .before .before .before .before .before .pre .house .limits-long, c .before .before .before .before .before .before .before .before .before .before .before .before .before .before .before .before .before .before .before .before .before .pre .references, c .before .before .before .before .before .before .before .before .before .before .before .before .before .before .before .before .before .before .before .before .before .pre .bins))

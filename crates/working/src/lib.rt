@@ -1,10 +1,11 @@
 // (c) and (d): the action, and the queue test behind it.
-use crate::acts;
+mod acts;
+
 use engine::Action;
 use engine::Answer;
 use tables::Desk;
 ghost use Prim.Native.Nat.{ℕ};
-ghost use Rattle.stepping.specs.Stepping.{middle, actedIn, testedIn, Workable, Worked};
+ghost use Rattle.working.specs.Working.{middle, actedIn, testedIn, Workable, Worked};
 
 // What both have left: the answer, how many wait, the tries, the place reached in the buffer and the texts of the day.
 pub struct Report {

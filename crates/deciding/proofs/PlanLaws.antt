@@ -1,12 +1,12 @@
 -- What is chosen at each step.
-use Prim.Native.Nat.{ℕ, zero, suc, _+_, _*_, _≤_, _<_}
-use mathlib.Core.Path.{_≡_, refl, sym, ap, _∙_}
-use mathlib.Core.Bool.{Bool, true, false, cond}
-use mathlib.Core.List.{List, []}
+use Prim.Native.Nat.{ℕ, zero, suc, _+_, _*_, _<_}
+use mathlib.Core.Path.{_≡_, sym, ap, _∙_}
+use mathlib.Core.Bool.{true, false}
+use mathlib.Core.List.{List}
 use native.Mathlib.Omega.{arith}
 use borrow.Author.Tests.{eq-eqb, ne-eqb}
 use lib.Dec.{eqb}
-use lib.ListN.{getD, length}
+use lib.ListN.{getD}
 use Rattle.chars.specs.declared.Refusal.{Refusal}
 use Rattle.chars.specs.declared.Refusal.the-variants.{NoRoom, WrongSender, UsedReference, Malformed}
 use Rattle.codes.specs.declared.Code.{Code}
@@ -18,8 +18,7 @@ use Rattle.book.specs.Accounts.{Stream}
 use Rattle.book.specs.Book.{each}
 use Rattle.closing.specs.Closing.{streamOf}
 use Rattle.book.proofs.Filling.{each-length}
-use Rattle.engine.specs.State.{Found, at, nowhere, onFound, seek, Place, Batches, Entry, isFree}
-use Rattle.engine.specs.Memory.{isUsed, vacant}
+use Rattle.engine.specs.State.{at, seek, Place, Batches, Entry, isFree}
 use Rattle.engine.specs.Messages.{noStream, streamPlace, assembling, waiting}
 use Rattle.engine.proofs.Seeking.{seek-answers}
 use Rattle.tables.specs.declared.Desk.{Desk}
@@ -30,11 +29,11 @@ use Rattle.tables.specs.Rows.{streamsOn}
 use Rattle.noting.specs.declared.Looked.{Looked}
 use Rattle.noting.specs.Looking.{Looks}
 use Rattle.steps.specs.Steps.{streamsHouse}
-use Rattle.deciding.specs.declared.Course.{Course}
-use Rattle.deciding.specs.declared.Course.the-variants.{Untouched, Repeated, Alone, Comes, Begins, RecallsNone, Recalls}
+use Rattle.deciding.specs.declared.Plan.{Plan}
+use Rattle.deciding.specs.declared.Plan.the-variants.{Untouched, Repeated, Alone, Comes, Begins, RecallsNone, Recalls}
 use Rattle.deciding.specs.declared.Sent.{Sent}
 use Rattle.deciding.specs.declared.Sent.the-variants.{In, Not}
-use Rattle.deciding.specs.Courses.{sentOn, repeatedOn, knownOn, newOn, notedOn, settlementOn, recallOn, onSent, courseOn}
+use Rattle.deciding.specs.Plans.{sentOn, repeatedOn, knownOn, newOn, notedOn, settlementOn, recallOn, planOn}
 
 -- ---- the sender's stream
 
@@ -101,18 +100,18 @@ module _ (s : Sought) where
         new-here k f = rw (e, f)
 
 module _ (today : ℕ) (places : List Place) (bins : List Entry) (s : Sought) (stream q : ℕ) (bin : Code) {l : Looked} (is : Looks today bin bins l) where
-  pub noted-known : {c : Course} → l .used ≡ true → c ≡ knownOn (foundBy s) stream q → c ≡ notedOn today places bins (foundBy s) stream q bin
+  pub noted-known : {c : Plan} → l .used ≡ true → c ≡ knownOn (foundBy s) stream q → c ≡ notedOn today places bins (foundBy s) stream q bin
   unfolding notedOn
   noted-known e f = f ∙ rw (sym (is .used), e)
 
-  pub noted-new : {c : Course} (u : Sought) → l .used ≡ false → foundBy u ≡ seek isFree places → c ≡ newOn (foundBy u) (foundBy (l .free)) stream q
+  pub noted-new : {c : Plan} (u : Sought) → l .used ≡ false → foundBy u ≡ seek isFree places → c ≡ newOn (foundBy u) (foundBy (l .free)) stream q
       → c ≡ notedOn today places bins (foundBy s) stream q bin
   unfolding notedOn
   noted-new u e f g = g ∙ rw (sym (is .used), e, sym f, sym (is .free e))
 
 module _ (today : ℕ) (b : Batches) (references bins : List Entry) (stream : ℕ) (reference bin : Code) (s : Sought) (there : foundBy s ≡ assembling b bin)
     {l : Looked} (is : Looks today reference references l) where
-  pub settlement-used : {c : Course} → l .used ≡ true → c ≡ repeatedOn (foundBy s) → c ≡ settlementOn today b references bins stream reference bin
+  pub settlement-used : {c : Plan} → l .used ≡ true → c ≡ repeatedOn (foundBy s) → c ≡ settlementOn today b references bins stream reference bin
   unfolding settlementOn
   settlement-used e f = f ∙ rw (sym (is .used), e, sym there)
 
@@ -121,7 +120,7 @@ module _ (today : ℕ) (b : Batches) (references bins : List Entry) (stream : �
     unfolding settlementOn
     settlement-full f = rw (sym (is .used), e, sym (is .free e), f)
 
-    pub settlement-noted : {c : Course} {q : ℕ} → l .free ≡ Here q → c ≡ notedOn today (b .places) bins (foundBy s) stream q bin
+    pub settlement-noted : {c : Plan} {q : ℕ} → l .free ≡ Here q → c ≡ notedOn today (b .places) bins (foundBy s) stream q bin
         → c ≡ settlementOn today b references bins stream reference bin
     unfolding settlementOn
     settlement-noted f g = g ∙ rw (sym (is .used), e, sym (is .free e), f, sym there)
@@ -149,22 +148,22 @@ module _ (today : ℕ) (b : Batches) (references : List Entry) (reference bin : 
 
 -- ---- any message
 
-pub course-broken : (today : ℕ) (streams : List Stream) (sender : ℕ) (o : Outcome) (h : Head) (b : Batches) (rs bs : List Entry) (k : Break) → o ≡ Refused k
-    → Untouched (k .refusal) ≡ courseOn today streams sender o h b rs bs
-course-broken today streams sender o h b rs bs k e = rw e
+pub plan-broken : (today : ℕ) (streams : List Stream) (sender : ℕ) (o : Outcome) (h : Head) (b : Batches) (rs bs : List Entry) (k : Break) → o ≡ Refused k
+    → Untouched (k .refusal) ≡ planOn today streams sender o h b rs bs
+plan-broken today streams sender o h b rs bs k e = rw e
 
 module _ (today : ℕ) (streams : List Stream) (sender : ℕ) {o : Outcome} (h : Head) (b : Batches) (rs bs : List Entry) {s : Sent}
     (is : s ≡ sentOn streams sender (h .address .stream .number)) where
-  pub course-not : {f : Refusal} → (o ≡ Settlement) → s ≡ Not f → Untouched f ≡ courseOn today streams sender o h b rs bs
-  course-not e g = rw (e, sym is, g)
+  pub plan-not : {f : Refusal} → (o ≡ Settlement) → s ≡ Not f → Untouched f ≡ planOn today streams sender o h b rs bs
+  plan-not e g = rw (e, sym is, g)
 
-  pub recall-not : {f : Refusal} → (o ≡ Recall) → s ≡ Not f → Untouched f ≡ courseOn today streams sender o h b rs bs
+  pub recall-not : {f : Refusal} → (o ≡ Recall) → s ≡ Not f → Untouched f ≡ planOn today streams sender o h b rs bs
   recall-not e g = rw (e, sym is, g)
 
-  pub course-settlement : {c : Course} {i : ℕ} → o ≡ Settlement → s ≡ In i
-      → c ≡ settlementOn today b rs bs i (h .reference .code) (h .address .bin .code) → c ≡ courseOn today streams sender o h b rs bs
-  course-settlement e g k = k ∙ rw (e, sym is, g)
+  pub plan-settlement : {c : Plan} {i : ℕ} → o ≡ Settlement → s ≡ In i
+      → c ≡ settlementOn today b rs bs i (h .reference .code) (h .address .bin .code) → c ≡ planOn today streams sender o h b rs bs
+  plan-settlement e g k = k ∙ rw (e, sym is, g)
 
-  pub course-recall : {c : Course} {i : ℕ} → o ≡ Recall → s ≡ In i
-      → c ≡ recallOn today b rs (h .reference .code) (h .address .bin .code) → c ≡ courseOn today streams sender o h b rs bs
-  course-recall e g k = k ∙ rw (e, sym is, g)
+  pub plan-recall : {c : Plan} {i : ℕ} → o ≡ Recall → s ≡ In i
+      → c ≡ recallOn today b rs (h .reference .code) (h .address .bin .code) → c ≡ planOn today streams sender o h b rs bs
+  plan-recall e g k = k ∙ rw (e, sym is, g)

@@ -1,9 +1,9 @@
-use Rattle.deciding.proofs.CourseLaws.{settlement-used, settlement-full, settlement-noted}
+use Rattle.deciding.proofs.PlanLaws.{settlement-used, settlement-full, settlement-noted}
 use borrow.Author.Needs.{needs}
-use Rattle.deciding.proofs.settlement_course.Statement.{statement}
-use Rattle.deciding.proofs.settlement_course.Tie as tie
-use Rattle.deciding.proofs.settlement_course.Reads as reads
-use Rattle.deciding.proofs.settlement_course.Lts as lts
+use Rattle.deciding.proofs.settlement_plan.Statement.{statement}
+use Rattle.deciding.proofs.settlement_plan.Tie as tie
+use Rattle.deciding.proofs.settlement_plan.Reads as reads
+use Rattle.deciding.proofs.settlement_plan.Lts as lts
 use Rattle.deciding.proofs.finding.assembling.Reads as assembling-reads
 use Rattle.deciding.proofs.on_noted.Reads as on-noted-reads
 use Rattle.deciding.proofs.on_repeated.Reads as on-repeated-reads
@@ -45,8 +45,8 @@ returns-2 c = search (needs, settlement-noted)
 returns-3 : tie.Need-returns-3
 returns-3 c = search (needs, settlement-full)
 
-pub settlement-course-spec : {M : Type 1} → statement M
-settlement-course-spec =
+pub settlement-plan-spec : {M : Type 1} → statement M
+settlement-plan-spec =
     tie.close
     (tie.spec
     assembling-requires

@@ -1,9 +1,8 @@
 -- The action, then the test: together they are the model's.
-use Prim.Native.Nat.{ℕ, _≤_}
+use Prim.Native.Nat.{ℕ}
 use mathlib.Core.Path.{_≡_, refl, sym, ap, subst, _∙_}
 use mathlib.Core.Bool.{Bool}
 use mathlib.Core.List.{List, _++_}
-use native.Mathlib.Omega.{arith}
 use lib.ListN.{length, take}
 use lib.Seq.{sets}
 use Rattle.request.specs.Request.{requestAt}
@@ -14,11 +13,11 @@ use Rattle.queue.specs.Memory.{forgotten}
 use Rattle.engine.specs.declared.Action.{Action}
 use Rattle.engine.specs.declared.Answer.{Answer}
 use Rattle.engine.specs.Kinds.{ownOf}
-use Rattle.engine.specs.State.{Place, Batches, State, paymentsAt}
+use Rattle.engine.specs.State.{Batches, State, paymentsAt}
 use Rattle.engine.specs.Replies.{Reply}
 use Rattle.engine.specs.Messages.{Acted}
 use Rattle.engine.specs.Ending.{emptied, afterTest, settledReplies}
-use Rattle.engine.specs.Calls.{woken, tested, replies, left}
+use Rattle.engine.specs.Calls.{tested, replies, left}
 use Rattle.engine.specs.Rules.{RightHouse}
 use Rattle.engine.proofs.Doing.{did}
 use Rattle.engine.proofs.Placing.{places-kept, house-kept}
@@ -27,12 +26,12 @@ use Rattle.engine.proofs.Settling.{house-books}
 use Rattle.engine.proofs.Standing.{Stood}
 use Rattle.tables.specs.declared.Desk.{Desk}
 use Rattle.tables.specs.House.{houseOn}
-use Rattle.stages.specs.Stages.{seen, Became, placesIn}
+use Rattle.stages.specs.Stages.{seen, placesIn}
 use Rattle.replies.specs.Writing.{Wrote, Room, Legible, batchesOn, dayAt}
 use Rattle.replies.proofs.Laws.{settled-any, room-rest, wrote-then}
 use Rattle.settling.specs.Settling.{Testable, outcomeOf, Ended}
 use Rattle.settling.proofs.Model.{test-legible, testable, outcome-so}
-use Rattle.stepping.specs.Stepping.{middle, actedIn, testedIn, Carried, Workable, Worked}
+use Rattle.working.specs.Working.{middle, actedIn, testedIn, Carried, Workable, Worked}
 
 module _ (quick : Bool) (d : Desk) (x : Action) (input codes flags balances limits t q : List ℕ) (nq : ℕ) (w : List ℕ) (nw : ℕ) (rs bs m out r : List ℕ)
     (k : Workable quick d x input codes flags balances limits t q nq w nw rs bs m out r) where

@@ -14,8 +14,8 @@ use Rattle.book.specs.Accounts.{Stream}
 use Rattle.engine.specs.State.{Found, onFound, seek, Place, Batches, Entry, isFree}
 use Rattle.engine.specs.Memory.{isUsed, vacant}
 use Rattle.engine.specs.Messages.{noStream, assembling, waiting}
-use Rattle.deciding.specs.declared.Course.{Course}
-use Rattle.deciding.specs.declared.Course.the-variants.{Untouched, Repeated, Alone, Comes, Begins, RecallsNone, Recalls}
+use Rattle.deciding.specs.declared.Plan.{Plan}
+use Rattle.deciding.specs.declared.Plan.the-variants.{Untouched, Repeated, Alone, Comes, Begins, RecallsNone, Recalls}
 use Rattle.deciding.specs.declared.Sent.{Sent}
 use Rattle.deciding.specs.declared.Sent.the-variants.{In, Not}
 
@@ -26,46 +26,46 @@ sentOn streams sender code =
     cond (eqb sender (getD streams i noStream .sender)) (In i) (Not WrongSender))
 
 -- "For a 131 whose BIN is being assembled, that batch is rejected with 74."
-abbrev pub repeatedOn : Found → Course
+abbrev pub repeatedOn : Found → Plan
 repeatedOn f = onFound f (Untouched UsedReference) (λ p. Repeated p)
 
 -- "a remembered BIN that is not being assembled 87, this message alone"
-abbrev pub knownOn : Found → (stream reference : ℕ) → Course
+abbrev pub knownOn : Found → (stream reference : ℕ) → Plan
 knownOn f stream q = onFound f (Alone q) (λ p. Comes p stream q)
 
 -- "there is no free batch or BIN place"
-abbrev pub newOn : Found → Found → (stream reference : ℕ) → Course
+abbrev pub newOn : Found → Found → (stream reference : ℕ) → Plan
 newOn place bin stream q = onFound place (Untouched NoRoom) (λ p. onFound bin (Untouched NoRoom) (λ k. Begins p stream q k))
 
-unfoldable pub notedOn : (today : ℕ) → List Place → List Entry → Found → (stream reference : ℕ) → Code → Course
+unfoldable pub notedOn : (today : ℕ) → List Place → List Entry → Found → (stream reference : ℕ) → Code → Plan
 notedOn today places bins f stream q bin =
     cond (isUsed today bin bins) (knownOn f stream q) (newOn (seek isFree places) (vacant today bins) stream q)
 
 -- "Reference used .. 74"; "04 if no place for the reference is free, or if a 131's BIN is not remembered and there is no free batch or BIN place"
-unfoldable pub settlementOn : (today : ℕ) → Batches → (references bins : List Entry) → (stream : ℕ) → (reference bin : Code) → Course
+unfoldable pub settlementOn : (today : ℕ) → Batches → (references bins : List Entry) → (stream : ℕ) → (reference bin : Code) → Plan
 settlementOn today b references bins stream reference bin =
     cond (isUsed today reference references)
     (repeatedOn (assembling b bin))
     (onFound (vacant today references) (Untouched NoRoom) (λ q. notedOn today (b .places) bins (assembling b bin) stream q bin))
 
 -- "A recall acts on a pending or queued batch; else its 134 carries 02."
-unfoldable pub recallOn : (today : ℕ) → Batches → (references : List Entry) → (reference bin : Code) → Course
+unfoldable pub recallOn : (today : ℕ) → Batches → (references : List Entry) → (reference bin : Code) → Plan
 recallOn today b references reference bin =
     cond (isUsed today reference references)
     (Untouched UsedReference)
     (onFound (vacant today references) (Untouched NoRoom) (λ q. onFound (waiting b bin) (RecallsNone q) (λ p. Recalls p q)))
 
-abbrev pub onSent : Sent → (ℕ → Course) → Course
+abbrev pub onSent : Sent → (ℕ → Plan) → Plan
 onSent (In i) k = k i
 onSent (Not f) k = Untouched f
 
-abbrev pub courseOn : (today : ℕ) → List Stream → (sender : ℕ) → Outcome → Head → Batches → (references bins : List Entry) → Course
-courseOn today streams sender Settlement h b rs bs =
+abbrev pub planOn : (today : ℕ) → List Stream → (sender : ℕ) → Outcome → Head → Batches → (references bins : List Entry) → Plan
+planOn today streams sender Settlement h b rs bs =
     onSent (sentOn streams sender (h .address .stream .number)) (λ i.
     settlementOn today b rs bs i (h .reference .code) (h .address .bin .code))
-courseOn today streams sender Recall h b rs bs =
+planOn today streams sender Recall h b rs bs =
     onSent (sentOn streams sender (h .address .stream .number)) (λ i. recallOn today b rs (h .reference .code) (h .address .bin .code))
-courseOn today streams sender (Refused k) h b rs bs = Untouched (k .refusal)
+planOn today streams sender (Refused k) h b rs bs = Untouched (k .refusal)
 
 -- rows that can be looked through
 pub record Lookable (t q : List ℕ) (nq : ℕ) (w : List ℕ) (nw : ℕ) (rs bs : List ℕ) : Type 0 where

@@ -1,9 +1,9 @@
-use Rattle.stepping.proofs.ActLaws.{opening-deed, tick-deed, close-deed, book-deed, message-deed, limit-deed, status-deed, still}
+use Rattle.working.proofs.ActLaws.{opening-deed, tick-deed, close-deed, book-deed, message-deed, limit-deed, status-deed, still}
 use borrow.Author.Needs.{needs}
-use Rattle.stepping.proofs.acts.act.Statement.{statement}
-use Rattle.stepping.proofs.acts.act.Tie as tie
-use Rattle.stepping.proofs.acts.act.Reads as reads
-use Rattle.stepping.proofs.acts.act.Lts as lts
+use Rattle.working.proofs.acts.act.Statement.{statement}
+use Rattle.working.proofs.acts.act.Tie as tie
+use Rattle.working.proofs.acts.act.Reads as reads
+use Rattle.working.proofs.acts.act.Lts as lts
 
 enum-known-action : tie.Need-enum-known-action
 enum-known-action c = search needs

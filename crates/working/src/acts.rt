@@ -8,7 +8,7 @@ ghost use mathlib.Core.List.{List};
 ghost use Prim.Native.Nat.{ℕ, _≤_};
 ghost use lib.ListN.{length};
 ghost use Rattle.acting.specs.Doing.{Actable};
-ghost use Rattle.stepping.specs.Stepping.{actedIn, Carried};
+ghost use Rattle.working.specs.Working.{actedIn, Carried};
 
 // An action that writes nothing and moves no batch.
 fn quiet(answer: Answer, nq: usize, nw: usize, texts: u64) -> Acted

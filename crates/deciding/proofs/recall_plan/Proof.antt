@@ -1,9 +1,9 @@
-use Rattle.deciding.proofs.CourseLaws.{recall-used, recall-full, recall-here, recall-none}
+use Rattle.deciding.proofs.PlanLaws.{recall-used, recall-full, recall-here, recall-none}
 use borrow.Author.Needs.{needs}
-use Rattle.deciding.proofs.recall_course.Statement.{statement}
-use Rattle.deciding.proofs.recall_course.Tie as tie
-use Rattle.deciding.proofs.recall_course.Reads as reads
-use Rattle.deciding.proofs.recall_course.Lts as lts
+use Rattle.deciding.proofs.recall_plan.Statement.{statement}
+use Rattle.deciding.proofs.recall_plan.Tie as tie
+use Rattle.deciding.proofs.recall_plan.Reads as reads
+use Rattle.deciding.proofs.recall_plan.Lts as lts
 use Rattle.deciding.proofs.finding.waiting.Reads as waiting-reads
 use Rattle.noting.proofs.look.Reads as look-reads
 
@@ -47,8 +47,8 @@ returns-3 c = search (needs, recall-here)
 returns-4 : tie.Need-returns-4
 returns-4 c = search (needs, recall-none)
 
-pub recall-course-spec : {M : Type 1} → statement M
-recall-course-spec =
+pub recall-plan-spec : {M : Type 1} → statement M
+recall-plan-spec =
     tie.close
     (tie.spec
     look-requires
