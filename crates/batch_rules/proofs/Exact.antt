@@ -2,30 +2,29 @@
 use Prim.Native.Nat.{ℕ, zero, suc, _+_, _*_, _-_, _≤_, _<_}
 use mathlib.Core.Path.{_≡_, refl, sym, ap, _∙_}
 use mathlib.Core.Bool.{Bool, true, false, cond, false≢true}
-use mathlib.Core.List.{List, [], _∷_, _++_, map}
+use mathlib.Core.List.{List, [], _∷_, map}
 use native.Mathlib.Omega.{arith}
 use lib.Dec.{eqb, ltb}
-use lib.ListN.{length, getD, take, drop, replicate, length-drop, length-map, length-replicate, take-append-drop, List·getD-map, List·getD-eq-default}
+use lib.ListN.{length, getD, take, drop, replicate, length-drop, length-map, take-append-drop, List·getD-map, List·getD-eq-default}
 use lib.Seq.{take-at, drop-at, length-take-le}
 use borrow.Author.Tests.{ltb-true, ltb-false, ne-eqb}
 use Rattle.chars.specs.Words.{member}
 use Rattle.book.specs.Range.{Each}
-use Rattle.queue.specs.Promise.{All, Once}
+use Rattle.queue.specs.Promise.{Once}
 use Rattle.queue.proofs.MemoryLaws.{byBool}
 use Rattle.settle.specs.Payments.{Payment}
-use Rattle.engine.specs.State.{Batch, Place, free, live, Batches, placePayments, placeAt, paymentsOf}
+use Rattle.engine.specs.State.{Place, free, live, Batches, placePayments, placeAt, paymentsOf}
 use Rattle.engine.specs.Changes.{hasDebit}
 use Rattle.engine.specs.Rules.{RightBatch, Complete, Given, RightBatches, RightMemory}
 use Rattle.engine.proofs.Counting.{times, times-once, no-member, a-member, all-times}
 use Rattle.engine.proofs.Standing.{Standing, vacant, building, awaits, stands, Stood, stood, right, at-most-once}
-use Rattle.tables.specs.House.{AllZero}
 use Rattle.tables.specs.Rows.{rows, word, batchIn, placeIn, pendingPhase, queuedPhase, batchRows, batchesIn, memoryIn, ranked, messagesIn}
 use Rattle.tables.specs.Words.{rankIn, phaseOf, rankOf, placeWords, placesWords, batchWords}
-use Rattle.tables.proofs.Ranking.{many-here, AllTell}
-use Rattle.tables.proofs.Batching.{Lies, AllLie, placeRows, place-long, queue-all, pending-all, whole}
+use Rattle.tables.proofs.Ranking.{many-here}
+use Rattle.tables.proofs.Batching.{AllLie, placeRows, place-long, queue-all, pending-all, whole}
 use Rattle.tables.proofs.Held.{places-lie, batches-long}
 use Rattle.tables.proofs.TestLaws.{Both}
-use Rattle.batch_rules.specs.BatchRules.{paymentsIn, sizesOf, headsIn, LiveRow, Whole, RowIn, RowRight, Remembers, Ranked, BatchRules, RightTable}
+use Rattle.batch_rules.specs.BatchRules.{paymentsIn, LiveRow, Whole, RowIn, RowRight, Remembers, Ranked, BatchRules, RightTable}
 use Rattle.batch_rules.proofs.Ranks.{ranked-once, ranked-inside, ranked-many, told, told-ranked}
 use Rattle.batch_rules.proofs.RowWords.{zeros, all-zero, messages-many, row-words, words-phase, words-rank, words-memory, words-total, words-behind}
 use Rattle.batch_rules.proofs.RowRules.{live-few, live-small, live-flat, right-live, complete-whole, timed-given, few-right, row-stands}

@@ -1,23 +1,23 @@
 -- The ranks of a phase have neither gap nor repeat exactly where rows and the order that they tell agree.
 use Prim.Native.Nat.{ℕ, zero, suc, _+_, _≤_, _<_}
 use mathlib.Core.Path.{_≡_, refl, sym, ap, _∙_}
-use mathlib.Core.Bool.{Bool, true, false, _&&_, cond, false≢true}
+use mathlib.Core.Bool.{Bool, true, false, _&&_, false≢true}
 use mathlib.Core.List.{List, [], _∷_}
 use native.Mathlib.Omega.{arith}
 use lib.Dec.{eqb}
 use lib.ListN.{length, getD}
-use borrow.Author.Tests.{eqb-true, eqb-false, eq-eqb, ne-eqb}
+use borrow.Author.Tests.{eqb-true, eq-eqb, ne-eqb}
 use Rattle.chars.specs.Words.{member}
 use Rattle.book.specs.Book.{each}
 use Rattle.book.proofs.Filling.{each-length}
 use Rattle.queue.specs.Promise.{All, Off, Once}
 use Rattle.queue.proofs.MemoryLaws.{byBool}
 use Rattle.engine.specs.State.{at, nowhere, onFound, seekFrom, seek}
-use Rattle.engine.proofs.Counting.{times, times-once, once-times, all-times, at-most, a-member, no-member}
-use Rattle.engine.proofs.Seeking.{byFound, not-found, seek-answers, no-times}
+use Rattle.engine.proofs.Counting.{times, once-times, all-times, at-most}
+use Rattle.engine.proofs.Seeking.{byFound, not-found, seek-answers}
 use Rattle.tables.specs.Rows.{word, isRanked, howMany, ranked}
 use Rattle.tables.specs.Words.{rankIn}
-use Rattle.tables.proofs.Ranking.{all-at, rank-of, at-rank, member-at, absent, Tells, AllTell}
+use Rattle.tables.proofs.Ranking.{rank-of, at-rank, member-at, absent, Tells, AllTell}
 use Rattle.batch_rules.specs.BatchRules.{ranksIn, Ranked}
 
 -- ---- what `each` lists
@@ -201,15 +201,6 @@ module _ (phase : ℕ) where
             let b : r < howMany phase rs = omega (arith, rank-below p (ranked phase rs) i, ranked-many rs) in
             let c : place r ≡ p = sym (ranked-at r b) ∙ a in
             absurd (false≢true (sym e ∙ ap (λ (n : ℕ). eqb (word (getD rs n []) 0) phase) (sym c) ∙ row-of r b .on))
-
-    pub all-told : AllTell phase (ranked phase rs) ranked-once 0 rs
-    all-told = from 0 rs (λ i b. let e : 0 + i ≡ i = omega arith in rw e (told i b))
-      where
-        from : (p : ℕ) (xs : List (List ℕ)) → ((i : ℕ) → i < length xs → Tells phase (ranked phase rs) ranked-once (p + i) (getD xs i [])) → AllTell phase (ranked phase rs) ranked-once p xs
-        from p [] f = tt
-        from p (x ∷ xs) f =
-            let z : p + 0 ≡ p = omega arith in
-            (rw z at (f 0 (omega arith)), from (p + 1) xs (λ i b. let s : p + 1 + i ≡ p + suc i = omega arith in rw s (f (suc i) (omega arith))))
 
   -- ---- and back: rows that tell an order have such ranks
 

@@ -1,23 +1,20 @@
 -- The rules of one row say what the rules of its batch say.
-use Prim.Native.Nat.{ℕ, zero, suc, _+_, _*_, _-_, _≤_, _<_}
+use Prim.Native.Nat.{ℕ, zero, suc, _+_, _*_, _-_, _≤_}
 use mathlib.Core.Path.{_≡_, refl, sym, ap, _∙_}
-use mathlib.Core.Bool.{true, false, cond}
+use mathlib.Core.Bool.{cond}
 use mathlib.Core.List.{List, [], _∷_, _++_}
 use native.Mathlib.Omega.{arith}
 use lib.Dec.{eqb}
-use lib.ListN.{length, getD}
+use lib.ListN.{length}
 use Rattle.book.specs.Book.{each}
 use Rattle.book.specs.Range.{Each}
 use Rattle.book.proofs.Filling.{each-length}
-use Rattle.settle.specs.Payments.{Payment, paymentsFrom}
-use Rattle.settle.specs.Rules.{credits, debits, Distinct}
-use Rattle.queue.specs.Promise.{Once}
-use Rattle.engine.specs.State.{Message, Batch, Place, free, live, paymentsOf}
+use Rattle.settle.specs.Payments.{paymentsFrom}
+use Rattle.engine.specs.State.{Message, paymentsOf}
 use Rattle.engine.specs.Rules.{numbers, Priced, Lettered, RightMinute, RightMessage, RightBatch, Complete, Given}
 use Rattle.engine.proofs.Standing.{Standing, vacant, building, awaits, stands}
-use Rattle.tables.specs.House.{AllZero}
 use Rattle.tables.specs.Rows.{word, activationIn, messagesIn, batchIn, placeIn}
-use Rattle.batch_rules.specs.BatchRules.{Head, headAt, headsIn, numbersOf, sizesOf, paymentsIn, RightHead, RightTop, RightHeads, RightPayments, ZeroBehind, LiveRow, Whole, BuildingRow, PendingRow, QueuedRow, RowIn, RowRight}
+use Rattle.batch_rules.specs.BatchRules.{Head, headAt, headsIn, numbersOf, sizesOf, paymentsIn, RightHead, ZeroBehind, LiveRow, Whole, RowIn, RowRight}
 use Rattle.batch_rules.proofs.RowWords.{from-long, from-append, messages-many, payments-of, flat}
 
 -- ---- lists

@@ -1,20 +1,18 @@
 -- A row is the words of the batch that it says, exactly where what it does not use is zero.
-use Prim.Native.Nat.{ℕ, zero, suc, _+_, _*_, _-_, _≤_, _<_}
+use Prim.Native.Nat.{ℕ, zero, suc, _+_, _*_, _-_, _≤_}
 use mathlib.Core.Path.{_≡_, refl, sym, ap, _∙_}
-use mathlib.Core.List.{List, [], _∷_, _++_, append-assoc}
+use mathlib.Core.List.{List, [], _∷_, _++_}
 use native.Mathlib.Omega.{arith}
-use lib.ListN.{length, getD, take, drop, replicate, length-append, length-drop, length-replicate, take-append-drop}
-use lib.Seq.{getD-drop, drop-drop, take-at, drop-at, drop-cons, take-add, take-all, take-nil, take-take, length-take-le}
-use Rattle.terms.specs.declared.Activation.{Activation}
+use lib.ListN.{length, getD, take, drop, replicate, length-drop, take-append-drop}
+use lib.Seq.{drop-drop, take-at, drop-at, drop-cons, take-nil, take-take, length-take-le}
 use Rattle.book.specs.Book.{each}
-use Rattle.book.specs.Range.{Each}
-use Rattle.settle.specs.Payments.{Payment, credit, debit, payment, paymentAt, paymentsFrom}
-use Rattle.engine.specs.State.{Message, Batch, paymentsOf}
+use Rattle.settle.specs.Payments.{payment, paymentAt, paymentsFrom}
+use Rattle.engine.specs.State.{paymentsOf}
 use Rattle.tables.specs.House.{AllZero}
 use Rattle.tables.specs.Rows.{word, activationIn, messagesIn, batchIn}
-use Rattle.tables.specs.Words.{filled, activationWord, paymentWords, paymentsWords, messageWords, messagesWords, batchWords}
+use Rattle.tables.specs.Words.{filled, activationWord, paymentWords, paymentsWords, messagesWords, batchWords}
 use Rattle.tables.proofs.Rowing.{payments-long, messages-long, filled-long}
-use Rattle.batch_rules.specs.BatchRules.{Head, headAt, headsIn, sizesOf, paymentsIn, ZeroBehind}
+use Rattle.batch_rules.specs.BatchRules.{headAt, headsIn, sizesOf, paymentsIn, ZeroBehind}
 
 -- ---- zeros
 

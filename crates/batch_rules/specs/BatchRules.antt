@@ -1,16 +1,15 @@
 -- The table rules of the batch places, over the rows as they lie: what one row is asked, and what the ranks are.
 use Prim.Native.Nat.{ℕ, zero, suc, _+_, _*_, _-_, _≤_, _<_}
 use mathlib.Core.Path.{_≡_}
-use mathlib.Core.Bool.{Bool, true, cond}
+use mathlib.Core.Bool.{true, cond}
 use mathlib.Core.List.{List, [], _∷_}
 use lib.Dec.{eqb}
-use lib.ListN.{length, getD, set, take, drop}
-use Rattle.chars.specs.Words.{Says}
+use lib.ListN.{length, take, drop}
 use Rattle.codes.specs.declared.Code.{Code}
 use Rattle.clock.specs.Clock.{minutesOfDay}
 use Rattle.book.specs.Book.{each}
 use Rattle.book.specs.Range.{Each}
-use Rattle.settle.specs.Payments.{Payment, bankOf, paymentsFrom}
+use Rattle.settle.specs.Payments.{Payment, paymentsFrom}
 use Rattle.settle.specs.Rules.{credits, debits, Distinct}
 use Rattle.queue.specs.Promise.{All, Once}
 use Rattle.engine.specs.Changes.{hasDebit}

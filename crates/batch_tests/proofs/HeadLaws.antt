@@ -1,7 +1,7 @@
 -- Laws of the tests of a row's messages.
-use Prim.Native.Nat.{ℕ, zero, suc, _+_, _*_, _-_, _≤_, _<_}
-use mathlib.Core.Path.{_≡_, refl, sym, ap, _∙_}
-use mathlib.Core.Bool.{Bool, true, false, not, false≢true}
+use Prim.Native.Nat.{ℕ, suc, _+_, _*_, _-_, _≤_, _<_}
+use mathlib.Core.Path.{_≡_, sym, ap, _∙_}
+use mathlib.Core.Bool.{Bool, true, false, not}
 use mathlib.Core.List.{List, [], _∷_}
 use native.Mathlib.Omega.{arith}
 use lib.Dec.{eqb}
@@ -10,7 +10,7 @@ use borrow.Author.Tests.{eqb-true, eqb-false}
 use Rattle.chars.specs.Words.{Says}
 use Rattle.book.specs.Book.{each}
 use Rattle.book.specs.Range.{Each}
-use Rattle.queue.specs.Promise.{All, Once}
+use Rattle.queue.specs.Promise.{All}
 use Rattle.queue.proofs.MemoryLaws.{byBool}
 use Rattle.engine.specs.Rules.{isReference}
 use Rattle.tables.specs.Rows.{word, codeAt}

@@ -1,29 +1,23 @@
 -- Laws of the tests of ranks.
-use Prim.Native.Nat.{ℕ, zero, suc, _+_, _*_, _-_, _≤_, _<_}
-use mathlib.Core.Path.{_≡_, refl, sym, ap, _∙_}
-use mathlib.Core.Bool.{Bool, true, false, not, cond, false≢true}
+use Prim.Native.Nat.{ℕ, _+_, _*_, _-_, _≤_, _<_}
+use mathlib.Core.Path.{_≡_, sym, _∙_}
+use mathlib.Core.Bool.{Bool, true, false, not}
 use mathlib.Core.List.{List, [], _∷_}
 use native.Mathlib.Omega.{arith}
-use lib.Dec.{eqb}
-use lib.ListN.{length, getD, set, take, drop, replicate}
-use lib.Seq.{getD-set-same, getD-set-other, getD-take, getD-drop}
-use borrow.Author.Tests.{not-true, not-false, eq-eqb, ne-eqb}
-use Rattle.chars.specs.Words.{Says}
-use Rattle.queue.specs.Promise.{All, Off, Once}
-use Rattle.tables.specs.Rows.{rows, word, howMany, batchRows}
+use lib.ListN.{length, getD, take, drop, replicate}
+use lib.Seq.{getD-take, getD-drop}
+use borrow.Author.Tests.{eq-eqb, ne-eqb}
+use Rattle.tables.specs.Rows.{rows, howMany, batchRows}
 use Rattle.tables.proofs.RowLaws.{rows-cut, rows-end}
-use Rattle.tables.proofs.TestLaws.{Both, says-no, says-yes}
+use Rattle.tables.proofs.TestLaws.{Both}
 use Rattle.batch_rules.specs.BatchRules.{ranksIn, Ranked}
-use Rattle.payment_tests.specs.Marks.{Marked, Below}
+use Rattle.payment_tests.specs.Marks.{Marked}
 use Rattle.payment_tests.proofs.MarkLaws.{Fresh, fresh-start, fresh-end, fresh-not, fresh-on}
 
 -- ---- the rows from a place on
 
 abbrev pub rowsFrom : List ℕ → ℕ → List (List ℕ)
 rowsFrom t p = rows 349 (32 - p) (drop (p * 349) t)
-
-pub rows-all : (t : List ℕ) → rowsFrom t 0 ≡ batchRows t
-rows-all t = refl
 
 module _ (t : List ℕ) (p : ℕ) where
   row-word : (i : ℕ) → i < 349 → getD (take 349 (drop (p * 349) t)) i 0 ≡ getD t (p * 349 + i) 0

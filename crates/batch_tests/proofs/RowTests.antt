@@ -1,23 +1,23 @@
 -- Laws of the tests of a row and of the table.
 use Prim.Native.Nat.{ℕ, zero, suc, _+_, _*_, _-_, _≤_, _<_}
 use mathlib.Core.Path.{_≡_, refl, sym, ap, subst, _∙_}
-use mathlib.Core.Bool.{Bool, true, false, not, false≢true}
-use mathlib.Core.List.{List, [], _∷_}
+use mathlib.Core.Bool.{Bool, true, false, not}
+use mathlib.Core.List.{List}
 use native.Mathlib.Omega.{arith}
-use lib.Dec.{eqb, ltb}
-use lib.ListN.{length, getD, take, drop, length-drop}
+use lib.Dec.{ltb}
+use lib.ListN.{length, take, drop, length-drop}
 use lib.Seq.{take-all}
 use borrow.Author.Tests.{ltb-true, ltb-false}
 use Rattle.chars.specs.Words.{Says}
 use Rattle.book.specs.Range.{Each}
 use Rattle.book.proofs.Filling.{each-length}
-use Rattle.settle.specs.Payments.{Payment, centsOf}
+use Rattle.settle.specs.Payments.{centsOf}
 use Rattle.settle.specs.Rules.{credits, debits}
 use Rattle.queue.proofs.MemoryLaws.{byBool}
 use Rattle.engine.specs.Changes.{hasDebit}
 use Rattle.engine.specs.Rules.{isBin}
 use Rattle.tables.specs.House.{AllZero}
-use Rattle.tables.specs.Rows.{rows, word, codeAt, pendingPhase, queuedPhase, batchRows}
+use Rattle.tables.specs.Rows.{rows, word, codeAt, batchRows}
 use Rattle.tables.proofs.RowLaws.{rows-cut, rows-end}
 use Rattle.tables.proofs.TestLaws.{Both, both-same, says-no, says-yes, says-map, each-end, each-not, each-on}
 use Rattle.batch_rules.specs.BatchRules.{headAt, headsIn, paymentsIn, RightTop, RightHeads, RightPayments, ZeroBehind, LiveRow, Whole, BuildingRow, PendingRow, QueuedRow, RowIn, RowRight, Remembers, Ranked, BatchRules}

@@ -2,8 +2,7 @@
 use Prim.Native.Nat.{ℕ, _*_, _≤_}
 use mathlib.Core.Path.{_≡_, refl, sym, ap, subst, _∙_}
 use mathlib.Core.Bool.{Bool, true, false, not, false≢true}
-use mathlib.Core.List.{List, []}
-use native.Mathlib.Omega.{arith}
+use mathlib.Core.List.{List}
 use lib.ListN.{length}
 use lib.Seq.{sets}
 use Rattle.chars.specs.Words.{Says}
@@ -16,7 +15,7 @@ use Rattle.engine.specs.declared.Answer.{Answer}
 use Rattle.engine.specs.declared.Answer.the-variants.{Done, Refused}
 use Rattle.engine.specs.Kinds.{Kind, opens, steps, gives, kindOf}
 use Rattle.engine.specs.Days.{onDate, opened, openingAnswer, closingText}
-use Rattle.engine.specs.Calls.{Call, Engine, Result, refused, stepped, openedBy, bookGiven, performed, judged, judge, call}
+use Rattle.engine.specs.Calls.{Call, Engine, refused, stepped, openedBy, bookGiven, performed, judged, judge, call}
 use Rattle.tables.specs.declared.Desk.{Desk}
 use Rattle.tables.specs.Moment.{dayOn, movedTo, callFor, Judged, lentWith}
 use Rattle.tables.specs.Rows.{Tables, streamsOn, stateIn, engineIn}
@@ -24,7 +23,7 @@ use Rattle.tables.specs.Words.{deskOf, tablesOf}
 use Rattle.tables.specs.Lent.{Right, Lent, Asked, Left, leftBy, callLent, Called}
 use Rattle.tables.proofs.Kept.{right-long}
 use Rattle.tables.proofs.MomentLaws.{closing-length}
-use Rattle.days.specs.Opening.{Columns, columns, Full, Begins, openedOn, banksOn}
+use Rattle.days.specs.Opening.{columns, Full, Begins, openedOn, banksOn}
 use Rattle.stepping.specs.Stepping.{lentAs, leftAs}
 use Rattle.stepping.specs.declared.Told.{Told}
 use Rattle.calls.specs.Calls.{Performable}

@@ -10,7 +10,7 @@ use Rattle.engine.specs.declared.Action.{Action}
 use Rattle.engine.specs.declared.Answer.the-variants.{Done}
 use Rattle.engine.specs.declared.Phase.{Phase}
 use Rattle.engine.specs.declared.Phase.the-variants.{Fresh, Open, Closed}
-use Rattle.engine.specs.Kinds.{Kind, opens, steps, gives, kindOf}
+use Rattle.engine.specs.Kinds.{Kind, steps, gives, kindOf}
 use Rattle.engine.specs.Calls.{Call, dayFor, isOpen, isClosed, roomFor, judge, cleared}
 use Rattle.engine.proofs.Agreement.{right-day}
 use Rattle.engine.proofs.Validity.{right-clock}

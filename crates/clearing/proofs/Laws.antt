@@ -1,6 +1,6 @@
 -- Laws of clearing.
 use Prim.Native.Nat.{ℕ}
-use mathlib.Core.Path.{_≡_, refl, sym, ap, _∙_}
+use mathlib.Core.Path.{_≡_, refl, ap, _∙_}
 use mathlib.Core.Bool.{Bool, true, false, not}
 use mathlib.Core.List.{List}
 use lib.Dec.{eqb}
@@ -17,9 +17,8 @@ use Rattle.tables.specs.House.{Lengths}
 use Rattle.tables.specs.Rows.{Tables}
 use Rattle.tables.specs.Words.{deskOf, tablesOf}
 use Rattle.tables.specs.Moment.{lentWith}
-use Rattle.tables.specs.Lent.{Long, Wiped, Cleared, clearLent}
+use Rattle.tables.specs.Lent.{Cleared, clearLent}
 use Rattle.tables.proofs.TestLaws.{says-no, says-yes}
-use Rattle.table_rules.specs.TableRules.{NoAccounts, NoRows}
 use Rattle.table_rules.proofs.Parts.{is-blank, blank-tables}
 use Rattle.clearing.specs.Clearing.{LongRows, WipedAccounts, WipedRows}
 

@@ -1,12 +1,12 @@
 -- Laws of opening and of the closing book.
 use Prim.Native.Nat.{ℕ, zero, suc, _+_, _*_, _-_, _≤_, _<_}
 use mathlib.Core.Path.{_≡_, refl, sym, ap, _∙_}
-use mathlib.Core.Bool.{Bool, true, false, _&&_, _||_, not, cond}
-use mathlib.Core.List.{List, [], _∷_, _++_}
+use mathlib.Core.Bool.{Bool, true, false, not, cond}
+use mathlib.Core.List.{List, [], _∷_}
 use native.Mathlib.Omega.{arith}
 use native.Mathlib.Numerals.{add-one}
 use borrow.Author.Tests.{le-leb, not-true, not-false}
-use lib.Dec.{leb, ltb}
+use lib.Dec.{ltb}
 use lib.ListN.{length, getD, set, take, drop, replicate, length-replicate}
 use lib.Seq.{sets, sets-eq, take-suc-set, take-suc, take-all}
 use Rattle.chars.specs.declared.Refusal.{Refusal}
@@ -19,25 +19,22 @@ use Rattle.book.specs.declared.Answer.{Answer as Check}
 use Rattle.book.specs.declared.Answer.the-variants.{Sound, Fault}
 use Rattle.book.specs.declared.Reading.{Reading}
 use Rattle.book.specs.declared.Reading.the-variants.{Held, Unread}
-use Rattle.book.specs.declared.Field.the-variants.{Code, Flags, Balance, Limit}
-use Rattle.book.specs.Book.{each, bookCheck}
-use Rattle.book.specs.Accounts.{Stream, Rows, rowsOf, dayIn, streamsIn, banksIn, streamRow, column, filled as filledRows, bookIn, roomFor, With, onAnswer, readBook}
+use Rattle.book.specs.Book.{bookCheck}
+use Rattle.book.specs.Accounts.{Stream, Rows, rowsOf, streamsIn, banksIn, streamRow, column, filled as filledRows, bookIn, roomFor, With, onAnswer, readBook}
 use Rattle.book.proofs.Filling.{each-length}
 use Rattle.closing.specs.Closing.{Made, bookBytes, blocksFor, holdingColumns, holdingRows, streamsOf, banksOf, writeBook}
 use Rattle.closing.specs.declared.Writing.{Writing}
 use Rattle.closing.specs.declared.Writing.the-variants.{Written, Unwritten}
-use Rattle.engine.specs.declared.Phase.{Phase}
-use Rattle.engine.specs.declared.Phase.the-variants.{Fresh, Open, Closed}
+use Rattle.engine.specs.declared.Phase.the-variants.{Open, Closed}
 use Rattle.engine.specs.declared.Answer.{Answer}
 use Rattle.engine.specs.declared.Answer.the-variants.{Done, Refused}
-use Rattle.engine.specs.State.{Day}
-use Rattle.engine.specs.Days.{isLater, onDate, checked, openingAnswer, columnOf}
+use Rattle.engine.specs.Days.{isLater, onDate, openingAnswer}
 use Rattle.engine.proofs.Reading.{readers}
 use Rattle.tables.specs.declared.Desk.{Desk}
 use Rattle.tables.specs.Words.{filled}
 use Rattle.tables.specs.Rows.{streamsOn}
 use Rattle.tables.specs.Moment.{dayOn}
-use Rattle.days.specs.Opening.{Columns, columns, Full, Begins, bookDesk, bookColumns, openedOn, banksOn}
+use Rattle.days.specs.Opening.{Columns, columns, Full, bookDesk, bookColumns, openedOn, banksOn}
 
 -- ---- a later day
 

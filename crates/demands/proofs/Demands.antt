@@ -10,7 +10,7 @@ use Rattle.engine.specs.declared.Action.the-variants.{Opening}
 use Rattle.engine.specs.declared.Answer.{Answer}
 use Rattle.engine.specs.declared.Answer.the-variants.{Refused}
 use Rattle.engine.specs.declared.Phase.the-variants.{Closed}
-use Rattle.engine.specs.Calls.{Call, Engine, Result, judge, refused, call}
+use Rattle.engine.specs.Calls.{Call, Engine, Result, refused, call}
 use Rattle.engine.specs.Course.{Deed, start, course, since}
 use Rattle.engine.specs.Rules.{Valid, RightMemory}
 use Rattle.engine.specs.Answered.{Accounted, awaiting}
@@ -24,9 +24,9 @@ use Rattle.engine.proofs.Holding.{call-memory, cleared-memory}
 use Rattle.engine.proofs.Refusals.{refusals-change-nothing, refused-openings-change-nothing}
 use Rattle.engine.proofs.Promises.{numbers-are-right, rows-are-kept, texts-read-back, accounted, none-left-at-close, openings-are-right, closing-book-reads-back, balances-follow, payers-covered, none-would-pass, orders-are-kept, tests-by-rule, tries-are-right, room-is-enough}
 use Rattle.tables.specs.declared.Desk.{Desk}
-use Rattle.tables.specs.Rows.{Tables, stateIn, engineIn}
+use Rattle.tables.specs.Rows.{Tables, engineIn}
 use Rattle.tables.specs.Words.{deskOf, tablesOf}
-use Rattle.tables.specs.Lent.{Right, Lent, Left, leftBy as lentBy, broken, callLent, Called, Long, Wiped, clearLent, Cleared}
+use Rattle.tables.specs.Lent.{Right, Lent, Left, leftBy as lentBy, callLent, Long, Wiped, clearLent}
 use Rattle.tables.specs.Running.{Lending, lentTo, callIn, leftIn}
 use Rattle.tables.specs.Running as columns
 use Rattle.tables.specs.Choosing.{choosing, AllSameBut}
@@ -36,7 +36,7 @@ use Rattle.tables.proofs.Reported.{as-before, reported}
 use Rattle.tables.proofs.Choosing.{tests-leave-the-same}
 use Rattle.records.specs.Records.{balancesOf, Outcome, seenAs, outcomeOf, Beginning, wipedAs}
 use Rattle.records.proofs.Determined.{row-back, seen-back, determined}
-use Rattle.demands.specs.Demands.{Kept, tablesOn, engineOf, Calls, Clears, leftBy, begunBy, Doing, clearing, calling, Came, none, cleared, called, deeds, told, EverySince, Everywhere, asItWas, DemandOne, Whenever, DemandTwo, DemandThree}
+use Rattle.demands.specs.Demands.{Kept, tablesOn, engineOf, Calls, Clears, leftBy, begunBy, Doing, clearing, Came, none, cleared, called, deeds, told, EverySince, Everywhere, asItWas, DemandOne, Whenever, DemandTwo, DemandThree}
 use Rattle.demands.specs.Demands as demanded
 
 -- ---- what is kept says the model's engine

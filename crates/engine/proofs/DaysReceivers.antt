@@ -1,6 +1,5 @@
 -- Receivers are judged as payers are, and each message of a batch is. PROP is the third stream of the book; AAAA and DDDD are in it, BBBB is in it and
 -- suspended, CCCC is in the first two.
-use Prim.Native.Nat.{ℕ}
 use mathlib.Core.Path.{_≡_, refl}
 use mathlib.Core.List.{List, [], _∷_, _++_}
 use Rattle.chars.specs.Words.{bytes}

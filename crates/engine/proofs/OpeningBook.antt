@@ -3,16 +3,16 @@ use Prim.Native.Nat.{ℕ, zero, suc, _+_, _≤_}
 use mathlib.Core.Path.{_≡_, refl, sym, ap, subst, _∙_}
 use mathlib.Core.List.{List, [], _∷_, _++_}
 use native.Mathlib.Omega.{arith}
-use lib.ListN.{length, getD}
+use lib.ListN.{length}
 use Rattle.book.specs.Book.{each}
 use Rattle.closing.specs.Closing.{bankOf}
-use Rattle.book.specs.Accounts.{Bank, column, dayIn, streamsIn, banksIn}
+use Rattle.book.specs.Accounts.{Bank, column, banksIn}
 use Rattle.book.specs.declared.Field.the-variants.{Code, Flags, Balance, Limit}
 use Rattle.engine.specs.declared.Action.{Action}
 use Rattle.engine.specs.declared.Answer.{Answer}
 use Rattle.engine.specs.declared.Answer.the-variants.{Done, Refused}
 use Rattle.engine.specs.Kinds.{kindOf}
-use Rattle.engine.specs.Days.{columnOf, opened, openingAnswer, banksOf}
+use Rattle.engine.specs.Days.{columnOf, opened, openingAnswer}
 use Rattle.engine.specs.Calls.{Call, Engine, judge, openedBy, performed, judged, call}
 use Rattle.engine.specs.Promises.{Opens, OpensRight}
 use Rattle.engine.proofs.Refusals.{not-done}

@@ -12,7 +12,7 @@ use Rattle.chars.specs.Chars.{isCode, isDigit}
 use Rattle.codes.specs.Codes.{longOf, longText}
 use Rattle.codes.specs.declared.Code.{Code}
 use Rattle.dates.specs.Dates.{sum as total}
-use Rattle.values.proofs.Grammar.{IsWord, IsLetters}
+use Rattle.values.specs.Grammar.{IsWord, IsLetters}
 use Rattle.terms.specs.declared.Activation.{Activation}
 use Rattle.terms.specs.declared.Activation.the-variants.{AtOnce, Minute}
 use Rattle.request.specs.Request.{requestAt}

@@ -1,7 +1,7 @@
 -- The order of the batches that wait, and their minutes.
 use Prim.Native.Nat.{ℕ, zero, suc, _+_, _/_}
 use mathlib.Core.Path.{_≡_}
-use mathlib.Core.Bool.{Bool, true, false, _&&_, not, cond}
+use mathlib.Core.Bool.{Bool, true, false, _&&_, not}
 use mathlib.Core.List.{List, [], _++_}
 use lib.Dec.{eqb}
 use Rattle.clock.specs.Clock.{minutesOfDay, hasBegun}
@@ -10,7 +10,7 @@ use Rattle.queue.specs.Promise.{All}
 use Rattle.engine.specs.declared.Answer.{Answer}
 use Rattle.engine.specs.declared.Answer.the-variants.{Done, Refused}
 use Rattle.engine.specs.Kinds.{Kind, opens, steps, gives, kindOf}
-use Rattle.engine.specs.State.{Batches, State, isFree, onLive, placeAt}
+use Rattle.engine.specs.State.{Batches, isFree, onLive, placeAt}
 use Rattle.engine.specs.Joining.{placeMinute, keep, time, isDue}
 use Rattle.engine.specs.Messages.{waits, isComplete}
 use Rattle.engine.specs.Calls.{Call, Engine, Result, judge, begun}

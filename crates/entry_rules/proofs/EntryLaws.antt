@@ -1,9 +1,9 @@
 -- Laws of the tests of references and BINs.
-use Prim.Native.Nat.{ℕ, zero, suc, _+_, _*_, _-_, _≤_, _<_}
+use Prim.Native.Nat.{ℕ, _+_, _*_, _-_, _≤_, _<_}
 use mathlib.Core.Path.{_≡_, refl, sym, ap, _∙_}
 use mathlib.Core.Bool.{Bool, true, false, not, _&&_, cond, false≢true}
-use mathlib.Core.Logic.{_⊎_, inl, inr}
-use mathlib.Core.List.{List, [], _∷_, map}
+use mathlib.Core.Logic.{inl, inr}
+use mathlib.Core.List.{List, [], _∷_}
 use native.Mathlib.Omega.{arith}
 use lib.Dec.{eqb}
 use lib.ListN.{length, getD, take, drop}
@@ -16,7 +16,7 @@ use Rattle.queue.proofs.MemoryLaws.{byBool}
 use Rattle.engine.specs.State.{Entry, noEntry, sameCode, noCode}
 use Rattle.engine.specs.Rules.{isReference, isBin, RightEntry, remembered, Unlike, AllUnlike, notedToday}
 use Rattle.dates.specs.Dates.{isRemembered}
-use Rattle.tables.specs.Rows.{rows, entryIn, entriesIn}
+use Rattle.tables.specs.Rows.{entriesIn}
 use Rattle.tables.proofs.RowLaws.{rows-cut, rows-end}
 use Rattle.tables.proofs.TestLaws.{Both, both-same, says-no, says-yes, says-map, each-end, each-not, each-on}
 use Rattle.payment_tests.proofs.MarkLaws.{says-is}
@@ -103,9 +103,6 @@ module _ (t : List ℕ) (n : ℕ) where
       entries-on h r s e = each-on P b (entryAt i) (entriesFrom t n (i + 1)) (entries-cut i h) (says-yes r s e)
 
   -- those of today
-  abbrev isNoted : ℕ → Entry → Bool
-  isNoted today e = not (sameCode (e .code) noCode) && eqb (e .day) today
-
   pub record Noted (today i count : ℕ) : Type 0 where
     pub same : count + notedToday today (entriesFrom t n i) ≡ notedToday today (entriesIn n t)
     pub few : count ≤ i
@@ -130,9 +127,6 @@ module _ (t : List ℕ) (n : ℕ) where
 -- ---- one of today
 
 module _ (high low day today : ℕ) where
-  abbrev pub Today : Bool
-  Today = not (sameCode (entryOf high low day .code) noCode) && eqb day today
-
   and-false : (b : Bool) → false ≡ (b && false)
   and-false true = refl
   and-false false = refl

@@ -4,7 +4,7 @@ use Prim.Native.Nat.{ℕ, _+_, _*_, _%_, _≤_, _<_}
 use mathlib.Core.Path.{_≡_}
 use mathlib.Core.Bool.{Bool, true, not, _&&_}
 use mathlib.Core.List.{List}
-use lib.ListN.{getD, set}
+use lib.ListN.{getD}
 use Rattle.chars.specs.Words.{Says}
 use Rattle.dates.specs.Dates.{isRemembered}
 use Rattle.engine.specs.State.{sameCode, noCode}

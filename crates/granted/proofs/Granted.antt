@@ -1,34 +1,31 @@
 -- What the code of the calls may take for granted of tables that keep the rules.
-use Prim.Native.Nat.{ℕ, zero, suc, _+_, _*_, _≤_, _<_}
-use mathlib.Core.Path.{_≡_, refl, sym, ap, subst, _∙_}
+use Prim.Native.Nat.{ℕ, zero, suc, _≤_}
+use mathlib.Core.Path.{_≡_, refl, sym, subst}
 use mathlib.Core.Bool.{Bool, true, false, not, cond, _&&_}
 use mathlib.Core.List.{List, [], _∷_}
 use native.Mathlib.Omega.{arith}
 use lib.Dec.{eqb}
-use lib.ListN.{length, getD}
+use lib.ListN.{length}
 use Rattle.book.proofs.Filling.{each-length}
 use Rattle.closing.specs.Closing.{streamOf}
 use Rattle.settle.specs.Settlement.{accounts}
-use Rattle.settle.specs.Rules.{Books}
 use Rattle.engine.specs.declared.Phase.{Phase}
 use Rattle.engine.specs.declared.Phase.the-variants.{Fresh, Open, Closed}
 use Rattle.engine.specs.State.{Entry, sameCode, noCode, noBatches}
 use Rattle.engine.specs.Calls.{cleared}
-use Rattle.engine.specs.Rules.{RightHouse, RightMemory, notedToday, liveMessages}
-use Rattle.engine.proofs.Standing.{Stood, stood}
+use Rattle.engine.specs.Rules.{notedToday}
+use Rattle.engine.proofs.Standing.{stood}
 use Rattle.engine.proofs.Settling.{house-books}
 use Rattle.tables.specs.declared.Desk.{Desk}
 use Rattle.tables.specs.House.{houseOn}
 use Rattle.tables.specs.Rows.{Tables, word, batchIn, batchRows, batchesIn, memoryIn, entriesIn}
 use Rattle.tables.specs.Words.{deskOf, tablesOf}
-use Rattle.tables.specs.Lent.{Right, Long}
-use Rattle.batch_rules.specs.BatchRules.{LiveRow, RowIn, RowRight}
+use Rattle.tables.specs.Lent.{Right}
+use Rattle.batch_rules.specs.BatchRules.{LiveRow, RowIn}
 use Rattle.batch_rules.proofs.RowRules.{live-few, live-small, live-flat}
 use Rattle.batch_rules.proofs.Exact.{rows-wide, each-at, rules-exact}
-use Rattle.entry_rules.specs.EntryRules.{KnownRules}
-use Rattle.table_rules.specs.TableRules.{CrossRules, DayTables, TablesIn, placesOf}
+use Rattle.table_rules.specs.TableRules.{DayTables, TablesIn}
 use Rattle.table_rules.proofs.Parts.{entries-many, idle, none-desk, none-tables, tables-exact}
-use Rattle.stages.specs.Heads.{NeatTable, wordsOf}
 use Rattle.stages.proofs.Canon.{words-neat}
 pub use Rattle.granted.specs.Granting.{rowAt, Granted}
 use Rattle.steps.specs.Steps.{Counted}

@@ -1,23 +1,20 @@
 -- Laws of looking through remembered entries once, and of noting one.
-use Prim.Native.Nat.{ℕ, zero, suc, _+_, _-_, _*_, _≤_, _<_}
-use mathlib.Core.Path.{_≡_, refl, sym, ap, _∙_}
+use Prim.Native.Nat.{ℕ, suc, _+_, _-_, _*_, _≤_, _<_}
+use mathlib.Core.Path.{_≡_, refl, sym, _∙_}
 use mathlib.Core.Bool.{Bool, true, false, _&&_, cond}
-use mathlib.Core.List.{List, [], _∷_, _++_, map}
+use mathlib.Core.List.{List, [], _∷_}
 use native.Mathlib.Omega.{arith}
-use borrow.Author.Tests.{eq-eqb, ne-eqb, eqb-true, eqb-false}
+use borrow.Author.Tests.{eq-eqb, ne-eqb}
 use lib.Dec.{eqb}
-use lib.ListN.{length, getD, set, take, drop}
+use lib.ListN.{set, take, drop}
 use lib.Seq.{sets}
 use Rattle.codes.specs.declared.Code.{Code}
 use Rattle.queue.proofs.MemoryLaws.{byBool}
 use Rattle.engine.specs.State.{Found, at, nowhere, Entry}
 use Rattle.engine.specs.Memory.{isUsed, isVacant, vacant}
-use Rattle.tables.specs.declared.Sought.{Sought}
 use Rattle.tables.specs.declared.Sought.the-variants.{Here, Nowhere}
-use Rattle.tables.specs.Seeking.{foundBy}
-use Rattle.tables.specs.Rows.{rows, entryIn, entriesIn}
+use Rattle.tables.specs.Rows.{entryIn, entriesIn}
 use Rattle.tables.proofs.MemoryLaws.{vacantRows, vacant-start, vacant-end, vacant-here, vacant-on}
-use Rattle.noting.specs.declared.Looked.{Looked}
 use Rattle.noting.specs.Looking.{Looks}
 
 -- ---- the place found so far

@@ -1,19 +1,15 @@
 -- Numbers that are marked one after another: each below n, and none twice.
-use Prim.Native.Nat.{ℕ, zero, suc, _+_, _*_, _-_, _≤_, _<_}
+use Prim.Native.Nat.{ℕ, zero, suc, _-_, _≤_, _<_}
 use mathlib.Core.Path.{_≡_, refl, sym, ap, _∙_}
-use mathlib.Core.Bool.{Bool, true, false, not, cond, false≢true}
+use mathlib.Core.Bool.{Bool, true, false, not, false≢true}
 use mathlib.Core.List.{List, [], _∷_}
 use native.Mathlib.Omega.{arith}
-use lib.Dec.{eqb}
-use lib.ListN.{length, getD, set, take, drop, replicate}
-use lib.Seq.{getD-set-same, getD-set-other, getD-take, getD-drop}
-use borrow.Author.Tests.{not-true, not-false, eq-eqb, ne-eqb}
+use lib.ListN.{length, getD, set, replicate}
+use lib.Seq.{getD-set-same, getD-set-other}
+use borrow.Author.Tests.{not-false}
 use Rattle.chars.specs.Words.{Says}
 use Rattle.queue.specs.Promise.{All, Off, Once}
-use Rattle.tables.specs.Rows.{rows, word, howMany, batchRows}
-use Rattle.tables.proofs.RowLaws.{rows-cut, rows-end}
 use Rattle.tables.proofs.TestLaws.{Both, says-no, says-yes}
-use Rattle.batch_rules.specs.BatchRules.{ranksIn, Ranked}
 use Rattle.payment_tests.specs.Marks.{Marked, Below}
 
 pub says-is : (r b : Bool) → r ≡ b → Says (b ≡ true) r

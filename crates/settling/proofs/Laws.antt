@@ -1,11 +1,11 @@
 -- The test, and what it settled answered and ended.
-use Prim.Native.Nat.{ℕ, _+_, _≤_, _<_}
+use Prim.Native.Nat.{ℕ, _+_, _≤_}
 use mathlib.Core.Path.{_≡_, refl, sym, ap, subst, _∙_}
 use mathlib.Core.Bool.{Bool}
 use mathlib.Core.List.{List, _++_}
 use native.Mathlib.Omega.{arith}
 use lib.ListN.{length, take, drop, length-take}
-use lib.Seq.{sets, sets-eq, take-at, length-take-le, length-sets}
+use lib.Seq.{sets-eq, take-at, length-take-le, length-sets}
 use Rattle.settle.specs.Payments.{rowPayments}
 use Rattle.settle.specs.Settlement.{accounts}
 use Rattle.queue.specs.Tests.{Outcome, passedOf}

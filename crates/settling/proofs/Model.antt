@@ -1,6 +1,6 @@
 -- On rows of batches that keep the rules the test is the model's.
-use Prim.Native.Nat.{ℕ, zero, suc, _+_, _*_, _≤_, _<_}
-use mathlib.Core.Path.{_≡_, refl, sym, ap, _∙_}
+use Prim.Native.Nat.{ℕ, _≤_, _<_}
+use mathlib.Core.Path.{_≡_, refl, ap}
 use mathlib.Core.Bool.{Bool}
 use mathlib.Core.List.{List, [], _∷_}
 use native.Mathlib.Omega.{arith}
@@ -11,7 +11,7 @@ use lib.Seq.{length-take-le}
 use Rattle.settle.specs.Payments.{Payment, rowPayments}
 use Rattle.settle.specs.Settlement.{accounts}
 use Rattle.settle.specs.Rules.{Books, Good}
-use Rattle.queue.specs.Tests.{Outcome, test, fuel}
+use Rattle.queue.specs.Tests.{test, fuel}
 use Rattle.queue.specs.Rows.{AllGood}
 use Rattle.queue.specs.Promise.{All}
 use Rattle.queue.proofs.MemoryLaws.{byBool}

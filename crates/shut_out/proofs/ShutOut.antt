@@ -23,12 +23,12 @@ use Rattle.queue.proofs.History.{tries-one}
 use Rattle.engine.specs.declared.Action.the-variants.{Opening, Message, SubLimit, Tick, Close}
 use Rattle.engine.specs.declared.Answer.{Answer}
 use Rattle.engine.specs.declared.Answer.the-variants.{Done, Refused}
-use Rattle.engine.specs.Kinds.{Kind, opens, steps, gives, kindOf, onKind, isOpening, isClose, Own, ownOf}
+use Rattle.engine.specs.Kinds.{Kind, opens, steps, gives, kindOf, isOpening, Own}
 use Rattle.engine.specs.State.{onFound, seek, isFree, free, live, withPlace, Batches, Known, State, fresh, noEntry, noBatches, paymentsAt as placed}
 use Rattle.engine.specs.Messages.{Acted, Waking, place, firstBatch, withMessage}
 use Rattle.engine.specs.Joining.{keep}
 use Rattle.engine.specs.Days.{openingAnswer, banksOf}
-use Rattle.engine.specs.Calls.{Call, Engine, Result, judge, begun, act, woken, tested, goesOn, closes, refused, openedBy, bookGiven, stepped, performed, judged, call, cleared}
+use Rattle.engine.specs.Calls.{Call, Engine, Result, judge, begun, act, woken, tested, refused, openedBy, stepped, performed, judged, call, cleared}
 use Rattle.engine.specs.Course.{start, Deed, clears, calls, course, since, sinceOn}
 use Rattle.engine.specs.LeftBehind.{LeftBehind}
 use Rattle.engine.specs.Happened.{history, ByRuleIn}
@@ -36,7 +36,7 @@ use Rattle.engine.specs.Waiting.{isLive, hasStarted, joinedIn, completedNow, Or
 use Rattle.engine.specs.Answers.{answerNumber}
 use Rattle.engine.specs.Answered.{acted}
 use Rattle.engine.specs.Promises.{Agree, Always, BalancesFollow, NonePasses, Numbered, OpensRight, SameSeen, TestsByRule, Tried, View, Written, by, chosen, isDone, ledgerAfter, noLedger, view, viewsBy}
-use Rattle.shut_out.specs.Engines.{refusing, agreeing, doingNothing, inventing, steppedBy, performedBy, judgedBy, callBy, callWith, callActing, never}
+use Rattle.shut_out.specs.Engines.{refusing, agreeing, doingNothing, inventing, performedBy, judgedBy, callBy, callWith, callActing, never}
 use Rattle.engine.proofs.Refusals.{not-done}
 use Rattle.engine.proofs.Keeps.{keep-same}
 use Rattle.engine.proofs.Stories.{asked, says, alone, bank, begins-at, book, code, dr, pays, recallOf, request, timed, goes, reply132}

@@ -1,7 +1,7 @@
 -- A message that comes into a row: the row is the words of the batch with it.
 use Prim.Native.Nat.{ℕ, zero, suc, _+_, _-_, _*_, _≤_, _<_}
 use mathlib.Core.Path.{_≡_, refl, sym, ap, _∙_}
-use mathlib.Core.Bool.{true, false}
+use mathlib.Core.Bool.{false}
 use mathlib.Core.List.{List, [], _∷_, _++_, append-assoc, append-nil}
 use native.Mathlib.Omega.{arith}
 use native.Mathlib.Numerals.{add-one}
@@ -9,13 +9,13 @@ use borrow.Author.Tests.{ne-eqb}
 use lib.Dec.{eqb}
 use lib.ListN.{length, getD, set, take, drop, replicate, length-append, length-drop, length-replicate, replicate-append-replicate}
 use lib.Seq.{sets, sets-eq, set-getD, take-at, drop-at, drop-drop, drop-cons, length-take-le}
-use Rattle.settle.specs.Payments.{Payment, credit, debit, payment, paymentAt, paymentsFrom}
+use Rattle.settle.specs.Payments.{payment, paymentAt, paymentsFrom}
 use Rattle.codes.specs.declared.Code.{Code}
-use Rattle.engine.specs.State.{Message, Batch, Place, free, live, noBatches, paymentsOf}
+use Rattle.engine.specs.State.{Message, Batch, live, noBatches, paymentsOf}
 use Rattle.tables.specs.Rows.{word, activationIn, batchIn, placeIn, batchRows}
 use Rattle.tables.proofs.RowLaws.{row-at, put}
 use Rattle.tables.proofs.Batching.{live-back}
-use Rattle.tables.specs.Words.{filled, activationWord, paymentWords, paymentsWords, messageWords, messagesWords, batchWords}
+use Rattle.tables.specs.Words.{activationWord, paymentWords, paymentsWords, messageWords, messagesWords, batchWords}
 use Rattle.tables.specs.Arriving.{withOne}
 use Rattle.tables.proofs.Rowing.{Fits, payments-append, payments-long, messages-long}
 use Rattle.stages.specs.Heads.{headed, bareRow, Neat, NeatTable}
@@ -24,7 +24,7 @@ use Rattle.stages.proofs.StageLaws.{map-set, neat-set}
 use Rattle.stages.specs.Arriving.{Roomy, messageOf, rowWith, newRow}
 use Rattle.stages.proofs.OrderLaws.{cut}
 use Rattle.stages.proofs.JoinLaws.{none-left}
-use Rattle.stages.proofs.Storing.{headWords, neat-head}
+use Rattle.stages.proofs.Storing.{neat-head}
 
 -- ---- a neat row is its words
 

@@ -1,21 +1,21 @@
 -- The words of a state that keeps the rules are neat, and say it: so a stage on them is the model's step, and what is stored is the words of
 -- what the model leaves.
 use Prim.Native.Nat.{ℕ, _+_}
-use mathlib.Core.Path.{_≡_, refl, sym, ap, _∙_}
+use mathlib.Core.Path.{_≡_, sym, ap, _∙_}
 use mathlib.Core.Bool.{false}
 use mathlib.Core.List.{List, [], _∷_}
 use lib.Dec.{eqb}
-use lib.ListN.{length, getD}
+use lib.ListN.{getD}
 use Rattle.book.specs.Range.{Each}
 use Rattle.engine.specs.State.{Batch, Place, free, live, Batches}
 use Rattle.engine.specs.Rules.{RightMemory}
 use Rattle.engine.proofs.Standing.{Stood}
-use Rattle.tables.specs.Rows.{placeIn, batchRows, batchesIn, memoryIn}
+use Rattle.tables.specs.Rows.{batchesIn, memoryIn}
 use Rattle.tables.specs.Words.{batchWords, phaseOf, rankOf, placeWords}
 use Rattle.tables.proofs.Batching.{Lies, AllLie, placeRows, place-back, some-phase, whole}
 use Rattle.tables.proofs.Held.{places-lie, batches-held, batches-long, memory-held}
-use Rattle.stages.specs.Heads.{view, headed, bareRow, Neat, NeatTable, wordsOf}
-use Rattle.stages.specs.Stages.{seen, Ready, Became}
+use Rattle.stages.specs.Heads.{headed, bareRow, Neat, NeatTable, wordsOf}
+use Rattle.stages.specs.Stages.{seen, Became}
 use Rattle.stages.proofs.StageLaws.{zero-neat}
 
 bare-head : (phase rank memory : ℕ) (x : Batch) → eqb phase 0 ≡ false → headed 1 0 0 (batchWords phase rank memory x) ≡ batchWords 1 0 0 x

@@ -1,8 +1,7 @@
 -- Batches that were settled.
-use Prim.Native.Nat.{ℕ, zero, suc, _+_, _/_, _%_, _≤_, _<_}
-use mathlib.Core.Path.{_≡_, refl, sym, ap, _∙_}
-use mathlib.Core.Bool.{Bool, true, false}
-use mathlib.Core.List.{List, [], _∷_, _++_, map}
+use Prim.Native.Nat.{ℕ, _+_, _/_, _%_, _≤_, _<_}
+use mathlib.Core.Path.{_≡_, refl, sym, _∙_}
+use mathlib.Core.List.{List, [], _∷_}
 use native.Mathlib.Omega.{arith}
 use borrow.Author.Tests.{eq-eqb, ne-eqb}
 use lib.Dec.{eqb}
@@ -11,10 +10,10 @@ use lib.Seq.{set-out}
 use Rattle.queue.specs.Tests.{passedOf}
 use Rattle.queue.specs.Memory.{forgotten}
 use Rattle.queue.proofs.MemoryLaws.{byBool}
-use Rattle.engine.specs.State.{Place, free, live, Batches}
+use Rattle.engine.specs.State.{Place, free, Batches}
 use Rattle.engine.specs.Ending.{emptied}
 use Rattle.tables.specs.Rows.{placeIn, batchRows}
-use Rattle.stages.specs.Heads.{Neat, NeatTable}
+use Rattle.stages.specs.Heads.{NeatTable}
 use Rattle.stages.specs.Stages.{placesIn, Emptied}
 use Rattle.stages.proofs.HeadLaws.{rows-many}
 use Rattle.stages.proofs.OrderLaws.{cut}

@@ -1,19 +1,19 @@
 -- A letter that is changed in a row: the row is the words of the batch with it.
-use Prim.Native.Nat.{ℕ, zero, suc, _+_, _-_, _*_, _%_, _≤_, _<_}
+use Prim.Native.Nat.{ℕ, suc, _+_, _-_, _*_, _%_, _≤_, _<_}
 use mathlib.Core.Path.{_≡_, refl, sym, ap, _∙_}
-use mathlib.Core.Bool.{Bool, true, false, cond, false≢true}
+use mathlib.Core.Bool.{cond}
 use mathlib.Core.List.{List, [], _∷_, _++_, append-assoc}
 use native.Mathlib.Omega.{arith}
 use borrow.Author.Tests.{eq-eqb, ne-eqb}
 use lib.Dec.{eqb}
-use lib.ListN.{length, getD, set, replicate, length-append, length-replicate}
+use lib.ListN.{length, getD, set, replicate, length-append}
 use lib.Seq.{getD-at, set-at}
 use Rattle.settle.specs.Payments.{Payment, credit, debit}
 use Rattle.book.specs.Range.{Each}
 use Rattle.engine.specs.State.{Message, Batch, paymentsOf}
 use Rattle.engine.specs.Changes.{withEsa, relabel, relettered}
 use Rattle.engine.proofs.Lettering.{relettered-payments, relettered-length}
-use Rattle.tables.specs.Words.{filled, activationWord, paymentWords, paymentsWords, messagesWords, batchWords}
+use Rattle.tables.specs.Words.{filled, activationWord, paymentsWords, messagesWords, batchWords}
 use Rattle.tables.proofs.Rowing.{Fits, first-long, payments-long}
 use Rattle.stages.specs.Lettering.{lettersWith, reletterFrom}
 

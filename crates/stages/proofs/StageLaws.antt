@@ -1,18 +1,17 @@
 -- The stages.
 use Prim.Native.Nat.{ℕ, zero, suc, _+_, _≤_, _<_}
 use mathlib.Core.Path.{_≡_, refl, sym, ap, _∙_}
-use mathlib.Core.Bool.{Bool, true, false, not, cond}
+use mathlib.Core.Bool.{Bool, true, false, not}
 use mathlib.Core.List.{List, [], _∷_, _++_, map}
 use native.Mathlib.Omega.{arith}
 use lib.Dec.{eqb}
-use lib.ListN.{length, getD, set, take, replicate}
-use Rattle.book.specs.Range.{Each}
-use Rattle.engine.specs.State.{Place, free, live, Batches}
+use lib.ListN.{length, set, take, replicate}
+use Rattle.engine.specs.State.{free}
 use Rattle.engine.specs.Messages.{ended}
 use Rattle.engine.specs.Joining.{keep, byTime, join}
 use Rattle.engine.proofs.Seeking.{each-set}
 use Rattle.tables.specs.Rows.{placeIn, ranked, batchRows, batchesIn}
-use Rattle.stages.specs.Heads.{view, headed, bareRow, Neat, NeatTable}
+use Rattle.stages.specs.Heads.{headed, Neat, NeatTable}
 use Rattle.stages.specs.Stages.{seen, Ready, Became, placesIn, minuteAt, dueAt, tailed}
 
 pub map-set : {A B : Type 0} (f : A → B) (l : List A) (p : ℕ) (x : A) → map f (set l p x) ≡ set (map f l) p (f x)

@@ -1,21 +1,20 @@
 -- The heads as stored: a neat table is the words of its places, with the orders and the memory that were stored.
 use Prim.Native.Nat.{ℕ, zero, suc, _+_, _*_, _≤_, _<_}
 use mathlib.Core.Path.{_≡_, refl, sym, ap, _∙_}
-use mathlib.Core.Bool.{true, false}
 use mathlib.Core.List.{List, [], _∷_, _++_, map, append-nil}
 use native.Mathlib.Nat.{zero-mul, suc-mul}
 use native.Mathlib.Omega.{arith}
 use native.Mathlib.Numerals.{add-one}
 use lib.Dec.{eqb}
 use lib.ListN.{length, getD, set, take, drop, replicate, length-drop, take-append-drop}
-use lib.Seq.{take-suc-set, drop-set-lt, drop-cons, take-all, append-snoc}
+use lib.Seq.{take-suc-set, drop-set-lt, take-all, append-snoc}
 use Rattle.book.specs.Range.{Each}
 use Rattle.queue.proofs.MemoryLaws.{byBool}
 use Rattle.engine.specs.State.{Batch, Place, free, live, Batches}
 use Rattle.tables.specs.Rows.{rows, word, batchIn, placeIn, batchRows}
 use Rattle.tables.specs.Words.{batchWords, phaseOf, rankOf, placeWords, placesWords}
 use Rattle.tables.proofs.Batching.{placeRows}
-use Rattle.stages.specs.Heads.{view, headed, headedRows, bareRow, Neat, NeatTable, wordsOf}
+use Rattle.stages.specs.Heads.{view, headed, headedRows, Neat, NeatTable, wordsOf}
 use Rattle.stages.proofs.HeadLaws.{rows-many, row-cut, row-end}
 
 -- ---- a row

@@ -8,7 +8,7 @@ use lib.Dec.{eqb}
 use lib.ListN.{length, getD, set, replicate}
 use Rattle.book.specs.Range.{Each}
 use Rattle.engine.specs.State.{Place, free, live, Batches}
-use Rattle.tables.specs.Rows.{word, placeIn, batchRows, batchesIn, memoryIn}
+use Rattle.tables.specs.Rows.{word, placeIn, batchRows}
 use Rattle.tables.specs.Words.{batchWords, phaseOf, rankOf, placesWords}
 
 -- the batches that the rows say, with the orders that stand beside them

@@ -1,13 +1,13 @@
 -- Laws of the tests of live BINs and messages.
 use Prim.Native.Nat.{ℕ, zero, suc, _+_, _*_, _-_, _≤_, _<_}
 use mathlib.Core.Path.{_≡_, refl, sym, ap, _∙_}
-use mathlib.Core.Bool.{Bool, true, false, not, _||_, cond, false≢true}
+use mathlib.Core.Bool.{Bool, true, false, not, false≢true}
 use mathlib.Core.List.{List, [], _∷_, map}
 use native.Mathlib.Omega.{arith}
 use lib.Dec.{eqb, leb}
 use lib.ListN.{length, getD, take, drop}
 use lib.Seq.{getD-take, getD-drop}
-use borrow.Author.Tests.{not-true, not-false, eqb-true, eq-eqb, ne-eqb, leb-true, leb-false}
+use borrow.Author.Tests.{eqb-true, eq-eqb, ne-eqb, leb-true, leb-false}
 use Rattle.chars.specs.Words.{Says}
 use Rattle.codes.specs.declared.Code.{Code}
 use Rattle.book.specs.Range.{Each}
@@ -16,7 +16,7 @@ use Rattle.engine.specs.State.{Place, free, live, sameCode, placeMessages}
 use Rattle.engine.specs.Rules.{remembered, Unlike, AllUnlike, has, liveBins, liveMessages, notedToday}
 use Rattle.tables.specs.Rows.{rows, word, placeIn, batchIn, batchRows, entriesIn}
 use Rattle.tables.proofs.RowLaws.{rows-cut, rows-end}
-use Rattle.tables.proofs.TestLaws.{Both, both-same, says-no, says-yes, says-map, each-end, each-not, each-on}
+use Rattle.tables.proofs.TestLaws.{Both, both-same, says-no, says-yes}
 use Rattle.batch_rules.specs.BatchRules.{RowIn, RowRight}
 use Rattle.batch_rules.proofs.RowWords.{messages-many}
 use Rattle.entry_rules.specs.EntryRules.{codeOf, entriesFrom}

@@ -1,5 +1,5 @@
 -- Laws of the tests of the desk and of a day's tables.
-use Prim.Native.Nat.{ℕ, _+_, _*_, _-_, _≤_, _<_}
+use Prim.Native.Nat.{ℕ, _*_, _-_, _≤_, _<_}
 use mathlib.Core.Path.{_≡_}
 use mathlib.Core.Bool.{Bool, true, false, not}
 use mathlib.Core.List.{List}
@@ -27,21 +27,6 @@ pub past-all : (row : List ℕ) (n : ℕ) → length row ≡ 16 → (r : Bool) �
 past-all row n l r s = rw (take-all (16 - 2 * n) (drop (2 * n) row) (omega (arith, length-drop (2 * n) row))) at s
 
 module _ (d : Desk) (codes flags balances limits : List ℕ) where
-  abbrev House : Type 0
-  House = RightHouse (houseOn d codes flags) balances limits
-
-  pub desk-date : 36525 ≤ d .date → DeskRules d codes flags balances limits → ⊥
-  desk-date h x = omega (arith, x .date)
-
-  pub desk-clock : 86400 ≤ d .clock → DeskRules d codes flags balances limits → ⊥
-  desk-clock h x = omega (arith, x .clock)
-
-  pub desk-streams : d .n < 1 → DeskRules d codes flags balances limits → ⊥
-  desk-streams h x = omega (arith, x .some-streams)
-
-  pub desk-banks : d .banks < 1 → DeskRules d codes flags balances limits → ⊥
-  desk-banks h x = omega (arith, x .some-banks)
-
   module _ (a : Bool) (s : Says (RightHouse (houseOn d codes flags) balances limits) a) where
     pub desk-house : not a ≡ true → DeskRules d codes flags balances limits → ⊥
     desk-house e x = says-no a s e (x .house)

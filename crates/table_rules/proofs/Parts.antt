@@ -1,17 +1,17 @@
 -- The rules over what is lent, part by part, are exactly `Right`.
-use Prim.Native.Nat.{ℕ, zero, suc, _+_, _*_, _-_, _≤_, _<_}
+use Prim.Native.Nat.{ℕ, zero, suc, _+_, _*_, _-_, _≤_}
 use mathlib.Core.Path.{_≡_, refl, sym, ap, subst, _∙_}
-use mathlib.Core.List.{List, [], _∷_, _++_, map}
+use mathlib.Core.List.{List, [], _∷_, _++_}
 use native.Mathlib.Omega.{arith}
 use lib.ListN.{length, getD, take, drop, replicate, length-map, length-replicate, replicate-append-replicate}
-use lib.Seq.{drop-cons, length-take-le}
+use lib.Seq.{drop-cons}
 use Rattle.book.specs.Book.{each}
 use Rattle.book.specs.Accounts.{Stream, streamRow}
 use Rattle.book.proofs.Filling.{each-length}
 use Rattle.closing.specs.Closing.{streamOf}
 use Rattle.engine.specs.declared.Phase.{Phase}
 use Rattle.engine.specs.declared.Phase.the-variants.{Fresh, Open, Closed}
-use Rattle.engine.specs.State.{Place, free, Batches, Entry, noEntry, State, fresh, noBatches}
+use Rattle.engine.specs.State.{free, Batches, noEntry, State, fresh, noBatches}
 use Rattle.engine.specs.Calls.{Engine, cleared}
 use Rattle.engine.specs.Rules.{Opened, Valid, ValidIn, RightMemory}
 use Rattle.engine.proofs.Holding.{cleared-memory}
@@ -19,16 +19,14 @@ use Rattle.tables.specs.declared.Desk.{Desk}
 use Rattle.tables.specs.House.{AllZero}
 use Rattle.tables.specs.Rows.{Tables, rows, streamsOn, batchesIn, memoryIn, entriesIn, stateIn, engineIn}
 use Rattle.tables.specs.Words.{filled, placesWords, entriesWords, tablesOf, deskOf}
-use Rattle.tables.specs.Lent.{Right, Long}
+use Rattle.tables.specs.Lent.{Right}
 use Rattle.tables.proofs.Rowing.{filled-long}
 use Rattle.tables.proofs.Held.{held}
 use Rattle.tables.proofs.Kept.{right-of, right-long}
 use Rattle.tables.proofs.TestLaws.{Both}
-use Rattle.batch_rules.specs.BatchRules.{BatchRules, RightTable}
 use Rattle.batch_rules.proofs.RowWords.{zeros, all-zero, filled-part, part-filled}
 use Rattle.batch_rules.proofs.Exact.{rows-many, rules-exact}
-use Rattle.entry_rules.specs.EntryRules.{KnownRules}
-use Rattle.table_rules.specs.TableRules.{Blank, NoAccounts, NoRows, NoTables, DeskRules, CrossRules, DayTables, TablesIn, TableRules}
+use Rattle.table_rules.specs.TableRules.{Blank, NoAccounts, NoRows, NoTables, DayTables, TablesIn, TableRules}
 
 -- ---- references and BINs: rows of three words have no unused ones
 

@@ -1,7 +1,6 @@
 use Prim.Native.Nat.{_*_}
 use native.Mathlib.Omega.{arith}
 use lib.ListN.{length-set}
-use native.Mathlib.Numerals.{add-one}
 use Rattle.noting.proofs.Laws.{stored-three}
 use borrow.Author.Needs.{needs}
 use Rattle.noting.proofs.note.Statement.{statement}

@@ -2,7 +2,7 @@ use borrow.Author.Needs.{needs}
 use mathlib.Core.Path.{_≡_}
 use Prim.Native.Nat.{_-_, _≤_}
 use lib.Dec.{eqb}
-use lib.ListN.{length, take, drop}
+use lib.ListN.{take, drop}
 use Rattle.engine.specs.State.{seekFrom, seek}
 use Rattle.stages.proofs.OrderLaws.{order-here, order-on, order-end}
 use Rattle.stages.proofs.orders.position.Statement.{statement}

@@ -1,9 +1,7 @@
 use native.Mathlib.Omega.{arith}
 use borrow.Author.Needs.{needs}
 use mathlib.Core.Path.{_≡_}
-use mathlib.Core.Bool.{not}
 use Prim.Native.Nat.{_-_, _≤_}
-use lib.Dec.{eqb}
 use lib.ListN.{length, length-set, take}
 use Rattle.engine.specs.Joining.{keep}
 use Rattle.stages.proofs.OrderLaws.{others, packed, others-start, others-turn, others-done}

@@ -1,8 +1,7 @@
 use borrow.Author.Needs.{needs}
 use Rattle.stages.proofs.EndLaws.{Ending, ending-start, ending-turn, ending-done}
-use native.Mathlib.Omega.{arith}
 use lib.ListN.{length}
-use Prim.Native.Nat.{_-_, _≤_}
+use Prim.Native.Nat.{_-_}
 use mathlib.Core.Path.{_≡_}
 use Rattle.stages.proofs.settled.end_passed.Statement.{statement}
 use Rattle.stages.proofs.settled.end_passed.Tie as tie

@@ -1,5 +1,4 @@
 use Rattle.stages.proofs.EndLaws.{try-failed, try-passed}
-use native.Mathlib.Omega.{arith}
 use borrow.Author.Needs.{needs}
 use Rattle.stages.proofs.settled.end_try.Statement.{statement}
 use Rattle.stages.proofs.settled.end_try.Tie as tie
