@@ -3,6 +3,8 @@
  * passed on, or the number with which the sender is to be answered.
  *
  *     gateway request|response|book FILE
+ *
+ * The exit status is 0, or 1 where the file is refused or cannot be read, or 2 for a wrong call.
  */
 #include <inttypes.h>
 #include <stdio.h>
@@ -38,34 +40,73 @@ static void print_response(const uint64_t *row) {
     else printf("rejected %02" PRIu64 "\n", row[PURMAGHELI_RESPONSE_DETAIL + PURMAGHELI_FIELD_VALUE]);
 }
 
-int main(int argc, char **argv) {
-    uint64_t row[PURMAGHELI_REQUEST_WORDS];
-    if (argc != 3) {
-        fprintf(stderr, "usage: gateway request|response|book FILE\n");
-        return 2;
-    }
-    FILE *file = fopen(argv[2], "rb");
+static int usage(void) {
+    fprintf(stderr, "usage: gateway request|response|book FILE\n");
+    return 2;
+}
+
+/* How many bytes of a file stand in `bytes` now; -1 if it cannot be read, which has been told. */
+static long read_file(const char *name) {
+    FILE *file = fopen(name, "rb");
     if (!file) {
-        perror(argv[2]);
-        return 1;
+        perror(name);
+        return -1;
     }
     size_t length = fread(bytes, 1, sizeof bytes, file);
+    int failed = ferror(file); /* a directory can be opened, but not read */
+    if (failed) perror(name);
     fclose(file);
+    return failed ? -1 : (long)length;
+}
 
-    uint64_t number;
-    if (strcmp(argv[1], "request") == 0) number = purmagheli_read_request(bytes, length, row, PURMAGHELI_REQUEST_WORDS);
-    else if (strcmp(argv[1], "response") == 0) number = purmagheli_read_response(bytes, length, row, PURMAGHELI_REQUEST_WORDS);
-    else number = purmagheli_check_book(bytes, length);
+static int refused(uint64_t number) {
+    printf("refused %02" PRIu64 "\n", number);
+    return 1;
+}
 
-    if (strcmp(argv[1], "book") == 0) {
-        if (number == 0) printf("sound\n");
-        else printf("refused %02" PRIu64 "\n", number);
-    } else if (number != 0) {
-        printf("refused %02" PRIu64 " at byte %" PRIu64 "\n", number, row[PURMAGHELI_BREAK_AT]);
-    } else if (strcmp(argv[1], "request") == 0) {
-        print_request(row);
-    } else {
-        print_response(row);
-    }
+/* A text that is refused leaves where in the row. */
+static int refused_at(uint64_t number, const uint64_t *row) {
+    printf("refused %02" PRIu64 " at byte %" PRIu64 "\n", number, row[PURMAGHELI_BREAK_AT]);
+    return 1;
+}
+
+static int show_request(size_t length) {
+    uint64_t row[PURMAGHELI_REQUEST_WORDS];
+    uint64_t number = purmagheli_read_request(bytes, length, row, PURMAGHELI_REQUEST_WORDS);
+    if (number) return refused_at(number, row);
+    print_request(row);
     return 0;
+}
+
+static int show_response(size_t length) {
+    uint64_t row[PURMAGHELI_RESPONSE_WORDS];
+    uint64_t number = purmagheli_read_response(bytes, length, row, PURMAGHELI_RESPONSE_WORDS);
+    if (number) return refused_at(number, row);
+    print_response(row);
+    return 0;
+}
+
+/* The check of a book writes no row. */
+static int show_book(size_t length) {
+    uint64_t number = purmagheli_check_book(bytes, length);
+    if (number) return refused(number);
+    printf("sound\n");
+    return 0;
+}
+
+int main(int argc, char **argv) {
+    if (argc != 3) return usage();
+    int (*show)(size_t) = strcmp(argv[1], "request") == 0    ? show_request
+                          : strcmp(argv[1], "response") == 0 ? show_response
+                          : strcmp(argv[1], "book") == 0     ? show_book
+                                                             : 0;
+    if (!show) return usage();
+    long length = read_file(argv[2]);
+    if (length < 0) return 1;
+    int status = show((size_t)length);
+    if (fflush(stdout) != 0 || ferror(stdout)) {
+        perror("standard output");
+        return 1;
+    }
+    return status;
 }

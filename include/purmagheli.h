@@ -1,15 +1,22 @@
 /*
- * Purmagheli's readers for a gateway in C99 or C++: the text of a request (131, 133), the text of a
- * response (132, 134), and the check of a book. Link target/staticlib/libgateway.a, which
- * `rt staticlib gateway` builds.
+ * Purmagheli for programs in C99 or C++ on x86-64, Linux.
  *
- * Each function answers 0, or the number of document 01 by which it refuses. It keeps nothing
- * between calls, allocates nothing, and may be called from several threads at once.
+ * The readers of a gateway: the text of a request (131, 133), the text of a response (132, 134), and
+ * the check of a book. Link target/staticlib/libgateway.a, which `./purmagheli library gateway` builds.
+ *
+ * The engine: a house's day from opening to closing book. Link target/staticlib/liblending.a, which
+ * `./purmagheli library lending` builds. Both archives may be linked together.
+ *
+ * Rows, numbers and functions belong to the archives of the same commit: there is no version in them.
+ *
+ * Each function answers 0, or the number by which it refuses; docs/RULES.md has them all. It keeps nothing
+ * between calls, allocates nothing, and may be called from several threads at once, each with what it
+ * writes to.
  *
  * A caller lends a text or a book as a pointer and a number of bytes, and a row as a pointer and a
- * number of words. It sees to it that no pointer is null (an empty text too has an address), that
- * so many bytes or words can be read, and those of a row written, and that nothing else writes
- * them during the call. A text and a row must not overlap.
+ * number of words. It sees to it that no pointer is null, which no function can refuse (what is empty
+ * too has an address), that so many bytes or words can be read, and those of a row or a buffer
+ * written, and that nothing else writes them during the call. No two things lent to a call overlap.
  */
 #ifndef PURMAGHELI_H
 #define PURMAGHELI_H
@@ -117,21 +124,273 @@ extern "C" {
 
 /*
  * Reads a request into the first PURMAGHELI_REQUEST_WORDS words of a row; words past them are not
- * touched. 7 for a row of fewer words, which is not touched; 80, 81, 87 or 88 for a text that is
- * refused.
+ * touched. 7 for a row of fewer words, which is not touched. Else a text that is refused, by the first
+ * thing that is wrong with it:
+ *
+ *   80   the first of a debit's four letters is none of A, D, P, space
+ *   81   the second or third is none of them
+ *   87   a line is missing, stands elsewhere, or has a wrong value
+ *   88   a sub type that is neither 131 nor 133
+ *
+ * A gateway replies to the sender with that number, and the text goes no further.
  */
 uint64_t purmagheli_read_request(const uint8_t *text, size_t text_length, uint64_t *row, size_t row_length);
 
 /*
- * Reads a response into the first PURMAGHELI_RESPONSE_WORDS words of a row, likewise. 7, 87 or 88.
+ * Reads a response into the first PURMAGHELI_RESPONSE_WORDS words of a row, likewise: 7, 87, or 88 for a
+ * sub type that is neither 132 nor 134. Such a text is asked for again.
  */
 uint64_t purmagheli_read_response(const uint8_t *text, size_t text_length, uint64_t *row, size_t row_length);
 
 /*
- * Checks a book. 11 for its length, 12 for a block's check, 13 for a header, the date or unused
- * bytes, 14 for an entry, 15 for the total.
+ * Checks a book. It goes back to whoever made it with
+ *
+ *   11   not two to five blocks of 512 bytes
+ *   12   a block's check does not fit
+ *   13   a block's header, its counts, the date, or an unused byte that is not zero
+ *   14   an entry: a code, the order of the codes, an administrator, a flag, a stream bit, money out of range
+ *   15   the total of the balances is out of range
  */
 uint64_t purmagheli_check_book(const uint8_t *book, size_t book_length);
+
+/* ---- the engine */
+
+/*
+ * All that a house keeps, as plain data: it may be copied, stored and compared, and nothing of it
+ * stands elsewhere. There is one writer: two calls on the same engine do not run at once. Before its
+ * first day an engine is cleared, whatever it holds. docs/FORMAT.md says each word,
+ * docs/OPERATING.md how a house is run.
+ */
+#define PURMAGHELI_DESK_WORDS 22
+#define PURMAGHELI_DESK_PHASE 0
+#define PURMAGHELI_DESK_DATE 1
+#define PURMAGHELI_DESK_CLOCK 2
+#define PURMAGHELI_DESK_TEXTS 3
+#define PURMAGHELI_DESK_BANKS 4
+#define PURMAGHELI_DESK_STREAMS 5
+#define PURMAGHELI_DESK_STREAM 6
+#define PURMAGHELI_STREAMS 8
+#define PURMAGHELI_STREAM_WORDS 2
+#define PURMAGHELI_PHASE_FRESH 0
+#define PURMAGHELI_PHASE_OPEN 1
+#define PURMAGHELI_PHASE_CLOSED 2
+#define PURMAGHELI_BANKS 64
+#define PURMAGHELI_BANK_WORDS 4
+#define PURMAGHELI_BANK_CODE 0
+#define PURMAGHELI_BANK_FLAGS 1
+#define PURMAGHELI_BANK_BALANCE 2
+#define PURMAGHELI_BANK_SUBLIMIT 3
+#define PURMAGHELI_BATCHES 32
+#define PURMAGHELI_BATCH_WORDS 349
+#define PURMAGHELI_REFERENCES 2048
+#define PURMAGHELI_REFERENCE_WORDS 3
+#define PURMAGHELI_BINS 512
+#define PURMAGHELI_BIN_WORDS 3
+
+typedef struct {
+    uint64_t code, flags, balance, sublimit;
+} purmagheli_bank;
+
+typedef struct {
+    /* phase, date, clock, texts, banks, streams in use, 8 times code and administrator */
+    uint64_t desk[PURMAGHELI_DESK_WORDS];
+    purmagheli_bank banks[PURMAGHELI_BANKS];
+    uint64_t batches[PURMAGHELI_BATCHES][PURMAGHELI_BATCH_WORDS];
+    uint64_t references[PURMAGHELI_REFERENCES][PURMAGHELI_REFERENCE_WORDS];
+    uint64_t bins[PURMAGHELI_BINS][PURMAGHELI_BIN_WORDS];
+} purmagheli_engine;
+
+/*
+ * What is lent to a call for its texts, or for a closing book, and for its tries: a buffer of `room`
+ * bytes and a row of `rows` words. ROOM bytes and TRIES words are enough for every call and wanted by
+ * every call, but that a closing book wants no more room than it has bytes.
+ */
+#define PURMAGHELI_ROOM 33705
+#define PURMAGHELI_TRIES 528
+
+typedef struct {
+    uint8_t *out;
+    size_t room;
+    uint64_t *tries;
+    size_t rows;
+} purmagheli_lent;
+
+/*
+ * What a call tells: its answer, how many bytes it has written from the buffer's beginning, and how
+ * many tries of the queue test from the row's: twice the batch's place, plus 1 for one that settled.
+ * Past them buffer and row are as before.
+ */
+typedef struct {
+    uint64_t answer;
+    size_t written;
+    size_t tried;
+} purmagheli_told;
+
+/*
+ * The exported functions, on rows: each table is a pointer and a length in words, of any length. The
+ * functions further down call them with the rows of a purmagheli_engine.
+ *
+ * quick: 0 is the plain queue test, any other number the quick one. What an action takes:
+ *
+ *   OPENING        input: the book
+ *   MESSAGE        first: the sender; input: the text
+ *   SUBLIMIT       first: the bank; second: cents
+ *   STATUS         first: the bank; second, third: the BIN; fourth: the letter
+ *   TICK, CLOSE    nothing
+ *   CLOSING_BOOK   first: the date as the number YYMMDD
+ *
+ * What it does not take is not looked at. The report gets the bytes written and the tries made, in
+ * every call but these, which leave every word and byte as it is: 7 for a report of fewer than two
+ * words; then 6 for a desk of another length or with a phase that is none, or for banks of another
+ * length. The other tables are 6 too where their length is another; then an action that is none of
+ * these is 5. No length ends otherwise than with a listed answer.
+ */
+#define PURMAGHELI_ACTION_OPENING 0
+#define PURMAGHELI_ACTION_MESSAGE 1
+#define PURMAGHELI_ACTION_SUBLIMIT 2
+#define PURMAGHELI_ACTION_STATUS 3
+#define PURMAGHELI_ACTION_TICK 4
+#define PURMAGHELI_ACTION_CLOSE 5
+#define PURMAGHELI_ACTION_CLOSING_BOOK 6
+#define PURMAGHELI_REPORT_WORDS 2
+#define PURMAGHELI_REPORT_WRITTEN 0
+#define PURMAGHELI_REPORT_TRIED 1
+
+uint64_t purmagheli_call_rows(
+    uint64_t quick, uint64_t clock, uint64_t action, uint64_t first, uint64_t second, uint64_t third, uint64_t fourth,
+    const uint8_t *input, size_t input_length,
+    uint64_t *desk, size_t desk_length,
+    uint64_t *banks, size_t banks_length,
+    uint64_t *batches, size_t batches_length,
+    uint64_t *references, size_t references_length,
+    uint64_t *bins, size_t bins_length,
+    uint8_t *out, size_t out_length,
+    uint64_t *tries, size_t tries_length,
+    uint64_t *report, size_t report_length);
+
+/* A fresh start: 0 and all words zero; 6 for a row of another length, and then nothing has changed. */
+uint64_t purmagheli_clear_rows(
+    uint64_t *desk, size_t desk_length,
+    uint64_t *banks, size_t banks_length,
+    uint64_t *batches, size_t batches_length,
+    uint64_t *references, size_t references_length,
+    uint64_t *bins, size_t bins_length);
+
+/* ---- codes from characters; a string that is too short is filled up with zeros */
+
+/* So many characters of a string as a number, the first one the most significant. */
+static inline uint64_t purmagheli_packed(const char *s, int characters) {
+    uint64_t code = 0;
+    int i;
+    for (i = 0; i < characters; i++) {
+        code = code << 8 | (unsigned char)*s;
+        if (*s) s++;
+    }
+    return code;
+}
+
+/* A bank's or a stream's code. */
+static inline uint64_t purmagheli_code4(const char *s) { return purmagheli_packed(s, 4); }
+
+/* A reference or a BIN: its first eight characters, and those behind them. */
+static inline uint64_t purmagheli_code_high(const char *s) { return purmagheli_packed(s, 8); }
+
+static inline uint64_t purmagheli_code_low(const char *s) {
+    int i;
+    for (i = 0; i < 8 && *s; i++) s++;
+    return purmagheli_packed(s, 8);
+}
+
+/* ---- the calls on an engine */
+
+/* Any of the actions. */
+static inline purmagheli_told purmagheli_call(
+    purmagheli_engine *e, int quick, uint64_t clock, purmagheli_lent lent, uint64_t action,
+    uint64_t first, uint64_t second, uint64_t third, uint64_t fourth, const uint8_t *input, size_t length) {
+    uint64_t report[PURMAGHELI_REPORT_WORDS] = {0, 0};
+    purmagheli_told told;
+    told.answer = purmagheli_call_rows(
+        quick != 0, clock, action, first, second, third, fourth, input, length, e->desk, PURMAGHELI_DESK_WORDS,
+        (uint64_t *)e->banks, PURMAGHELI_BANKS * PURMAGHELI_BANK_WORDS, e->batches[0], PURMAGHELI_BATCHES * PURMAGHELI_BATCH_WORDS,
+        e->references[0], PURMAGHELI_REFERENCES * PURMAGHELI_REFERENCE_WORDS, e->bins[0], PURMAGHELI_BINS * PURMAGHELI_BIN_WORDS,
+        lent.out, lent.room, lent.tries, lent.rows, report, PURMAGHELI_REPORT_WORDS);
+    told.written = (size_t)report[PURMAGHELI_REPORT_WRITTEN];
+    told.tried = (size_t)report[PURMAGHELI_REPORT_TRIED];
+    return told;
+}
+
+/* An action without a text or a book. */
+static inline purmagheli_told purmagheli_act(
+    purmagheli_engine *e, int quick, uint64_t clock, purmagheli_lent lent, uint64_t action,
+    uint64_t first, uint64_t second, uint64_t third, uint64_t fourth) {
+    const uint8_t none = 0;
+    return purmagheli_call(e, quick, clock, lent, action, first, second, third, fourth, &none, 0);
+}
+
+/* A fresh start: all zero, no day, nothing remembered. Any contents are accepted, so the answer is 0. */
+static inline purmagheli_told purmagheli_clear(purmagheli_engine *e) {
+    purmagheli_told told;
+    told.answer = purmagheli_clear_rows(
+        e->desk, PURMAGHELI_DESK_WORDS, (uint64_t *)e->banks, PURMAGHELI_BANKS * PURMAGHELI_BANK_WORDS,
+        e->batches[0], PURMAGHELI_BATCHES * PURMAGHELI_BATCH_WORDS, e->references[0], PURMAGHELI_REFERENCES * PURMAGHELI_REFERENCE_WORDS,
+        e->bins[0], PURMAGHELI_BINS * PURMAGHELI_BIN_WORDS);
+    told.written = 0;
+    told.tried = 0;
+    return told;
+}
+
+/*
+ * Of each call below: 6 (the engine breaks the table rules), 5 (wrong moment) and 7 (buffer or row too
+ * short), in this order, come before all other answers and leave every word and byte as it is.
+ */
+
+/* Opens the day of a book. 0: the day is open and the clock set. 11 to 15 for the book, 5 for its date: nothing has changed. */
+static inline purmagheli_told purmagheli_open(purmagheli_engine *e, int quick, uint64_t clock, purmagheli_lent lent, const uint8_t *book, size_t length) {
+    return purmagheli_call(e, quick, clock, lent, PURMAGHELI_ACTION_OPENING, 0, 0, 0, 0, book, length);
+}
+
+/*
+ * The calls of an open day: the clock moves, batches join whose minute has begun, the call acts, and the
+ * queue test runs; whatever a call answers but 5, 6 and 7, its texts may be about any batch.
+ */
+
+/*
+ * A request from a sender. 0: the message is noted, or the batch recalled. 1, 2, 74, 76, 77, 78, 80, 81, 84, 87
+ * and 88 refuse it, 73 its sender, by the message rules; 4: there was no place for it, and it is not noted.
+ */
+static inline purmagheli_told purmagheli_message(
+    purmagheli_engine *e, int quick, uint64_t clock, purmagheli_lent lent, uint64_t sender, const uint8_t *text, size_t length) {
+    return purmagheli_call(e, quick, clock, lent, PURMAGHELI_ACTION_MESSAGE, sender, 0, 0, 0, text, length);
+}
+
+/* Another sub-limit for a bank. 76: no such bank; 14: no such sub-limit; it is then the one it was. */
+static inline purmagheli_told purmagheli_sublimit(purmagheli_engine *e, int quick, uint64_t clock, purmagheli_lent lent, uint64_t bank, uint64_t cents) {
+    return purmagheli_act(e, quick, clock, lent, PURMAGHELI_ACTION_SUBLIMIT, bank, cents, 0, 0);
+}
+
+/*
+ * Another ESA letter for a bank's debit in a pending or queued batch. 80: not 'A', 'D' or 'P'; 76: no such bank; 2: no such debit;
+ * no letter has changed then.
+ */
+static inline purmagheli_told purmagheli_status(
+    purmagheli_engine *e, int quick, uint64_t clock, purmagheli_lent lent, uint64_t bank, uint64_t bin_high, uint64_t bin_low, uint64_t letter) {
+    return purmagheli_act(e, quick, clock, lent, PURMAGHELI_ACTION_STATUS, bank, bin_high, bin_low, letter);
+}
+
+/* Time goes on. 0. */
+static inline purmagheli_told purmagheli_tick(purmagheli_engine *e, int quick, uint64_t clock, purmagheli_lent lent) {
+    return purmagheli_act(e, quick, clock, lent, PURMAGHELI_ACTION_TICK, 0, 0, 0, 0);
+}
+
+/* The close. 0: what the queue test leaves is ended with 86, and the day is closed. */
+static inline purmagheli_told purmagheli_close(purmagheli_engine *e, int quick, uint64_t clock, purmagheli_lent lent) {
+    return purmagheli_act(e, quick, clock, lent, PURMAGHELI_ACTION_CLOSE, 0, 0, 0, 0);
+}
+
+/* The book of a closed day, with the date of a later one as the number YYMMDD. 0: it stands in the buffer, and the clock has moved. */
+static inline purmagheli_told purmagheli_closing_book(purmagheli_engine *e, int quick, uint64_t clock, purmagheli_lent lent, uint64_t date) {
+    return purmagheli_act(e, quick, clock, lent, PURMAGHELI_ACTION_CLOSING_BOOK, date, 0, 0, 0);
+}
 
 #ifdef __cplusplus
 }
