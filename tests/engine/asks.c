@@ -773,13 +773,23 @@ static void alter_order(plain_engine *e) {
     b->rank = rank;
 }
 
+/* A balance that makes the total of all the greatest there may be, or a cent more. */
+static void alter_total(plain_engine *e, plain_bank *bank) {
+    uint64_t others = 0;
+    for (int i = 0; i < PLAIN_BANKS; i++) others += e->banks + i == bank ? 0 : e->banks[i].balance;
+    bank->balance = PLAIN_MOST_MONEY - others + chance(2);
+}
+
 void alter(plain_engine *e) {
     uint64_t banks = plain_desk_of(e)->banks;
     plain_bank *bank = e->banks + chance(once(3) || banks >= PLAIN_BANKS ? PLAIN_BANKS : banks + 1);
     switch (chance(10)) {
     case 0: alter_word(e->desk + chance(6)); break;
     case 1: alter_word(e->desk + chance(22)); break;
-    case 2: alter_word(once(2) ? &bank->balance : &bank->sublimit); break;
+    case 2:
+        if (once(4)) alter_total(e, bank);
+        else alter_word(once(2) ? &bank->balance : &bank->sublimit);
+        break;
     case 3: alter_word(once(2) ? &bank->code : &bank->flags); break;
     case 4: alter_entries(e->references, PLAIN_REFERENCES, plain_desk_of(e)->date); break;
     case 5: alter_entries(e->bins, PLAIN_BINS, plain_desk_of(e)->date); break;

@@ -2,7 +2,7 @@
 #ifndef ASKS_H
 #define ASKS_H
 
-#include "engine.h"
+#include "ask.h"
 
 /* A number below n, from the seed on. */
 void seed_chance(uint64_t seed);

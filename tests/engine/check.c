@@ -3,41 +3,31 @@
  * beside it, which must leave every word, byte and try the same. Each call is judged by what document 01 promises (judge.h). Some calls are also
  * made on tables that were altered by hand. Everything lent ends at a page that nobody may touch, with a pattern before it that must stay.
  *
- *     check [SEED [CALLS [shown]]]        days from a seed; with `shown` the counts are printed
- *     check tables STDIN STDOUT           the tables of crates/rules_runs, and what must be answered of each
+ *     check SEED CALLS [shown] [beside COMMAND..]     days from a seed; with `shown` the counts are printed
+ *     check tables STDIN STDOUT                       the tables of crates/rules_runs, and what must be answered of each
+ *
+ * The engine beside is the one that COMMAND starts (library.c), in a process of its own: so it may be code for another machine, under an emulator.
+ * Without one it is the plain engine again, once in so many calls: on other memory it must do the same.
  */
-#define _DEFAULT_SOURCE
+#define _GNU_SOURCE
 #include <inttypes.h>
+#include <signal.h>
 #include <stdio.h>
 #include <stdlib.h>
 #include <string.h>
 #include <sys/mman.h>
+#include <sys/wait.h>
 #include <time.h>
-#include <ucontext.h>
 #include <unistd.h>
 
 #include "../gateway/plain.h"
+#include "areas.h"
 #include "asks.h"
 #include "judge.h"
 
-const struct engine plain_calls = {"plain", plain_clear, plain_open, plain_message, plain_sublimit, plain_status, plain_tick, plain_close, plain_closing_book};
+enum { PATTERN = 0xa5, SELDOM = 16 };
 
-/* The engine beside the plain one is named when this is compiled (-DBESIDE=name). Without a name it is the plain one again, once in so many
-   calls: on other memory it must do the same. */
-#ifdef BESIDE
-enum { SELDOM = 1 };
-#else
-#define BESIDE plain_calls
-enum { SELDOM = 16 };
-#endif
-extern const struct engine BESIDE;
-
-/* The calls are made on a stack of so many bytes. */
-enum { STACK = 65536 };
-
-enum { MARGIN = 64, PATTERN = 0xa5 };
-
-static uint64_t seed = 1, calls = 200000, done;
+static uint64_t seed, calls, done;
 static const struct ask *at_work;
 
 static const char *const action_names[] = {"clear", "open", "message", "sublimit", "status", "tick", "close", "closing"};
@@ -48,20 +38,51 @@ static void fail(const char *who, const char *what) {
     exit(1);
 }
 
-/* ---- what is lent */
-
-/* So many bytes between two pages that nobody may touch, ending where the second begins; a margin of pattern before them. */
-static uint8_t *region(size_t bytes) {
-    size_t page = (size_t)sysconf(_SC_PAGESIZE), whole = (bytes + MARGIN + page - 1) / page * page;
-    uint8_t *p = mmap(0, whole + 2 * page, PROT_READ | PROT_WRITE, MAP_PRIVATE | MAP_ANONYMOUS, -1, 0);
-    if (p == MAP_FAILED || mprotect(p, page, PROT_NONE) || mprotect(p + page + whole, page, PROT_NONE)) {
-        perror("mmap");
-        exit(2);
-    }
-    memset(p + page, PATTERN, whole - bytes);
-    memset(p + page + whole - bytes, 0, bytes);
-    return p + page + whole - bytes;
+static void stop(const char *what) {
+    perror(what);
+    exit(2);
 }
+
+/* ---- an engine in another process: a byte goes to it for each call, and one comes back */
+
+static struct exchange *exchange; /* a null pointer: there is none */
+static int to_beside, from_beside;
+
+/* It finds the bytes at 0 and 1, and the file at 3. */
+static void start_beside(char **command, struct areas *areas) {
+    int go[2], back[2], file = memfd_create("lent", 0);
+    if (file < 0 || pipe(go) || pipe(back)) stop("pipe");
+    exchange = map_exchange(file, 1, areas);
+    signal(SIGPIPE, SIG_IGN);
+    pid_t child = fork();
+    if (child < 0) stop("fork");
+    if (child == 0) {
+        if (dup2(go[0], 0) < 0 || dup2(back[1], 1) < 0 || dup2(file, 3) < 0) stop("dup2");
+        for (int i = 4; i < 16; i++) close(i);
+        execvp(command[0], command);
+        stop(command[0]);
+    }
+    close(go[0]);
+    close(back[1]);
+    to_beside = go[1];
+    from_beside = back[0];
+}
+
+/* It ends where no more bytes come. */
+static void end_beside(void) {
+    int status;
+    close(to_beside);
+    if (wait(&status) < 0 || status) fail("beside", "its process did not end well");
+}
+
+static plain_told ask_process(const struct ask *a) {
+    char byte = 0;
+    exchange->ask = *a;
+    if (write(to_beside, &byte, 1) != 1 || read(from_beside, &byte, 1) != 1) fail("beside", "its process has ended");
+    return exchange->told;
+}
+
+/* ---- what is lent */
 
 static int is_pattern(const void *p, size_t bytes) {
     static uint8_t pattern[MOST_ROOM + MARGIN];
@@ -71,58 +92,55 @@ static int is_pattern(const void *p, size_t bytes) {
 
 struct side {
     const char *name;
-    const struct engine *calls;
-    int as_asked; /* the test, else the plain one */
+    int as_asked, elsewhere; /* the test, else the plain one; in another process */
+    struct areas areas;
     plain_engine *e;
-    uint8_t *out_end;
-    uint64_t *tries_end;
     plain_lent lent;
     plain_told told;
     struct history history;
 };
 
-static void make_side(struct side *s, const char *name, const struct engine *c, int as_asked) {
+static void make_side(struct side *s, const char *name, int as_asked, struct areas areas) {
     s->name = name;
-    s->calls = c;
     s->as_asked = as_asked;
-    s->e = (plain_engine *)(void *)region(sizeof *s->e);
-    s->out_end = region(MOST_ROOM + MARGIN) + MOST_ROOM + MARGIN;
-    s->tries_end = (uint64_t *)(void *)region(MOST_ROWS * 8 + MARGIN) + MOST_ROWS + MARGIN / 8;
+    s->areas = areas;
+    s->e = areas.e;
+    memset((uint8_t *)s->e - MARGIN, PATTERN, MARGIN);
 }
-
-static uint8_t *text_end;
 
 static int test_of(const struct side *s, const struct ask *a) { return s->as_asked && a->quick; }
 
 static plain_told make_call(const struct side *s, const struct ask *a) {
-    const struct engine *c = s->calls;
     int quick = test_of(s, a);
-    const uint8_t *text = text_end - a->length;
+    const uint8_t *text = s->areas.text_end - a->length;
+    if (s->elsewhere) return ask_process(a);
     switch (a->action) {
-    case CLEAR: return c->clear(s->e);
-    case OPEN: return c->open(s->e, quick, a->clock, s->lent, text, a->length);
-    case MESSAGE: return c->message(s->e, quick, a->clock, s->lent, a->sender, text, a->length);
-    case SUBLIMIT: return c->sublimit(s->e, quick, a->clock, s->lent, a->bank, a->cents);
-    case STATUS: return c->status(s->e, quick, a->clock, s->lent, a->bank, a->bin[0], a->bin[1], a->letter);
-    case TICK: return c->tick(s->e, quick, a->clock, s->lent);
-    case CLOSE: return c->close(s->e, quick, a->clock, s->lent);
-    default: return c->closing_book(s->e, quick, a->clock, s->lent, a->date);
+    case CLEAR: return plain_clear(s->e);
+    case OPEN: return plain_open(s->e, quick, a->clock, s->lent, text, a->length);
+    case MESSAGE: return plain_message(s->e, quick, a->clock, s->lent, a->sender, text, a->length);
+    case SUBLIMIT: return plain_sublimit(s->e, quick, a->clock, s->lent, a->bank, a->cents);
+    case STATUS: return plain_status(s->e, quick, a->clock, s->lent, a->bank, a->bin[0], a->bin[1], a->letter);
+    case TICK: return plain_tick(s->e, quick, a->clock, s->lent);
+    case CLOSE: return plain_close(s->e, quick, a->clock, s->lent);
+    default: return plain_closing_book(s->e, quick, a->clock, s->lent, a->date);
     }
 }
 
 /* A call on a side; what lies past the reported lengths and before all that is lent must stay. */
 static void ask_side(struct side *s, const struct ask *a) {
-    s->lent = (plain_lent){s->out_end - a->room, a->room, s->tries_end - a->rows, a->rows};
+    uint8_t *text = s->areas.text_end - a->length;
+    s->lent = (plain_lent){s->areas.out_end - a->room, a->room, s->areas.tries_end - a->rows, a->rows};
     memset(s->lent.out - MARGIN, PATTERN, a->room + MARGIN);
     memset((uint8_t *)s->lent.tries - MARGIN, PATTERN, a->rows * 8 + MARGIN);
-    memcpy(text_end - a->length, a->text, a->length);
+    memcpy(text, a->text, a->length);
     s->told = make_call(s, a);
     if (s->told.written > a->room || s->told.tried > a->rows) fail(s->name, "a reported length is too long");
     if (!is_pattern(s->lent.out + s->told.written, a->room - s->told.written)) fail(s->name, "bytes past the reported length were changed");
     if (!is_pattern(s->lent.tries + s->told.tried, 8 * (a->rows - s->told.tried))) fail(s->name, "tries past the reported length were changed");
-    if (!is_pattern(s->lent.out - MARGIN, MARGIN) || !is_pattern((uint8_t *)s->lent.tries - MARGIN, MARGIN)) fail(s->name, "something before buffer or row was changed");
+    if (!is_pattern(s->lent.out - MARGIN, MARGIN)) fail(s->name, "something before the buffer was changed");
+    if (!is_pattern((uint8_t *)s->lent.tries - MARGIN, MARGIN)) fail(s->name, "something before the row of tries was changed");
     if (!is_pattern((uint8_t *)s->e - MARGIN, MARGIN)) fail(s->name, "something before the tables was changed");
-    if (memcmp(text_end - a->length, a->text, a->length)) fail(s->name, "the text was changed");
+    if (memcmp(text, a->text, a->length)) fail(s->name, "the text was changed");
 }
 
 /* ---- comparisons */
@@ -160,9 +178,9 @@ static void compare_nothing(const struct side *s, const plain_engine *before) {
 
 /* ---- the days */
 
-static struct side by_plain, by_either, beside, altered, altered_beside;
+static struct side by_plain, by_either, beside, altered;
 static plain_engine before;
-static unsigned long answers[100], actions[8], on_altered, broken_tables, most_live, most_queued, most_tries, most_written;
+static unsigned long answers[100], actions[8], on_altered, broken_tables, compared, most_live, most_queued, most_tries, most_written;
 static unsigned alive; /* calls still to be made on the altered tables */
 
 static void judge(struct side *s, const struct ask *a) {
@@ -171,11 +189,12 @@ static void judge(struct side *s, const struct ask *a) {
 }
 
 /* The same call on the same tables elsewhere. */
-static void ask_beside(const struct side *s, struct side *t, const plain_engine *was, const struct ask *a) {
-    if (done % SELDOM) return;
-    *t->e = *was;
-    ask_side(t, a);
-    compare_all(s, t);
+static void ask_beside(const struct side *s, const plain_engine *was, const struct ask *a) {
+    if (!beside.elsewhere && done % SELDOM) return;
+    *beside.e = *was;
+    ask_side(&beside, a);
+    compare_all(s, &beside);
+    compared++;
 }
 
 static void ask_altered(const struct ask *a) {
@@ -184,7 +203,7 @@ static void ask_altered(const struct ask *a) {
     was = *altered.e;
     int right = plain_right(&was, &references, &bins) || a->action == CLEAR;
     ask_side(&altered, a);
-    ask_beside(&altered, &altered_beside, &was, a);
+    ask_beside(&altered, &was, a);
     if ((altered.told.answer == 6) == right) fail(altered.name, "06 where the tables keep their rules, or none where they break them");
     if (changes_nothing(a, altered.told.answer)) compare_nothing(&altered, &was);
     on_altered++;
@@ -210,7 +229,7 @@ static void ask_all(const struct ask *a) {
     before = *by_either.e;
     ask_side(&by_plain, a);
     ask_side(&by_either, a);
-    ask_beside(&by_either, &beside, &before, a);
+    ask_beside(&by_either, &before, a);
     if (by_plain.told.answer == 6) fail("plain", "06 on tables that only calls have altered");
     compare_tests(&by_plain, &by_either);
     if (changes_nothing(a, by_either.told.answer)) {
@@ -255,23 +274,6 @@ static void days(void) {
     }
 }
 
-/* On a stack that ends at a page that nobody may touch. */
-static void on_small_stack(void (*run)(void)) {
-    ucontext_t here, there;
-    if (getcontext(&there)) {
-        perror("getcontext");
-        exit(2);
-    }
-    there.uc_stack.ss_sp = region(STACK);
-    there.uc_stack.ss_size = STACK;
-    there.uc_link = &here;
-    makecontext(&there, run, 0);
-    if (swapcontext(&here, &there)) {
-        perror("swapcontext");
-        exit(2);
-    }
-}
-
 /* Every number that document 01 lists for a call or a text was met. */
 static int all_met(void) {
     static const uint8_t listed[] = {0, 1, 2, 4, 5, 7, 11, 12, 13, 14, 15, 73, 74, 76, 77, 78, 80, 81, 84, 87, 88};
@@ -285,7 +287,7 @@ static int all_met(void) {
 }
 
 static void show(double seconds) {
-    printf("%" PRIu64 " calls in %.1f s; on altered tables %lu, of these 06 %lu\n", calls, seconds, on_altered, broken_tables);
+    printf("%" PRIu64 " calls in %.1f s; on altered tables %lu, of these 06 %lu; compared %lu\n", calls, seconds, on_altered, broken_tables, compared);
     printf("at the most: live batches %lu, queued %lu, tries %lu, bytes %lu\nactions:", most_live, most_queued, most_tries, most_written);
     for (int i = 0; i < 8; i++) printf(" %s %lu", action_names[i], actions[i]);
     printf("\nanswers:");
@@ -338,20 +340,25 @@ static int tables(const char *in, const char *out) {
 
 int main(int argc, char **argv) {
     if (argc == 4 && strcmp(argv[1], "tables") == 0) return tables(argv[2], argv[3]);
-    if (argc > 1) seed = strtoull(argv[1], 0, 10);
-    if (argc > 2) calls = strtoull(argv[2], 0, 10);
-    make_side(&by_plain, "plain test", &plain_calls, 0);
-    make_side(&by_either, "either test", &plain_calls, 1);
-    make_side(&beside, BESIDE.name, &BESIDE, 1);
-    make_side(&altered, "altered tables", &plain_calls, 1);
-    make_side(&altered_beside, BESIDE.name, &BESIDE, 1);
-    text_end = region(LONGEST) + LONGEST;
+    if (argc < 3) return 2;
+    seed = strtoull(argv[1], 0, 10);
+    calls = strtoull(argv[2], 0, 10);
+    int shown = argc > 3 && strcmp(argv[3], "shown") == 0, command = shown ? 4 : 3;
+    struct areas areas;
+    if (argc > command + 1 && strcmp(argv[command], "beside") == 0) start_beside(argv + command + 1, &areas);
+    else areas = make_areas();
+    make_side(&beside, "beside", 1, areas);
+    beside.elsewhere = exchange != 0;
+    make_side(&by_plain, "plain test", 0, make_areas());
+    make_side(&by_either, "either test", 1, make_areas());
+    make_side(&altered, "altered tables", 1, make_areas());
     seed_chance(seed);
 
     struct timespec start, end;
     clock_gettime(CLOCK_MONOTONIC, &start);
     on_small_stack(days);
     clock_gettime(CLOCK_MONOTONIC, &end);
-    if (argc > 3) show((double)(end.tv_sec - start.tv_sec) + 1e-9 * (double)(end.tv_nsec - start.tv_nsec));
+    if (exchange) end_beside();
+    if (shown) show((double)(end.tv_sec - start.tv_sec) + 1e-9 * (double)(end.tv_nsec - start.tv_nsec));
     return calls >= 100000 && !all_met();
 }

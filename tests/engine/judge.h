@@ -2,7 +2,7 @@
 #ifndef JUDGE_H
 #define JUDGE_H
 
-#include "engine.h"
+#include "ask.h"
 
 /* A list of tries, and what the omission rule looks back on: moments of tries, of credits and changes. */
 struct history {
