@@ -1,12 +1,15 @@
-// ./purmagheli compose FILE: the text of the request whose account the file holds, as inspect tells it; or
-// the line that cannot be read; or the number by which the request would be refused. A dash is standard input.
+// ./purmagheli compose FILE: the text of the request whose account the file holds, as inspect tells it, or the texts of several,
+// one behind another; of what cannot be composed the line that cannot be read, or the number by which the request would be refused. A dash is standard input.
 use chars::Refusal;
 use composing::Account;
 use composing::Ending;
 use composing::Expected;
+use composing::several;
 use files::Got;
 use libc::STDERR_FILENO;
 use response::Written;
+ghost use Prim.Native.Nat.{_≤_};
+ghost use lib.ListN.{length};
 
 fn say(text: &[u8]) {
     io::write_all(STDERR_FILENO, text);
@@ -31,9 +34,18 @@ fn say_expected(expected: Expected) {
     }
 }
 
-fn say_unread(s: &[u8], at: usize, expected: Expected) {
+// A line of the account whose first line is the file's line `first`.
+fn say_line(first: usize, line: usize) {
+    let behind = std::num::wrapping_sub_u64(line as u64, 1);
     say(b"line ");
-    io::print_decimal(STDERR_FILENO, composing::line_of(s, at) as u64);
+    io::print_decimal(
+        STDERR_FILENO,
+        std::num::wrapping_add_u64(first as u64, behind),
+    );
+}
+
+fn say_unread(s: &[u8], first: usize, at: usize, expected: Expected) {
+    say_line(first, composing::line_of(s, at));
     say(b": expected ");
     say_expected(expected);
     say(b"\n");
@@ -58,12 +70,41 @@ fn write_order(account: Account) {
     }
 }
 
-fn compose(s: &[u8]) {
+// One account, whose first line is the file's line `first`.
+fn compose(s: &[u8], first: usize) {
     let account = composing::read_account(s);
     let ending = account.ending;
     match ending {
-        Ending::Unread(at, expected) => say_unread(s, at, expected),
+        Ending::Unread(at, expected) => say_unread(s, first, at, expected),
         Ending::Whole => write_order(account),
+    }
+}
+
+// The account that begins at a place, and the place where it ends.
+fn compose_at(s: &[u8], at: usize) -> usize
+    requires { ⌜ at ≤ length (now s) ⌝ }
+    ensures { λ r. ⌜ r ≤ length (now (s .entry)) ⌝ }
+{
+    let rest = &s[at..];
+    let line = composing::line_of(s, at);
+    let n = several::first_end(rest);
+    if rest.len() <= n {
+        compose(rest, line);
+        return s.len();
+    }
+    compose(&rest[..n], line);
+    at + n
+}
+
+// The accounts of a file, one behind another.
+fn compose_each(s: &[u8]) {
+    let mut at = compose_at(s, 0);
+    while at < s.len() {
+        let next = compose_at(s, at);
+        if next <= at {
+            return;
+        }
+        at = next;
     }
 }
 
@@ -78,7 +119,7 @@ fn compose_first(buf: &[u8], n: usize) {
         say_too_long();
         return;
     }
-    compose(&buf[..n]);
+    compose_each(&buf[..n]);
 }
 
 fn compose_file(path: &[u8]) {

@@ -16,7 +16,7 @@ use Rattle.codes.specs.declared.Code.{Code}
 use Rattle.clock.specs.Clock.{minuteOf}
 use Rattle.clock.specs.declared.Minute.{Minute as Clocked}
 use Rattle.clock.specs.declared.Minute.the-variants.{Number as Begins, Untrue}
-use Rattle.scan.specs.Scan.{litAt, codesAt, codeAt, digitsAt, numberAt}
+use Rattle.scan.specs.Scan.{crlf, litAt, codesAt, codeAt, digitsAt, numberAt}
 use Rattle.scan.specs.declared.At.{At}
 use Rattle.scan.specs.declared.At.the-variants.{Next, No}
 use Rattle.scan.specs.declared.Run.{Run}
@@ -65,9 +65,9 @@ module _ (s : List ℕ) (at : ℕ) where
   unfolding lineOver
   over-2 h e = simp (lt-leb _ _ h, eq-eqb _ _ e)
 
-  pub over-3 : at < length s → (getD s at 0 ≡ 10 → ⊥) → No ≡ lineOver s at
+  pub over-3 : {r : At} → at < length s → (getD s at 0 ≡ 10 → ⊥) → r ≡ litAt s at crlf → r ≡ lineOver s at
   unfolding lineOver
-  over-3 h e = simp (lt-leb _ _ h, ne-eqb _ _ e)
+  over-3 h e p = simp (lt-leb _ _ h, ne-eqb _ _ e, ← p)
 
   pub kind-1 : {k : Kind} {n : ℕ} {f : Fixed} → k ≡ Digits n → f ≡ numberAt s at n → f ≡ Unfit → Untold ≡ kindAt s at k
   unfolding kindAt

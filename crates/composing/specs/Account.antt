@@ -11,7 +11,7 @@ use Rattle.codes.specs.declared.Code.{Code}
 use Rattle.clock.specs.Clock.{minuteOf}
 use Rattle.clock.specs.declared.Minute.{Minute as Clocked}
 use Rattle.clock.specs.declared.Minute.the-variants.{Number as Begins, Untrue}
-use Rattle.scan.specs.Scan.{onNext, litAt, codesAt, codeAt, digitsAt, numberAt}
+use Rattle.scan.specs.Scan.{onNext, crlf, litAt, codesAt, codeAt, digitsAt, numberAt}
 use Rattle.scan.specs.declared.At.{At}
 use Rattle.scan.specs.declared.At.the-variants.{Next, No}
 use Rattle.scan.specs.declared.Fixed.{Fixed}
@@ -80,9 +80,9 @@ onPaid Unpaid d k = d
 
 -- ---- a line
 
--- a line ends with a line feed, or with the account
+-- a line ends with a line feed, a CR before it or not, or with the account
 unfoldable pub lineOver : List ℕ → ℕ → At
-lineOver s at = cond (leb (length s) at) (Next at) (cond (eqb (getD s at 0) 10) (Next (at + 1)) No)
+lineOver s at = cond (leb (length s) at) (Next at) (cond (eqb (getD s at 0) 10) (Next (at + 1)) (litAt s at crlf))
 
 unfoldable pub kindAt : List ℕ → ℕ → Kind → Told
 kindAt s at (Digits k) = onValue (numberAt s at k) Untold (λ v e. Number v e)

@@ -1,5 +1,7 @@
 // The account of a request, as it is told of an accepted one, read into the order that an administrator
 // writes.
+pub mod several;
+
 use administrator::Line;
 use administrator::Order;
 use administrator::Side;
@@ -114,7 +116,7 @@ pub struct Account {
     pub ending: Ending,
 }
 
-// A line ends with a line feed, or with the account.
+// A line ends with a line feed, a CR before it or not, or with the account.
 fn line_over(s: &[u8], at: usize) -> At
     ensures { λ r. ⌜ r ≡ lineOver (now (s .entry)) at ⌝ }
 {
@@ -124,7 +126,7 @@ fn line_over(s: &[u8], at: usize) -> At
     if s[at] == b'\n' {
         return At::Next(at + 1);
     }
-    At::No
+    scan::lit(s, at, b"\r\n")
 }
 
 fn read_kind(s: &[u8], at: usize, kind: Kind) -> Told

@@ -11,11 +11,11 @@ say-too-long-requires c κs = search needs
 returns : tie.Need-returns
 returns c = search needs
 
-slice-aggregate-compose : tie.Need-slice-aggregate-compose
-slice-aggregate-compose c = sym (length-take-le _ _ (omega arith))
+slice-aggregate-compose-each : tie.Need-slice-aggregate-compose-each
+slice-aggregate-compose-each c = sym (length-take-le _ _ (omega arith))
 
-compose-requires : tie.Need-compose-requires
-compose-requires c κs = search needs
+compose-each-requires : tie.Need-compose-each-requires
+compose-each-requires c κs = search needs
 
 returns-2 : tie.Need-returns-2
 returns-2 c = search needs
@@ -26,6 +26,6 @@ compose-first-spec =
     (tie.spec
     say-too-long-requires
     returns
-    slice-aggregate-compose
-    compose-requires
+    slice-aggregate-compose-each
+    compose-each-requires
     returns-2)
