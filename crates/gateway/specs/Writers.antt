@@ -1,0 +1,135 @@
+-- What the entry points of the writers answer and leave: the text of the values in a row, as the readers fill it.
+use Prim.Native.Nat.{ℕ, _+_, _*_}
+use mathlib.Core.Bool.{Bool, _&&_, cond, not}
+use mathlib.Core.List.{List, [], _∷_}
+use lib.Dec.{eqb, ltb, leb}
+use lib.ListN.{length, getD, set}
+use Rattle.chars.specs.Refusals.{numberOf}
+use Rattle.chars.specs.declared.Refusal.the-variants.{ShortBuffer, Malformed, OtherSubType}
+use Rattle.codes.specs.declared.Code.{Code}
+use Rattle.dates.specs.Dates.{dateOf}
+use Rattle.terms.specs.declared.Activation.{Activation}
+use Rattle.terms.specs.declared.Activation.the-variants.{AtOnce, Minute}
+use Rattle.request.specs.Request.{requestAt}
+use Rattle.response.specs.Texts.{settlementText, recallText}
+use Rattle.response.specs.Values.{isSettlement, isRecall, writtenIf, afterIf}
+use Rattle.response.specs.declared.Outcome.{Outcome}
+use Rattle.response.specs.declared.Outcome.the-variants.{Settled, Rejected}
+use Rattle.response.specs.declared.Answer.{Answer}
+use Rattle.response.specs.declared.Answer.the-variants.{Recalled, Kept}
+use Rattle.response.specs.declared.Settlement.{Settlement}
+use Rattle.response.specs.declared.Recall.{Recall}
+use Rattle.response.specs.declared.Written.{Written}
+use Rattle.response.specs.declared.Written.the-variants.{End, Unfit}
+use Rattle.administrator.specs.Orders.{orderText, answerOf, leftOf}
+use Rattle.administrator.specs.declared.Line.{Line}
+use Rattle.administrator.specs.declared.Order.{Order}
+use Rattle.administrator.specs.declared.Side.{Side}
+use Rattle.administrator.specs.declared.Side.the-variants.{Credit, Debit}
+
+-- the value of the field that begins at a place, in a number or two
+abbrev pub valueIn : List ℕ → ℕ → ℕ
+valueIn row at = getD row (at + 2) 0
+
+abbrev pub secondIn : List ℕ → ℕ → ℕ
+secondIn row at = getD row (at + 3) 0
+
+abbrev pub codeIn : List ℕ → ℕ → Code
+codeIn row at = record { high = valueIn row at; low = secondIn row at }
+
+-- 175: the minute, and 1 where the line is there
+unfoldable pub activationIn : List ℕ → Activation
+activationIn row = cond (eqb (secondIn row 24) 0) AtOnce (Minute (valueIn row 24))
+
+-- 127, and 113 after DR
+unfoldable pub sideIn : List ℕ → ℕ → Side
+sideIn row at = cond (eqb (valueIn row at) 0) Credit (Debit (valueIn row (at + 8)))
+
+-- 127, 32B, 113 and 102 of payment k
+unfoldable pub lineIn : List ℕ → ℕ → Line
+lineIn row k = record { side = sideIn row (32 + 16 * k); cents = valueIn row (32 + 16 * k + 4); bank = valueIn row (32 + 16 * k + 12) }
+
+abbrev pub linesIn : List ℕ → List Line
+linesIn row = lineIn row 0 ∷ lineIn row 1 ∷ lineIn row 2 ∷ lineIn row 3 ∷ lineIn row 4 ∷ lineIn row 5 ∷ lineIn row 6 ∷ lineIn row 7 ∷ lineIn row 8 ∷ lineIn row 9 ∷ []
+
+-- what a row of a request asks for
+unfoldable pub orderIn : List ℕ → Order
+orderIn row = record {
+  subtype = valueIn row 4;
+  reference = codeIn row 0;
+  stream = valueIn row 8;
+  bin = codeIn row 12;
+  number = valueIn row 16;
+  count = secondIn row 16;
+  date = dateOf (valueIn row 20);
+  activation = activationIn row;
+  lines = linesIn row;
+  n = valueIn row 28;
+}
+
+-- the number of a refusal, or 0 and the text's length
+abbrev pub numberBy : Written → ℕ
+numberBy (End n) = 0
+numberBy (Unfit r) = numberOf r
+
+abbrev pub toldBy : Written → List ℕ → List ℕ
+toldBy (End n) told = set told 0 n
+toldBy (Unfit r) told = told
+
+-- "The request writer gives the number its reader would give, else 07 if the text does not fit, and then writes nothing."
+unfoldable pub orderWritten : Order → List ℕ → Written
+orderWritten o out = answerOf (requestAt (orderText o) .outcome) out 0 (orderText o)
+
+unfoldable pub orderLeft : Order → List ℕ → List ℕ
+orderLeft o out = leftOf (requestAt (orderText o) .outcome) out 0 (orderText o)
+
+-- 451, and "13E (date, HHMMSS) after 0 or 432 (two digits) after 1"
+unfoldable pub outcomeIn : List ℕ → Outcome
+outcomeIn row = cond (eqb (valueIn row 20) 0) (Settled (valueIn row 24) (secondIn row 24)) (Rejected (valueIn row 24))
+
+-- 451, "and 432 after 1"
+unfoldable pub answerIn : List ℕ → Answer
+answerIn row = cond (eqb (valueIn row 20) 0) Recalled (Kept (valueIn row 24))
+
+unfoldable pub settlementIn : List ℕ → Settlement
+settlementIn row = record { number = valueIn row 0; reference = codeIn row 8; stream = valueIn row 12; bin = codeIn row 16; outcome = outcomeIn row }
+
+unfoldable pub recallIn : List ℕ → Recall
+recallIn row = record { number = valueIn row 0; reference = codeIn row 8; answer = answerIn row }
+
+-- 132, 134, or "88 for another sub type"
+unfoldable pub kindWritten : List ℕ → List ℕ → Written
+kindWritten row out =
+    cond (eqb (valueIn row 4) 132)
+    (writtenIf (isSettlement (settlementIn row)) out 0 (settlementText (settlementIn row)))
+    (cond (eqb (valueIn row 4) 134)
+    (writtenIf (isRecall (recallIn row)) out 0 (recallText (recallIn row)))
+    (Unfit OtherSubType))
+
+unfoldable pub kindLeft : List ℕ → List ℕ → List ℕ
+kindLeft row out =
+    cond (eqb (valueIn row 4) 132)
+    (afterIf (isSettlement (settlementIn row)) out 0 (settlementText (settlementIn row)))
+    (cond (eqb (valueIn row 4) 134)
+    (afterIf (isRecall (recallIn row)) out 0 (recallText (recallIn row)))
+    out)
+
+-- "451 (0 or 1)"
+unfoldable pub responseWritten : List ℕ → List ℕ → Written
+responseWritten row out = cond (ltb 1 (valueIn row 20)) (Unfit Malformed) (kindWritten row out)
+
+unfoldable pub responseLeft : List ℕ → List ℕ → List ℕ
+responseLeft row out = cond (ltb 1 (valueIn row 20)) out (kindLeft row out)
+
+-- 07 before all else, and nothing touched, where the row or what is to be told has too few words
+abbrev pub isReady : ℕ → List ℕ → List ℕ → Bool
+isReady words row told = leb words (length row) && leb 1 (length told)
+
+unfoldable pub numberFor : Bool → Written → ℕ
+numberFor ready w = cond ready (numberBy w) (numberOf ShortBuffer)
+
+unfoldable pub leftFor : Bool → List ℕ → List ℕ → List ℕ
+leftFor ready left out = cond ready left out
+
+unfoldable pub toldFor : Bool → Written → List ℕ → List ℕ
+toldFor ready w told = cond ready (toldBy w told) told
