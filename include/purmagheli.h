@@ -2,7 +2,7 @@
  * Purmagheli for programs in C99 or C++ on x86-64, Linux.
  *
  * The readers of a gateway: the text of a request (131, 133), the text of a response (132, 134), and
- * the check of a book. Link target/staticlib/libgateway.a, which `./purmagheli library gateway` builds.
+ * the check of a book; and the writers of both texts. Link target/staticlib/libgateway.a, which `./purmagheli library gateway` builds.
  *
  * The engine: a house's day from opening to closing book. Link target/staticlib/liblending.a, which
  * `./purmagheli library lending` builds. Both archives may be linked together.
@@ -141,6 +141,26 @@ uint64_t purmagheli_read_request(const uint8_t *text, size_t text_length, uint64
  * sub type that is neither 132 nor 134. Such a text is asked for again.
  */
 uint64_t purmagheli_read_response(const uint8_t *text, size_t text_length, uint64_t *row, size_t row_length);
+
+/*
+ * Writes the text of a request to the beginning of a buffer, from a row as purmagheli_read_request fills it: of each field the
+ * value counts, and the second where there are two; where it stood in a text does not. COUNT says how many of the ten payments there are.
+ * 0, and the text's length in the first word of `told`; bytes past the text are not touched. Else nothing is written anywhere:
+ *
+ *   7             a row of fewer than PURMAGHELI_REQUEST_WORDS words, or no word to tell the length; or, after the numbers below, a buffer that
+ *                 does not hold the text; PURMAGHELI_REQUEST_LONGEST bytes always do
+ *   80, 81, 87, 88   the number that purmagheli_read_request gives of such a text; a value that its line cannot hold is left out of it
+ */
+#define PURMAGHELI_REQUEST_LONGEST 649
+#define PURMAGHELI_TOLD_WORDS 1
+uint64_t purmagheli_write_request(const uint64_t *row, size_t row_length, uint8_t *out, size_t out_length, uint64_t *told, size_t told_length);
+
+/*
+ * Writes the text of a response likewise, from a row as purmagheli_read_response fills it: 7 for too few words, 87 for a status or
+ * another value that no response holds, 88 for a sub type that is neither 132 nor 134, then 7 for a buffer that does not hold the text.
+ */
+#define PURMAGHELI_RESPONSE_LONGEST 105
+uint64_t purmagheli_write_response(const uint64_t *row, size_t row_length, uint8_t *out, size_t out_length, uint64_t *told, size_t told_length);
 
 /*
  * Checks a book. It goes back to whoever made it with

@@ -18,6 +18,11 @@ ghost use Rattle.gateway.specs.Writers.{valueIn, secondIn, codeIn, activ
 // Words of what is told of a text that was written: its length.
 pub const TOLD_WORDS: usize = 1;
 
+// Bytes of a request and of a response at the most.
+pub const REQUEST_LONGEST: usize = 649;
+
+pub const RESPONSE_LONGEST: usize = 105;
+
 // A word of a row; 0 past its end.
 fn word(row: &[u64], at: usize) -> u64
     ensures { λ r. ⌜ r ≡ getD (now (row .entry)) at 0 ⌝ }
