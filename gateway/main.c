@@ -59,11 +59,6 @@ static long read_file(const char *name) {
     return failed ? -1 : (long)length;
 }
 
-static int refused(uint64_t number) {
-    printf("refused %02" PRIu64 "\n", number);
-    return 1;
-}
-
 /* A text that is refused leaves where in the row. */
 static int refused_at(uint64_t number, const uint64_t *row) {
     printf("refused %02" PRIu64 " at byte %" PRIu64 "\n", number, row[PURMAGHELI_BREAK_AT]);
@@ -86,10 +81,15 @@ static int show_response(size_t length) {
     return 0;
 }
 
-/* The check of a book writes no row. */
+/* A book that is refused leaves in the row where it breaks. */
 static int show_book(size_t length) {
-    uint64_t number = purmagheli_check_book(bytes, length);
-    if (number) return refused(number);
+    uint64_t row[PURMAGHELI_FAULT_WORDS];
+    uint64_t number = purmagheli_find_book_fault(bytes, length, row, PURMAGHELI_FAULT_WORDS);
+    if (number) {
+        printf("refused %02" PRIu64 " at block %" PRIu64 ", entry %" PRIu64 ", fault %" PRIu64 "\n", number,
+               row[PURMAGHELI_FAULT_BLOCK], row[PURMAGHELI_FAULT_ENTRY], row[PURMAGHELI_FAULT_TEST]);
+        return 1;
+    }
     printf("sound\n");
     return 0;
 }

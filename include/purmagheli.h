@@ -2,7 +2,8 @@
  * Purmagheli for programs in C99 or C++ on x86-64, Linux.
  *
  * The readers of a gateway: the text of a request (131, 133), the text of a response (132, 134), and
- * the check of a book; and the writers of both texts. Link target/staticlib/libgateway.a, which `./purmagheli library gateway` builds.
+ * the check of a book and where it breaks; and the writers of both texts. Link target/staticlib/libgateway.a, which
+ * `./purmagheli library gateway` builds.
  *
  * The engine: a house's day from opening to closing book. Link target/staticlib/liblending.a, which
  * `./purmagheli library lending` builds. Both archives may be linked together.
@@ -172,6 +173,59 @@ uint64_t purmagheli_write_response(const uint64_t *row, size_t row_length, uint8
  *   15   the total of the balances is out of range
  */
 uint64_t purmagheli_check_book(const uint8_t *book, size_t book_length);
+
+/*
+ * Where a book breaks, in the first PURMAGHELI_FAULT_WORDS words of a row; words past them are not touched:
+ *
+ *   BLOCK   the block, from 0; 0 for TEST_LENGTH and TEST_TOTAL, which are tests of the whole book
+ *   ENTRY   the entry in that block, from 0, where the test is one of an entry (TEST_CODE to TEST_SUB_LIMIT); else 0
+ *   TEST    the first test that fails; 0 for a sound book
+ *
+ * The tests, in the order in which they are made, each with the number that it gives:
+ *
+ *   LENGTH          11   the length is not two to five blocks of 512 bytes
+ *   CHECK           12   the block's check does not fit
+ *   HEAD            13   bytes 0 to 3 or 5 to 7 are not BF, the letter, the number, the count of blocks and zeros
+ *   COUNT           13   the block has too few entries or too many
+ *   DATE            13   the date is not a true one
+ *   AFTER_DATE      13   the two bytes behind the date are not zero
+ *   UNUSED          13   a byte behind the entries is not zero
+ *   CODE            14   the code is not four of A-Z 0-9
+ *   ORDER           14   the code is not above the one before
+ *   ADMINISTRATOR   14   the administrator is 0
+ *   FLAG            14   the flag is neither 0 nor 1
+ *   STREAM_BIT      14   a stream bit has no stream
+ *   ZEROS           14   an entry's zero bytes are not zero
+ *   BALANCE         14   the balance is out of range
+ *   SUB_LIMIT       14   the sub-limit is out of range
+ *   TOTAL           15   the total of the balances is out of range
+ */
+#define PURMAGHELI_FAULT_WORDS 3
+#define PURMAGHELI_FAULT_BLOCK 0
+#define PURMAGHELI_FAULT_ENTRY 1
+#define PURMAGHELI_FAULT_TEST 2
+#define PURMAGHELI_TEST_LENGTH 1
+#define PURMAGHELI_TEST_CHECK 2
+#define PURMAGHELI_TEST_HEAD 3
+#define PURMAGHELI_TEST_COUNT 4
+#define PURMAGHELI_TEST_DATE 5
+#define PURMAGHELI_TEST_AFTER_DATE 6
+#define PURMAGHELI_TEST_UNUSED 7
+#define PURMAGHELI_TEST_CODE 8
+#define PURMAGHELI_TEST_ORDER 9
+#define PURMAGHELI_TEST_ADMINISTRATOR 10
+#define PURMAGHELI_TEST_FLAG 11
+#define PURMAGHELI_TEST_STREAM_BIT 12
+#define PURMAGHELI_TEST_ZEROS 13
+#define PURMAGHELI_TEST_BALANCE 14
+#define PURMAGHELI_TEST_SUB_LIMIT 15
+#define PURMAGHELI_TEST_TOTAL 16
+
+/*
+ * Finds where a book breaks. 7 for a row of fewer words, which is not touched; else the number that
+ * purmagheli_check_book gives of the same book, 0 for a sound one.
+ */
+uint64_t purmagheli_find_book_fault(const uint8_t *book, size_t book_length, uint64_t *row, size_t row_length);
 
 /* ---- the engine */
 

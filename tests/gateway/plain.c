@@ -346,3 +346,47 @@ uint64_t plain_check_book(const uint8_t *book, size_t length) {
     }
     return total > most ? 15 : 0;
 }
+
+static uint64_t fault(uint64_t *row, size_t block, size_t entry, uint64_t test, uint64_t number) {
+    row[0] = block;
+    row[1] = entry;
+    row[2] = test;
+    return number;
+}
+
+/* The number of the first test that an entry fails, as it stands in its block; 0 for none. */
+static uint64_t entry_fault(const uint8_t *e, const uint8_t *before, int is_bank, unsigned streams) {
+    if (!all(e, 4, is_code)) return 8;
+    if (before && memcmp(before, e, 4) >= 0) return 9;
+    if (!is_bank) return !e[4] ? 10 : e[5] | e[6] | e[7] ? 13 : 0;
+    if (e[4] != 0 && e[4] != 1) return 11;
+    if (e[5] >= 1u << streams) return 12;
+    if (e[6] | e[7]) return 13;
+    if (little(e + 8, 8) > most) return 14;
+    return little(e + 16, 8) > most ? 15 : 0;
+}
+
+uint64_t plain_find_book_fault(const uint8_t *book, size_t length, uint64_t *row) {
+    size_t blocks = length / 512;
+    uint64_t total = 0, test;
+    if (length != blocks * 512 || blocks < 2 || blocks > 5) return fault(row, 0, 0, 1, 11);
+    for (size_t k = 0; k < blocks; k++) {
+        const uint8_t *b = book + 512 * k, *before = k > 1 ? b - 512 + 8 + 24 * 19 : 0;
+        const uint8_t head[8] = {'B', 'F', k ? 'B' : 'S', (uint8_t)k, b[4], (uint8_t)blocks, 0, 0};
+        size_t n = b[4], most_entries = k == 0 ? 8 : k == 4 ? 4 : 20, first = k ? 8 : 16, width = k ? 24 : 8;
+        if (plain_block_sum(b) != little(b + 508, 4)) return fault(row, k, 0, 2, 12);
+        if (memcmp(b, head, 8) != 0) return fault(row, k, 0, 3, 13);
+        if (n == 0 || n > most_entries || (k && k + 1 < blocks && n != 20)) return fault(row, k, 0, 4, 13);
+        if (k == 0 && (!all(b + 8, 6, is_digit) || day_of(b + 8) < 0)) return fault(row, 0, 0, 5, 13);
+        if (k == 0 && (b[14] | b[15])) return fault(row, 0, 0, 6, 13);
+        for (size_t at = first + n * width; at < 508; at++)
+            if (b[at]) return fault(row, k, 0, 7, 13);
+        for (size_t i = 0; i < n; i++) {
+            const uint8_t *e = b + first + i * width;
+            if ((test = entry_fault(e, before, k > 0, book[4])) != 0) return fault(row, k, i, test, 14);
+            if (k) total += little(e + 8, 8);
+            before = e;
+        }
+    }
+    return total > most ? fault(row, 0, 0, 16, 15) : fault(row, 0, 0, 0, 0);
+}

@@ -12,6 +12,7 @@
 uint64_t plain_read_request(const uint8_t *text, size_t length, uint64_t *row);
 uint64_t plain_read_response(const uint8_t *text, size_t length, uint64_t *row);
 uint64_t plain_check_book(const uint8_t *book, size_t length);
+uint64_t plain_find_book_fault(const uint8_t *book, size_t length, uint64_t *row);
 
 /* The sum of a block's first 127 words. */
 uint32_t plain_block_sum(const uint8_t *block);

@@ -75,6 +75,7 @@ struct kind {
 
 static const struct kind request_kind = {"request", purmagheli_read_request, plain_read_request, PURMAGHELI_REQUEST_WORDS};
 static const struct kind response_kind = {"response", purmagheli_read_response, plain_read_response, PURMAGHELI_RESPONSE_WORDS};
+static const struct kind fault_kind = {"fault of a book", purmagheli_find_book_fault, plain_find_book_fault, PURMAGHELI_FAULT_WORDS};
 
 static void untouched(const uint8_t *lent, const uint8_t *bytes, size_t n) {
     if (n && memcmp(lent, bytes, n) != 0) fail("the input was changed", bytes, n, 1, 0);
@@ -112,6 +113,8 @@ static void compare_book(const uint8_t *bytes, size_t n) {
     accepted += got == 0;
     if (got != want) fail("book", bytes, n, got, want);
     untouched(lent, bytes, n);
+    compare(&fault_kind, bytes, n, n % 7);
+    compare(&fault_kind, bytes, n, PURMAGHELI_FAULT_WORDS);
 }
 
 /* ---- numbers by chance, from a fixed seed */

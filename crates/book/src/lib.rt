@@ -54,14 +54,14 @@ impl Book {
 }
 
 // The byte at a place; 0 past the end.
-fn byte(s: &[u8], at: usize) -> u8
+pub fn byte(s: &[u8], at: usize) -> u8
     ensures { λ r. ⌜ r ≡ getD (now (s .entry)) at 0 ⌝ }
 {
     if at < s.len() { s[at] } else { 0 }
 }
 
 // The w bytes at a place as a number, little-endian; those past the end are 0.
-fn little_at(s: &[u8], at: usize, w: usize) -> u64
+pub fn little_at(s: &[u8], at: usize, w: usize) -> u64
     requires { ⌜ (at ≤ 65536) × (w ≤ 8) ⌝ }
     ensures { λ r. ⌜ r ≡ little w (drop at (now (s .entry))) ⌝ }
 {
@@ -82,7 +82,7 @@ fn wide(b: u8) -> u64
 }
 
 // Whether n zeros stand at a place.
-fn zeros(s: &[u8], at: usize, n: usize) -> bool
+pub fn zeros(s: &[u8], at: usize, n: usize) -> bool
     ensures { λ r. ⌜ r ≡ zerosAt (now (s .entry)) at n ⌝ }
 {
     let mut left = n;
@@ -100,7 +100,7 @@ fn zeros(s: &[u8], at: usize, n: usize) -> bool
     true
 }
 
-fn check_right(s: &[u8], at: usize) -> bool
+pub fn check_right(s: &[u8], at: usize) -> bool
     requires { ⌜ at ≤ 2560 ⌝ }
     ensures { λ r. ⌜ r ≡ checkRight (now (s .entry)) at ⌝ }
 {
@@ -108,7 +108,7 @@ fn check_right(s: &[u8], at: usize) -> bool
 }
 
 // How many entries the block at a place says that it has.
-fn entries(s: &[u8], at: usize) -> usize
+pub fn entries(s: &[u8], at: usize) -> usize
     requires { ⌜ at ≤ 2560 ⌝ }
     ensures { λ r. ⌜ r ≡ entriesAt (now (s .entry)) at ⌝ }
     ensures small { λ r. ⌜ r < 256 ⌝ }
@@ -116,7 +116,7 @@ fn entries(s: &[u8], at: usize) -> usize
     byte(s, at + 4) as usize
 }
 
-fn head_right(s: &[u8], at: usize, letter: u8, number: u8, blocks: u8) -> bool
+pub fn head_right(s: &[u8], at: usize, letter: u8, number: u8, blocks: u8) -> bool
     requires { ⌜ at ≤ 2560 ⌝ }
     ensures { λ r. ⌜ r ≡ headRight (now (s .entry)) at letter number blocks ⌝ }
 {
@@ -129,7 +129,7 @@ fn head_right(s: &[u8], at: usize, letter: u8, number: u8, blocks: u8) -> bool
 }
 
 // From the end of the entries to the check.
-fn unused_right(s: &[u8], at: usize, end: usize) -> bool
+pub fn unused_right(s: &[u8], at: usize, end: usize) -> bool
     requires { ⌜ (at ≤ 2560) × (end ≤ 8192) ⌝ }
     ensures { λ r. ⌜ r ≡ unusedRight (now (s .entry)) at end ⌝ }
 {
@@ -164,7 +164,7 @@ fn header_right(
 }
 
 // The day number of the book's date.
-fn date_in(s: &[u8]) -> Day
+pub fn date_in(s: &[u8]) -> Day
     ensures { λ r. ⌜ r ≡ dateIn (now (s .entry)) ⌝ }
 {
     match scan::number(s, 8, 6) {
@@ -189,7 +189,7 @@ fn streams_counted(s: &[u8]) -> bool
     zeros(s, 14, 2)
 }
 
-fn banks_counted(blocks: usize, k: usize, n: usize) -> bool
+pub fn banks_counted(blocks: usize, k: usize, n: usize) -> bool
     requires { ⌜ (1 ≤ k) × (k < 5) × (n < 256) ⌝ }
     ensures { λ r. ⌜ r ≡ banksCounted blocks k n ⌝ }
 {
@@ -219,7 +219,7 @@ fn stream_right(s: &[u8], at: usize) -> bool
 }
 
 // The bits past the first n.
-fn bits_past(n: usize, bits: u64) -> u64
+pub fn bits_past(n: usize, bits: u64) -> u64
     ensures { λ r. ⌜ r ≡ bitsPast n bits ⌝ }
 {
     let mut left = n;
@@ -323,7 +323,7 @@ fn stream_block(s: &[u8], blocks: u8) -> Answer
 }
 
 // The code of the last bank of the block before; 0 before the first.
-fn code_before(s: &[u8], k: usize) -> u64
+pub fn code_before(s: &[u8], k: usize) -> u64
     requires { ⌜ k < 5 ⌝ }
     ensures { λ r. ⌜ r ≡ codeBefore (now (s .entry)) k ⌝ }
 {
@@ -390,7 +390,7 @@ fn bank_place(i: usize) -> usize
     Book::BLOCK * (i / Book::ENTRIES + 1) + (Book::BANK * (i % Book::ENTRIES) + Book::BANKS_AT)
 }
 
-fn total_right(s: &[u8], n: usize) -> bool
+pub fn total_right(s: &[u8], n: usize) -> bool
     requires { ⌜ n < 400 ⌝ }
     ensures { λ r. ⌜ r ≡ totalRight (now (s .entry)) n ⌝ }
 {
@@ -408,7 +408,7 @@ fn total_right(s: &[u8], n: usize) -> bool
 }
 
 // How many banks a book of so many blocks has.
-fn bank_count(s: &[u8], blocks: usize) -> usize
+pub fn bank_count(s: &[u8], blocks: usize) -> usize
     requires { ⌜ (2 ≤ blocks) × (blocks ≤ 5) ⌝ }
     ensures { λ r. ⌜ r ≡ bankCount (now (s .entry)) blocks ⌝ }
     ensures small { λ r. ⌜ r < 400 ⌝ }

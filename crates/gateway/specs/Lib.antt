@@ -3,3 +3,4 @@ pub mod Requests
 pub mod Responses
 pub mod Books
 pub mod Writers
+pub mod Faults

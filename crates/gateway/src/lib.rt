@@ -1,6 +1,7 @@
 // The entry points that the C gateway calls. A row is a row of words, four for a field: where its
 // value starts in the text, its length, and its value in a number or two. include/purmagheli.h has
 // the same constants and says what each word is.
+pub mod books;
 pub mod writers;
 
 use book::Answer;

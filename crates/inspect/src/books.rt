@@ -1,4 +1,5 @@
 // The account of a book.
+use crate::faults;
 use book::Book;
 use book::Reading;
 
@@ -116,7 +117,10 @@ pub fn show(s: &[u8]) {
         &mut balances,
         &mut limits,
     ) {
-        Reading::Unread(why) => printing::refused(why),
+        Reading::Unread(why) => {
+            printing::refused(why);
+            faults::show(s);
+        }
         Reading::Held(book) => {
             show_head(book);
             show_streams(&streams, book.streams);

@@ -1,6 +1,7 @@
 // ./purmagheli inspect request|response|book FILE..: what each file says, or the number by which it is
-// refused. A dash is standard input.
+// refused, and of a book where it breaks. A dash is standard input.
 mod books;
+mod faults;
 mod requests;
 mod responses;
 
