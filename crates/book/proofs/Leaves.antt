@@ -1,7 +1,7 @@
 -- Laws of the check's parts: bytes and numbers at a place, zeros, headers, entries, one for each return.
 use Prim.Native.Nat.{ℕ, zero, suc, _+_, _*_, _-_, _/_, _^_, _≤_, _<_}
-use mathlib.Core.Path.{_≡_, sym, _∙_, ap}
-use mathlib.Core.Bool.{Bool, true, false, not, and-false}
+use mathlib.Core.Path.{_≡_, refl, sym, _∙_, ap}
+use mathlib.Core.Bool.{Bool, true, false, not, _&&_, and-false, and-true}
 use mathlib.Core.List.{List, _∷_}
 use native.Mathlib.Nat.{add-zero, mul-le-mul, pow-succ', pow-le-pow-right}
 use native.Mathlib.Omega.{arith}
@@ -9,7 +9,7 @@ use native.Mathlib.Numerals.{add-one}
 use lib.ListN.{length, getD, drop, replicate, List·getD-eq-default, drop-of-length-le}
 use lib.Seq.{drop-cons, getD-drop, drop-drop}
 use lib.Dec.{leb, eqb}
-use borrow.Author.Tests.{lt-ltb, le-ltb, le-leb, lt-leb, eq-eqb, ne-eqb, not-true, not-false}
+use borrow.Author.Tests.{lt-ltb, le-ltb, le-leb, lt-leb, eq-eqb, ne-eqb, eqb-true, eqb-false, not-true, not-false}
 use Rattle.codes.specs.Codes.{shortAt}
 use Rattle.checksum.specs.Sum.{blockSum}
 use Rattle.dates.specs.Dates.{dayOf, sum}
@@ -57,6 +57,41 @@ module _ {s : List ℕ} {at w i v : ℕ} (g : Taking s at w i v) where
   pub taking-done : i ≡ 0 → v ≡ little w (drop at s)
   taking-done e = g .same ∙ rw (e, add-zero) (ap (λ (n : ℕ). little n (drop at s)) (omega arith))
 
+-- four bytes and eight, at once
+little-none : (l : List ℕ) → little 0 l ≡ 0
+unfolding little
+little-none l = refl
+
+little-step : (s : List ℕ) (w at next : ℕ) → next ≡ at + 1 → little (suc w) (drop at s) ≡ getD s at 0 + 256 * little w (drop next s)
+unfolding little
+little-step s w at next e = rw (getD-drop, drop-drop, add-zero, e)
+
+module _ (s : List ℕ) (at : ℕ) where
+  little-four : little 4 (drop at s) ≡ getD s at 0 + getD s (at + 1) 0 * 256 + getD s (at + 2) 0 * 65536 + getD s (at + 3) 0 * 16777216
+  little-four = omega (
+    arith,
+    little-step s 3 at (at + 1) refl,
+    little-step s 2 (at + 1) (at + 2) (omega arith),
+    little-step s 1 (at + 2) (at + 3) (omega arith),
+    little-step s 0 (at + 3) (at + 4) (omega arith),
+    little-none (drop (at + 4) s),
+  )
+
+  pub four-is : {a b c d : ℕ} → a ≡ getD s at 0 → b ≡ getD s (at + 1) 0 → c ≡ getD s (at + 2) 0 → d ≡ getD s (at + 3) 0 → a + b * 256 + c * 65536 + d * 16777216 ≡ little 4 (drop at s)
+  four-is p q r t = omega (arith, p, q, r, t, little-four)
+
+  pub eight-is : {a b : ℕ} → a ≡ little 4 (drop at s) → b ≡ little 4 (drop (at + 4) s) → a + b * 4294967296 ≡ little 8 (drop at s)
+  eight-is p q = omega (
+    arith,
+    p,
+    q,
+    little-four,
+    little-step s 7 at (at + 1) refl,
+    little-step s 6 (at + 1) (at + 2) (omega arith),
+    little-step s 5 (at + 2) (at + 3) (omega arith),
+    little-step s 4 (at + 3) (at + 4) (omega arith),
+  )
+
 -- n zeros at a place, one by one
 module _ (s : List ℕ) (j n : ℕ) where
   pub zeros-none : n ≡ 0 → true ≡ zerosAt s j n
@@ -77,6 +112,41 @@ module _ (s : List ℕ) (j n : ℕ) where
       let z : n ≡ suc (n - 1) = omega arith in
       ap (λ (k : ℕ). begins (replicate (n - 1) 0) (drop k s)) (add-one j)
       ∙ sym (ap (λ (k : ℕ). begins (replicate k 0) (drop j s)) z ∙ rw (drop-cons s j 0 h, eq-eqb (getD s j 0) 0 q))
+
+-- n zeros at a place, taken together
+pub record Zeros (s : List ℕ) (at n : ℕ) (all : Bool) (j left : ℕ) : Type 0 where
+  pub inside : j + left ≤ length s
+  pub same : (all && zerosAt s j left) ≡ zerosAt s at n
+
+pub zeros-start : (s : List ℕ) (at n : ℕ) → at + n ≤ length s → Zeros s at n true at n
+zeros-start s at n h = record { inside = h; same = refl }
+
+pub still-not : (all : Bool) (b : ℕ) → (b ≡ 0 → ⊥) → false ≡ (all && eqb b 0)
+still-not all b n = simp (ne-eqb _ _ n, and-false)
+
+pub still-all : (all : Bool) (b : ℕ) → b ≡ 0 → all ≡ (all && eqb b 0)
+still-all all b e = simp (eq-eqb _ _ e, and-true)
+
+with-one : (all e x y : Bool) → (e ≡ true → x ≡ y) → (e ≡ false → y ≡ false) → ((all && e) && x) ≡ (all && y)
+with-one true true x y f g = f refl
+with-one true false x y f g = sym (g refl)
+with-one false e x y f g = refl
+
+pub zeros-on : {s : List ℕ} {at n : ℕ} {all : Bool} {j left : ℕ} → Zeros s at n all j left → 0 < left → {r : Bool} → r ≡ (all && eqb (getD s j 0) 0) → Zeros s at n r (j + 1) (left - 1)
+zeros-on {s = s} {all = all} {j = j} {left = left} g p e =
+    let here : j < length s = omega (arith, g .inside) in
+    record {
+      inside = omega (arith, g .inside);
+      same =
+          rw e
+          (with-one all (eqb (getD s j 0) 0) (zerosAt s (j + 1) (left - 1)) (zerosAt s j left)
+          (λ q. zeros-step s j left p here (eqb-true _ _ q))
+          (λ q. sym (zeros-stop s j left p here (eqb-false _ _ q)))
+          ∙ g .same);
+    }
+
+pub zeros-done : {s : List ℕ} {at n : ℕ} {all : Bool} {j left : ℕ} → Zeros s at n all j left → left ≡ 0 → all ≡ zerosAt s at n
+zeros-done {s = s} {all = all} {j = j} {left = left} g e = sym (and-true all) ∙ ap (λ (b : Bool). all && b) (zeros-none s j left e) ∙ g .same
 
 pub bits-step : (n bits : ℕ) → 0 < n → bitsPast (n - 1) (bits / 2) ≡ bitsPast n bits
 unfolding bitsPast

@@ -4,7 +4,8 @@ use dates::Day;
 use scan::At;
 use scan::Fixed;
 ghost use mathlib.Core.Path.{_≡_};
-ghost use mathlib.Core.Bool.{true};
+ghost use mathlib.Core.Bool.{true, _&&_};
+ghost use lib.Dec.{eqb};
 ghost use Rattle.book.specs.declared.Answer.the-variants.{Sound};
 ghost use Prim.Native.Nat.{min, _+_, _*_, _-_, _≤_, _<_, _^_};
 ghost use lib.ListN.{length, getD, set, drop, replicate};
@@ -81,8 +82,61 @@ fn wide(b: u8) -> u64
     b as u64
 }
 
-// Whether n zeros stand at a place.
-pub fn zeros(s: &[u8], at: usize, n: usize) -> bool
+// Four bytes that are there.
+fn four_at(s: &[u8], at: usize) -> u64
+    requires { ⌜ at + 4 ≤ length (now s) ⌝ }
+    ensures { λ r. ⌜ r ≡ little 4 (drop at (now (s .entry))) ⌝ }
+    ensures small { λ r. ⌜ r < 4294967296 ⌝ }
+{
+    wide(s[at]) + wide(s[at + 1]) * 256 + wide(s[at + 2]) * 65536 + wide(s[at + 3]) * 16777216
+}
+
+// Eight bytes that are there.
+fn eight_at(s: &[u8], at: usize) -> u64
+    requires { ⌜ at + 8 ≤ length (now s) ⌝ }
+    ensures { λ r. ⌜ r ≡ little 8 (drop at (now (s .entry))) ⌝ }
+{
+    four_at(s, at) + four_at(s, at + 4) * 4294967296
+}
+
+// The cents at a place: eight bytes, at once where they are there.
+fn money_at(s: &[u8], at: usize) -> u64
+    requires { ⌜ at ≤ 65536 ⌝ }
+    ensures { λ r. ⌜ r ≡ little 8 (drop at (now (s .entry))) ⌝ }
+{
+    if at + 8 <= s.len() {
+        return eight_at(s, at);
+    }
+    little_at(s, at, 8)
+}
+
+fn still_zero(all: bool, b: u8) -> bool
+    ensures { λ r. ⌜ r ≡ all && eqb b 0 ⌝ }
+{
+    if b != 0 {
+        return false;
+    }
+    all
+}
+
+// To the end, whatever it meets: several bytes are then looked at at once, and nearly all of them are zero.
+fn all_zero(s: &[u8], at: usize, n: usize) -> bool
+    requires { ⌜ at + n ≤ length (now s) ⌝ }
+    ensures { λ r. ⌜ r ≡ zerosAt (now (s .entry)) at n ⌝ }
+{
+    let mut all = true;
+    let mut left = n;
+    let mut j = at;
+    while left > 0 {
+        all = still_zero(all, s[j]);
+        left -= 1;
+        j += 1;
+    }
+    all
+}
+
+// Zeros one by one, to the end of the book at the most.
+fn zeros_to(s: &[u8], at: usize, n: usize) -> bool
     ensures { λ r. ⌜ r ≡ zerosAt (now (s .entry)) at n ⌝ }
 {
     let mut left = n;
@@ -98,6 +152,18 @@ pub fn zeros(s: &[u8], at: usize, n: usize) -> bool
         j += 1;
     }
     true
+}
+
+// Whether n zeros stand at a place.
+pub fn zeros(s: &[u8], at: usize, n: usize) -> bool
+    ensures { λ r. ⌜ r ≡ zerosAt (now (s .entry)) at n ⌝ }
+{
+    if n <= s.len() {
+        if at <= s.len() - n {
+            return all_zero(s, at, n);
+        }
+    }
+    zeros_to(s, at, n)
 }
 
 pub fn check_right(s: &[u8], at: usize) -> bool
@@ -247,10 +313,10 @@ fn bank_right(s: &[u8], streams: usize, at: usize) -> bool
     if !zeros(s, at + 6, 2) {
         return false;
     }
-    if Book::MOST < little_at(s, at + 8, 8) {
+    if Book::MOST < money_at(s, at + 8) {
         return false;
     }
-    little_at(s, at + 16, 8) <= Book::MOST
+    money_at(s, at + 16) <= Book::MOST
 }
 
 fn streams_right(s: &[u8], n: usize) -> bool
@@ -397,7 +463,7 @@ pub fn total_right(s: &[u8], n: usize) -> bool
     let mut total: u64 = 0;
     let mut i = 0;
     while i < n {
-        let balance = little_at(s, bank_place(i) + 8, 8);
+        let balance = money_at(s, bank_place(i) + 8);
         if Book::MOST - total < balance {
             return false;
         }
@@ -463,8 +529,8 @@ fn field_at(s: &[u8], at: usize, field: Field) -> u64
     match field {
         Field::Code => codes::short_code(s, at),
         Field::Flags => wide(byte(s, at + 4)) + 2 * wide(byte(s, at + 5)),
-        Field::Balance => little_at(s, at + 8, 8),
-        Field::Limit => little_at(s, at + 16, 8),
+        Field::Balance => money_at(s, at + 8),
+        Field::Limit => money_at(s, at + 16),
     }
 }
 

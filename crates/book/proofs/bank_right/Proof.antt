@@ -48,20 +48,20 @@ zeros-requires c κs = search needs
 returns-4 : tie.Need-returns-4
 returns-4 c = search bank-zeros
 
-add-little-at : tie.Need-add-little-at
-add-little-at c = search needs
+add-money-at : tie.Need-add-money-at
+add-money-at c = search needs
 
-little-at-requires : tie.Need-little-at-requires
-little-at-requires c κs = search needs
+money-at-requires : tie.Need-money-at-requires
+money-at-requires c κs = search needs
 
 returns-5 : tie.Need-returns-5
 returns-5 c = search bank-balance
 
-add-little-at-2 : tie.Need-add-little-at-2
-add-little-at-2 c = search needs
+add-money-at-2 : tie.Need-add-money-at-2
+add-money-at-2 c = search needs
 
-little-at-requires-2 : tie.Need-little-at-requires-2
-little-at-requires-2 c κs = search needs
+money-at-requires-2 : tie.Need-money-at-requires-2
+money-at-requires-2 c κs = search needs
 
 returns-6 : tie.Need-returns-6
 returns-6 c = search bank-rest
@@ -85,9 +85,9 @@ bank-right-spec =
     add-zeros
     zeros-requires
     returns-4
-    add-little-at
-    little-at-requires
+    add-money-at
+    money-at-requires
     returns-5
-    add-little-at-2
-    little-at-requires-2
+    add-money-at-2
+    money-at-requires-2
     returns-6)

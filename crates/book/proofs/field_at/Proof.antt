@@ -39,20 +39,20 @@ add-result c = search needs
 enum-told-3 : tie.Need-enum-told-3
 enum-told-3 c = search needs
 
-add-little-at : tie.Need-add-little-at
-add-little-at c = search needs
+add-money-at : tie.Need-add-money-at
+add-money-at c = search needs
 
-little-at-requires : tie.Need-little-at-requires
-little-at-requires c κs = search needs
+money-at-requires : tie.Need-money-at-requires
+money-at-requires c κs = search needs
 
 enum-told-4 : tie.Need-enum-told-4
 enum-told-4 c = search needs
 
-add-little-at-2 : tie.Need-add-little-at-2
-add-little-at-2 c = search needs
+add-money-at-2 : tie.Need-add-money-at-2
+add-money-at-2 c = search needs
 
-little-at-requires-2 : tie.Need-little-at-requires-2
-little-at-requires-2 c κs = search needs
+money-at-requires-2 : tie.Need-money-at-requires-2
+money-at-requires-2 c κs = search needs
 
 returns : tie.Need-returns
 returns c = search field-code
@@ -82,11 +82,11 @@ field-at-spec =
     mul-result
     add-result
     enum-told-3
-    add-little-at
-    little-at-requires
+    add-money-at
+    money-at-requires
     enum-told-4
-    add-little-at-2
-    little-at-requires-2
+    add-money-at-2
+    money-at-requires-2
     returns
     returns-2
     returns-3

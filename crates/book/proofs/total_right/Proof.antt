@@ -17,18 +17,18 @@ loop-holds c = adding-start _ _
 bank-place-requires : tie.Need-bank-place-requires Inv-loop μ-loop
 bank-place-requires c κs = omega arith
 
-add-little-at : tie.Need-add-little-at Inv-loop μ-loop
-add-little-at c = omega arith
+add-money-at : tie.Need-add-money-at Inv-loop μ-loop
+add-money-at c = omega arith
 
-little-at-requires : tie.Need-little-at-requires Inv-loop μ-loop
-little-at-requires c κs = omega arith
+money-at-requires : tie.Need-money-at-requires Inv-loop μ-loop
+money-at-requires c κs = omega arith
 
 sub-if1 : tie.Need-sub-if1 Inv-loop μ-loop
 sub-if1 c = omega arith
 
 returns : tie.Need-returns Inv-loop μ-loop
 unfolding totalRight
-returns c = adding-over (c .before .before .before .before .loop .inv) (omega arith) (balance-is _ _ (c .before .before .bank-place .ensures .0) (c .before .little-at .ensures)) (c .if1 .taken)
+returns c = adding-over (c .before .before .before .before .loop .inv) (omega arith) (balance-is _ _ (c .before .before .bank-place .ensures .0) (c .before .money-at .ensures)) (c .if1 .taken)
 
 add-total : tie.Need-add-total Inv-loop μ-loop
 add-total c = omega (arith, c .before .before .before .before .loop .inv .small)
@@ -40,7 +40,7 @@ loop-less : tie.Need-loop-less Inv-loop μ-loop
 loop-less c = omega arith
 
 loop-again : tie.Need-loop-again Inv-loop μ-loop
-loop-again c = adding-on (c .before .before .before .before .loop .inv) (omega arith) (balance-is _ _ (c .before .before .bank-place .ensures .0) (c .before .little-at .ensures)) (omega arith)
+loop-again c = adding-on (c .before .before .before .before .loop .inv) (omega arith) (balance-is _ _ (c .before .before .bank-place .ensures .0) (c .before .money-at .ensures)) (omega arith)
 
 returns-2 : tie.Need-returns-2 Inv-loop μ-loop
 unfolding totalRight
@@ -54,8 +54,8 @@ total-right-spec =
     μ-loop
     loop-holds
     bank-place-requires
-    add-little-at
-    little-at-requires
+    add-money-at
+    money-at-requires
     sub-if1
     returns
     add-total

@@ -2,8 +2,8 @@ use native.Mathlib.Omega.{arith}
 use mathlib.Core.Path.{_≡_, refl, _∙_}
 use Rattle.book.specs.Block.{zerosAt}
 use Rattle.book.proofs.Leaves.{zeros-none, zeros-end, zeros-stop, zeros-step}
-use Rattle.book.proofs.zeros.Statement.{statement}
-use Rattle.book.proofs.zeros.Tie as tie
+use Rattle.book.proofs.zeros_to.Statement.{statement}
+use Rattle.book.proofs.zeros_to.Tie as tie
 
 abbrev Inv-loop : tie.InvT-loop
 Inv-loop s at n left₀ j₀ left j = zerosAt s j left ≡ zerosAt s at n
@@ -38,8 +38,8 @@ loop-again c = zeros-step _ _ _ (omega arith) (omega arith) (c .if2 .left) ∙ c
 returns-3 : tie.Need-returns-3 Inv-loop μ-loop
 returns-3 c = zeros-none _ _ _ (omega arith) ∙ c .before .loop .inv
 
-pub zeros-spec : {M : Type 1} → statement M
-zeros-spec =
+pub zeros-to-spec : {M : Type 1} → statement M
+zeros-to-spec =
     tie.close
     (tie.spec
     Inv-loop
