@@ -1,4 +1,5 @@
 // The account of a request.
+use fields::Break;
 use payments::Payment;
 use request::Head;
 use request::Outcome;
@@ -69,6 +70,13 @@ fn show_settlement(s: &[u8], r: Reading) {
     show_payments(payments, r.n);
 }
 
+// The number, and where and why the text breaks.
+fn show_refusal(s: &[u8], b: Break) {
+    let why = b.refusal;
+    printing::refused(why);
+    telling::show_break(s, b.at, expected::request_break(s, b));
+}
+
 pub fn show(s: &[u8]) {
     let r = request::read_request(s);
     let outcome = r.outcome;
@@ -76,9 +84,6 @@ pub fn show(s: &[u8]) {
     match outcome {
         Outcome::Settlement => show_settlement(s, r),
         Outcome::Recall => show_head(s, head),
-        Outcome::Refused(b) => {
-            let why = b.refusal;
-            printing::refused(why)
-        }
+        Outcome::Refused(b) => show_refusal(s, b),
     }
 }

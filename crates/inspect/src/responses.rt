@@ -1,5 +1,6 @@
 // The account of a response.
 use clock::Clock;
+use fields::Break;
 use reply::Parts;
 use reply::Reply;
 use response::Answer;
@@ -58,6 +59,13 @@ fn show_recall(s: &[u8], p: Parts, r: Recall) {
     }
 }
 
+// The number, and where and why the text breaks.
+fn show_refusal(s: &[u8], b: Break) {
+    let why = b.refusal;
+    printing::refused(why);
+    telling::show_break(s, b.at, expected::response_break(s, b));
+}
+
 pub fn show(s: &[u8]) {
     let r = reply::read_response(s);
     let reply = r.reply;
@@ -65,9 +73,6 @@ pub fn show(s: &[u8]) {
     match reply {
         Reply::Settlement(x) => show_settlement(s, parts, x),
         Reply::Recall(x) => show_recall(s, parts, x),
-        Reply::Refused(b) => {
-            let why = b.refusal;
-            printing::refused(why)
-        }
+        Reply::Refused(b) => show_refusal(s, b),
     }
 }

@@ -1,0 +1,4 @@
+pub mod Tags
+pub mod Stages
+pub mod Walk
+pub mod Faults

@@ -1,0 +1,5 @@
+pub mod InLine
+pub mod Values
+pub mod Mirror
+pub mod Requests
+pub mod Responses

@@ -1,0 +1,52 @@
+-- What a well-formed value says of the lines that follow.
+use Prim.Native.Nat.{ℕ}
+use mathlib.Core.Path.{_≡_, refl, ap, sym, _∙_}
+use mathlib.Core.List.{List, [], _∷_, _++_}
+use mathlib.Core.Bool.{Bool, true, false, cond, _||_, false≢true}
+use mathlib.Core.Logic.{inl, inr}
+use borrow.Author.Tests.{eqb-true}
+use lib.Dec.{eqb}
+use lib.ListN.{length}
+use Rattle.chars.specs.Words.{bytes, member}
+use Rattle.scan.specs.Scan.{crlf, begins}
+use Rattle.scan.specs.Spelling.{valueOf}
+use Rattle.put.specs.Digits.{digitsOf}
+use Rattle.values.specs.Grammar.{IsNumeral, IsSide}
+use Rattle.first_break.specs.Rows.{IsOutcome}
+use Rattle.reply.proofs.Digits.{digits-back}
+use Rattle.expected.specs.Stages.{settlesIn}
+
+-- three digits by their number
+spelt : (v : List ℕ) (n : ℕ) → IsNumeral 3 v → eqb (valueOf 0 v) n ≡ true → v ≡ digitsOf 3 n
+spelt v n g h = sym (digits-back v (g .all)) ∙ ap (λ (k : ℕ). digitsOf k (valueOf 0 v)) (g .size) ∙ ap (digitsOf 3) (eqb-true (valueOf 0 v) n h)
+
+module _ (v r : List ℕ) (g : IsNumeral 3 v) where
+  -- 131 and 133
+  pub asks : member (valueOf 0 v) (131 ∷ 133 ∷ []) ≡ true → settlesIn (v ++ (crlf ++ r)) ≡ eqb (valueOf 0 v) 131
+  unfolding begins digitsOf
+  asks k = go (eqb (valueOf 0 v) 131) (eqb (valueOf 0 v) 133) refl refl k
+    where
+      go : (a b : Bool) → eqb (valueOf 0 v) 131 ≡ a → eqb (valueOf 0 v) 133 ≡ b → (a || (b || false)) ≡ true → settlesIn (v ++ (crlf ++ r)) ≡ a
+      go true b h i k = ap (λ (l : List ℕ). settlesIn (l ++ (crlf ++ r))) (spelt v 131 g h)
+      go false true h i k = ap (λ (l : List ℕ). settlesIn (l ++ (crlf ++ r))) (spelt v 133 g i)
+      go false false h i k = absurd (false≢true k)
+
+  -- 132 and 134
+  pub answers : member (valueOf 0 v) (132 ∷ 134 ∷ []) ≡ true → settlesIn (v ++ (crlf ++ r)) ≡ eqb (valueOf 0 v) 132
+  unfolding begins digitsOf
+  answers k = go (eqb (valueOf 0 v) 132) (eqb (valueOf 0 v) 134) refl refl k
+    where
+      go : (a b : Bool) → eqb (valueOf 0 v) 132 ≡ a → eqb (valueOf 0 v) 134 ≡ b → (a || (b || false)) ≡ true → settlesIn (v ++ (crlf ++ r)) ≡ a
+      go true b h i k = ap (λ (l : List ℕ). settlesIn (l ++ (crlf ++ r))) (spelt v 132 g h)
+      go false true h i k = ap (λ (l : List ℕ). settlesIn (l ++ (crlf ++ r))) (spelt v 134 g i)
+      go false false h i k = absurd (false≢true k)
+
+pub side : (v r : List ℕ) → IsSide v → begins (bytes "DR") (v ++ (crlf ++ r)) ≡ begins (bytes "DR") v
+unfolding begins
+side v r (inl e) = rw e
+side v r (inr e) = rw e
+
+pub outcome : (v r : List ℕ) → IsOutcome v → begins (bytes "0") (v ++ (crlf ++ r)) ≡ begins (bytes "0") v
+unfolding begins
+outcome v r (inl e) = rw e
+outcome v r (inr e) = rw e

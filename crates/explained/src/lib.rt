@@ -1,0 +1,1 @@
+// What is told of a break is what breaks the text: proofs alone.
