@@ -38,10 +38,10 @@ use Rattle.terms.specs.declared.Activated.{Activated}
 use Rattle.terms.specs.declared.Activated.the-variants.{Given, Ungiven}
 use Rattle.terms.specs.declared.Stated.{Stated}
 use Rattle.terms.specs.declared.Stated.the-variants.{Whole, Partial}
-use Rattle.payments.specs.Payments.{paymentsAt}
+use Rattle.payments.specs.Payments.{nothing, paymentsAt}
 use Rattle.payments.specs.declared.Ending.{Ending}
 use Rattle.payments.specs.declared.Ending.the-variants.{Done, Cut}
-use Rattle.request.specs.Request.{namedAt, address, nowhere, toStream, head, bare, refusal, settlement, addressAt, onTo, onDone, ending, settlementAt, recallAt, messageAt, requestAt}
+use Rattle.request.specs.Request.{namedAt, address, nowhere, toStream, head, bare, refusal, unread, settlement, addressAt, onTo, onDone, ending, settlementAt, recallAt, messageAt, requestAt}
 use Rattle.request.specs.declared.Reached.the-variants.{Bin as Both}
 use Rattle.request.specs.declared.Address.{Address}
 use Rattle.request.specs.declared.Addressed.{Addressed}
@@ -295,17 +295,17 @@ terms-sound s at {t} {c} h = go₁ (fieldAt s at (bytes ":16A:") Numbers) refl h
 
 -- an outcome that is no refusal
 module _ (o : Outcome) (ok : (b : Break) → Refused b ≡ o → ⊥) where
-  on-reading : {A : Type 0} (s : List ℕ) (at : ℕ) (tag : List ℕ) (k : Kind) (x : Address) (f : Item → Cursor → Reading) → onGood (fieldAt s at tag k) (λ b. refusal b x) f .outcome ≡ o → ((i : Item) (d : Cursor) → fieldAt s at tag k ≡ Good i d → f i d .outcome ≡ o → A) → A
-  on-reading {A} s at tag k x f h g = go (fieldAt s at tag k) refl h
+  on-reading : {A : Type 0} (s : List ℕ) (at : ℕ) (tag : List ℕ) (k : Kind) (u : Item) (x : Address) (f : Item → Cursor → Reading) → onGood (fieldAt s at tag k) (λ b. refusal u b x) f .outcome ≡ o → ((i : Item) (d : Cursor) → fieldAt s at tag k ≡ Good i d → f i d .outcome ≡ o → A) → A
+  on-reading {A} s at tag k u x f h g = go (fieldAt s at tag k) refl h
     where
-      go : (y : Field) → fieldAt s at tag k ≡ y → onGood y (λ b. refusal b x) f .outcome ≡ o → A
+      go : (y : Field) → fieldAt s at tag k ≡ y → onGood y (λ b. refusal u b x) f .outcome ≡ o → A
       go (Good i d) q h = g i d q h
       go (Bad b) q h = absurd (ok b h)
 
-  on-ending : {A : Type 0} (s : List ℕ) (at : ℕ) (x : Address) (r : Reading) → ending s at x r .outcome ≡ o → (ltb at (length s) ≡ false → r .outcome ≡ o → A) → A
+  on-ending : {A : Type 0} (s : List ℕ) (at : ℕ) (x : Head) (r : Reading) → ending s at x r .outcome ≡ o → (ltb at (length s) ≡ false → r .outcome ≡ o → A) → A
   on-ending {A} s at x r h f = go (ltb at (length s)) refl h
     where
-      go : (b : Bool) → ltb at (length s) ≡ b → cond b (refusal (absent at) x) r .outcome ≡ o → A
+      go : (b : Bool) → ltb at (length s) ≡ b → cond b (refusal (x .subtype) (absent at) (x .address)) r .outcome ≡ o → A
       go true q h = absurd (ok (absent at) h)
       go false q h = f q h
 
@@ -321,10 +321,10 @@ module _ (o : Outcome) (ok : (b : Break) → Refused b ≡ o → ⊥) where
 
   head-sound : (s : List ℕ) → requestAt s .outcome ≡ o → HeadStands s
   unfolding requestAt messageAt
-  head-sound s h = on-reading s 0 (bytes ":20:") Reference nowhere _ h (λ i c q₁ r₁.
-      on-reading s (c .at) (bytes ":12:") (Numeral 3) nowhere _ r₁ (λ t d q₂ r₂. typed i c t d q₁ q₂ (member (t .number) (131 ∷ 133 ∷ [])) refl r₂))
+  head-sound s h = on-reading s 0 (bytes ":20:") Reference nothing nowhere _ h (λ i c q₁ r₁.
+      on-reading s (c .at) (bytes ":12:") (Numeral 3) nothing nowhere _ r₁ (λ t d q₂ r₂. typed i c t d q₁ q₂ (member (t .number) (131 ∷ 133 ∷ [])) refl r₂))
     where
-      addressed : (i : Item) (c : Cursor) (t : Item) (d : Cursor) → fieldAt s 0 (bytes ":20:") Reference ≡ Good i c → fieldAt s (c .at) (bytes ":12:") (Numeral 3) ≡ Good t d → member (t .number) (131 ∷ 133 ∷ []) ≡ true → (x : Addressed) → addressAt s (d .at) ≡ x → onTo x refusal (λ a e. cond (eqb (t .number) 131) (settlementAt s (e .at) (head (namedAt s (i .part)) t a)) (recallAt s (e .at) (head (namedAt s (i .part)) t a))) .outcome ≡ o → HeadStands s
+      addressed : (i : Item) (c : Cursor) (t : Item) (d : Cursor) → fieldAt s 0 (bytes ":20:") Reference ≡ Good i c → fieldAt s (c .at) (bytes ":12:") (Numeral 3) ≡ Good t d → member (t .number) (131 ∷ 133 ∷ []) ≡ true → (x : Addressed) → addressAt s (d .at) ≡ x → onTo x (refusal t) (λ a e. cond (eqb (t .number) 131) (settlementAt s (e .at) (head (namedAt s (i .part)) t a)) (recallAt s (e .at) (head (namedAt s (i .part)) t a))) .outcome ≡ o → HeadStands s
       addressed i c t d q₁ q₂ m (Lost b a) q₃ h = absurd (ok b h)
       addressed i c t d q₁ q₂ m (To a e) q₃ h =
           let g₁ = line-read s 0 (bytes ":20:") Reference 0 tt q₁ in
@@ -360,7 +360,7 @@ module _ (o : Outcome) (ok : (b : Break) → Refused b ≡ o → ⊥) where
             is = h;
           }
 
-      typed : (i : Item) (c : Cursor) (t : Item) (d : Cursor) → fieldAt s 0 (bytes ":20:") Reference ≡ Good i c → fieldAt s (c .at) (bytes ":12:") (Numeral 3) ≡ Good t d → (b : Bool) → member (t .number) (131 ∷ 133 ∷ []) ≡ b → cond b (onTo (addressAt s (d .at)) refusal (λ a e. cond (eqb (t .number) 131) (settlementAt s (e .at) (head (namedAt s (i .part)) t a)) (recallAt s (e .at) (head (namedAt s (i .part)) t a)))) (refusal (broken (c .at) OtherSubType) nowhere) .outcome ≡ o → HeadStands s
+      typed : (i : Item) (c : Cursor) (t : Item) (d : Cursor) → fieldAt s 0 (bytes ":20:") Reference ≡ Good i c → fieldAt s (c .at) (bytes ":12:") (Numeral 3) ≡ Good t d → (b : Bool) → member (t .number) (131 ∷ 133 ∷ []) ≡ b → cond b (onTo (addressAt s (d .at)) (refusal t) (λ a e. cond (eqb (t .number) 131) (settlementAt s (e .at) (head (namedAt s (i .part)) t a)) (recallAt s (e .at) (head (namedAt s (i .part)) t a)))) (unread (broken (c .at) OtherSubType)) .outcome ≡ o → HeadStands s
       typed i c t d q₁ q₂ true m h = addressed i c t d q₁ q₂ m (addressAt s (d .at)) refl h
       typed i c t d q₁ q₂ false m h = absurd (ok (broken (c .at) OtherSubType) h)
 
@@ -375,10 +375,10 @@ module _ (o : Outcome) (ok : (b : Break) → Refused b ≡ o → ⊥) where
   unfolding settlementAt
   body-sound s at x h = go₁ (termsAt s at) refl h
     where
-      go₂ : (u : Terms) (c : Cursor) → termsAt s at ≡ Whole u c → (e : Ending) → paymentsAt s (c .at) .ending ≡ e → onDone e (λ b. refusal b (x .address)) (λ d. onGood (fieldAt s (d .at) (bytes ":203:") (Count (paymentsAt s (c .at) .n))) (λ b. refusal b (x .address)) (λ count f. ending s (f .at) (x .address) (settlement x u (paymentsAt s (c .at)) count))) .outcome ≡ o → BodyStands s (drop at s) x (settlementAt s at x)
+      go₂ : (u : Terms) (c : Cursor) → termsAt s at ≡ Whole u c → (e : Ending) → paymentsAt s (c .at) .ending ≡ e → onDone e (λ b. refusal (x .subtype) b (x .address)) (λ d. onGood (fieldAt s (d .at) (bytes ":203:") (Count (paymentsAt s (c .at) .n))) (λ b. refusal (x .subtype) b (x .address)) (λ count f. ending s (f .at) x (settlement x u (paymentsAt s (c .at)) count))) .outcome ≡ o → BodyStands s (drop at s) x (settlementAt s at x)
       go₂ u c q (Cut b) p h = absurd (ok b h)
-      go₂ u c q (Done d) p h = on-reading s (d .at) (bytes ":203:") (Count (paymentsAt s (c .at) .n)) (x .address) _ h (λ i f q₃ r.
-          on-ending s (f .at) (x .address) (settlement x u (paymentsAt s (c .at)) i) r (λ at-end last.
+      go₂ u c q (Done d) p h = on-reading s (d .at) (bytes ":203:") (Count (paymentsAt s (c .at) .n)) (x .subtype) (x .address) _ h (λ i f q₃ r.
+          on-ending s (f .at) x (settlement x u (paymentsAt s (c .at)) i) r (λ at-end last.
           let nil = drop-of-length-le s (ltb-false (f .at) (length s) at-end) in
           let same : settlementAt s at x ≡ settlement x u (paymentsAt s (c .at)) i = simp (q, p, q₃, at-end) in
           let g = terms-sound s at q in
@@ -415,7 +415,7 @@ module _ (o : Outcome) (ok : (b : Break) → Refused b ≡ o → ⊥) where
             parts = record { numbers = g .numbers-part; date = g .date-part; activation = g .activation-part; payments = w .parts; count = v .text };
           })))
 
-      go₁ : (t : Stated) → termsAt s at ≡ t → onWhole t (λ b. refusal b (x .address)) (λ u c. onDone (paymentsAt s (c .at) .ending) (λ b. refusal b (x .address)) (λ d. onGood (fieldAt s (d .at) (bytes ":203:") (Count (paymentsAt s (c .at) .n))) (λ b. refusal b (x .address)) (λ count f. ending s (f .at) (x .address) (settlement x u (paymentsAt s (c .at)) count)))) .outcome ≡ o → BodyStands s (drop at s) x (settlementAt s at x)
+      go₁ : (t : Stated) → termsAt s at ≡ t → onWhole t (λ b. refusal (x .subtype) b (x .address)) (λ u c. onDone (paymentsAt s (c .at) .ending) (λ b. refusal (x .subtype) b (x .address)) (λ d. onGood (fieldAt s (d .at) (bytes ":203:") (Count (paymentsAt s (c .at) .n))) (λ b. refusal (x .subtype) b (x .address)) (λ count f. ending s (f .at) x (settlement x u (paymentsAt s (c .at)) count)))) .outcome ≡ o → BodyStands s (drop at s) x (settlementAt s at x)
       go₁ (Whole u c) q h = go₂ u c q (paymentsAt s (c .at) .ending) refl h
       go₁ (Partial b) q h = absurd (ok b h)
 
@@ -426,7 +426,7 @@ module _ (o : Outcome) (ok : (b : Break) → Refused b ≡ o → ⊥) where
 
   recall-ends : (s : List ℕ) (at : ℕ) (x : Head) → recallAt s at x .outcome ≡ o → RecallStands (drop at s) x (recallAt s at x)
   unfolding recallAt
-  recall-ends s at x h = on-ending s at (x .address) (bare Recall x) h (λ at-end last.
+  recall-ends s at x h = on-ending s at x (bare Recall x) h (λ at-end last.
       let same : recallAt s at x ≡ bare Recall x = simp at-end in
       record { recalls = last; of = ap (λ (y : Reading). y .head) same; nil = drop-of-length-le s (ltb-false at (length s) at-end) })
 

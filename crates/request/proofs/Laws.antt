@@ -22,10 +22,10 @@ use Rattle.terms.specs.Terms.{termsAt, unstated}
 use Rattle.terms.specs.declared.Terms.{Terms}
 use Rattle.terms.specs.declared.Stated.{Stated}
 use Rattle.terms.specs.declared.Stated.the-variants.{Whole, Partial}
-use Rattle.payments.specs.Payments.{paymentsAt}
+use Rattle.payments.specs.Payments.{nothing, paymentsAt}
 use Rattle.payments.specs.declared.Payments.{Payments}
 use Rattle.payments.specs.declared.Ending.the-variants.{Done, Cut}
-use Rattle.request.specs.Request.{namedAt, address, nowhere, toStream, head, bare, refusal, settlement, addressAt, cutBy, settlementAt, recallAt, messageAt, requestAt}
+use Rattle.request.specs.Request.{namedAt, address, nowhere, toStream, head, bare, refusal, unread, settlement, addressAt, cutBy, settlementAt, recallAt, messageAt, requestAt}
 use Rattle.request.specs.declared.Named.{Named}
 use Rattle.request.specs.declared.Reached.the-variants.{Bin as Both}
 use Rattle.request.specs.declared.Address.{Address}
@@ -62,19 +62,19 @@ module _ (s : List ℕ) (at : ℕ) where
   address-4 p p′ q q′ r r′ n = simp (← p, p′, ← q, q′, ← r, r′, n)
 
   module _ (h : Head) where
-    pub settlement-1 : {t : Stated} {b w : Break} {o : Reading} → t ≡ termsAt s at → t ≡ Partial b → w ≡ unstated t → o ≡ refusal w (h .address) → o ≡ settlementAt s at h
+    pub settlement-1 : {t : Stated} {b w : Break} {o : Reading} → t ≡ termsAt s at → t ≡ Partial b → w ≡ unstated t → o ≡ refusal (h .subtype) w (h .address) → o ≡ settlementAt s at h
     unfolding settlementAt
     settlement-1 p p′ w o = o ∙ simp (← p, w, p′)
 
-    pub settlement-2 : {t : Stated} {u : Terms} {c : Cursor} {x : Payments} {b w : Break} {o : Reading} → t ≡ termsAt s at → t ≡ Whole u c → x ≡ paymentsAt s (c .at) → x .ending ≡ Cut b → w ≡ cutBy (x .ending) → o ≡ refusal w (h .address) → o ≡ settlementAt s at h
+    pub settlement-2 : {t : Stated} {u : Terms} {c : Cursor} {x : Payments} {b w : Break} {o : Reading} → t ≡ termsAt s at → t ≡ Whole u c → x ≡ paymentsAt s (c .at) → x .ending ≡ Cut b → w ≡ cutBy (x .ending) → o ≡ refusal (h .subtype) w (h .address) → o ≡ settlementAt s at h
     unfolding settlementAt
     settlement-2 p p′ q q′ w o = o ∙ simp (← p, p′, ← q, w, q′)
 
-    pub settlement-3 : {t : Stated} {u : Terms} {c d : Cursor} {x : Payments} {f : Field} {b w : Break} {o : Reading} → t ≡ termsAt s at → t ≡ Whole u c → x ≡ paymentsAt s (c .at) → x .ending ≡ Done d → f ≡ fieldAt s (d .at) (bytes ":203:") (Count (x .n)) → f ≡ Bad b → w ≡ whyNot f → o ≡ refusal w (h .address) → o ≡ settlementAt s at h
+    pub settlement-3 : {t : Stated} {u : Terms} {c d : Cursor} {x : Payments} {f : Field} {b w : Break} {o : Reading} → t ≡ termsAt s at → t ≡ Whole u c → x ≡ paymentsAt s (c .at) → x .ending ≡ Done d → f ≡ fieldAt s (d .at) (bytes ":203:") (Count (x .n)) → f ≡ Bad b → w ≡ whyNot f → o ≡ refusal (h .subtype) w (h .address) → o ≡ settlementAt s at h
     unfolding settlementAt
     settlement-3 p p′ q q′ r r′ w o = o ∙ simp (← p, p′, ← q, q′, ← r, w, r′)
 
-    pub settlement-4 : {t : Stated} {u : Terms} {c d e : Cursor} {x : Payments} {f : Field} {i : Item} {w : Break} {o : Reading} → t ≡ termsAt s at → t ≡ Whole u c → x ≡ paymentsAt s (c .at) → x .ending ≡ Done d → f ≡ fieldAt s (d .at) (bytes ":203:") (Count (x .n)) → f ≡ Good i e → e .at < length s → w ≡ absent (e .at) → o ≡ refusal w (h .address) → o ≡ settlementAt s at h
+    pub settlement-4 : {t : Stated} {u : Terms} {c d e : Cursor} {x : Payments} {f : Field} {i : Item} {w : Break} {o : Reading} → t ≡ termsAt s at → t ≡ Whole u c → x ≡ paymentsAt s (c .at) → x .ending ≡ Done d → f ≡ fieldAt s (d .at) (bytes ":203:") (Count (x .n)) → f ≡ Good i e → e .at < length s → w ≡ absent (e .at) → o ≡ refusal (h .subtype) w (h .address) → o ≡ settlementAt s at h
     unfolding settlementAt
     settlement-4 p p′ q q′ r r′ l w o = o ∙ simp (← p, p′, ← q, q′, ← r, r′, lt-ltb _ _ l, w)
 
@@ -82,7 +82,7 @@ module _ (s : List ℕ) (at : ℕ) where
     unfolding settlementAt
     settlement-5 p p′ q q′ r r′ l = simp (← p, p′, ← q, q′, ← r, r′, le-ltb _ _ l)
 
-    pub recall-1 : {w : Break} {o : Reading} → at < length s → w ≡ absent at → o ≡ refusal w (h .address) → o ≡ recallAt s at h
+    pub recall-1 : {w : Break} {o : Reading} → at < length s → w ≡ absent at → o ≡ refusal (h .subtype) w (h .address) → o ≡ recallAt s at h
     unfolding recallAt
     recall-1 l w o = o ∙ simp (lt-ltb _ _ l, w)
 
@@ -91,7 +91,7 @@ module _ (s : List ℕ) (at : ℕ) where
     recall-2 l o = o ∙ simp (le-ltb _ _ l)
 
   module _ (reference : Named) (t : Item) where
-    pub message-1 : {x : Addressed} {b : Break} {a : Address} {o : Reading} → x ≡ addressAt s at → x ≡ Lost b a → o ≡ refusal b a → o ≡ messageAt s at reference t
+    pub message-1 : {x : Addressed} {b : Break} {a : Address} {o : Reading} → x ≡ addressAt s at → x ≡ Lost b a → o ≡ refusal t b a → o ≡ messageAt s at reference t
     unfolding messageAt
     message-1 p p′ o = o ∙ simp (← p, p′)
 
@@ -103,19 +103,22 @@ module _ (s : List ℕ) (at : ℕ) where
     unfolding messageAt
     message-3 p p′ h o = o ∙ simp (← p, p′, ne-eqb _ _ h)
 
-module _ (s : List ℕ) where
-  pub request-1 : {f : Field} {z : Cursor} {b w : Break} {a : Address} {o : Reading} → z .at ≡ 0 → f ≡ fieldAt s (z .at) (bytes ":20:") Reference → f ≡ Bad b → w ≡ whyNot f → a ≡ nowhere → o ≡ refusal w a → o ≡ requestAt s
-  unfolding requestAt
-  request-1 z p p′ w a o = o ∙ simp (← z, ← p, w, p′, a)
+pub unread-1 : {b : Break} {a : Address} {o : Reading} → a ≡ nowhere → o ≡ refusal nothing b a → o ≡ unread b
+unread-1 a o = o ∙ simp a
 
-  pub request-2 : {f g : Field} {z c : Cursor} {i : Item} {b w : Break} {a : Address} {o : Reading} → z .at ≡ 0 → f ≡ fieldAt s (z .at) (bytes ":20:") Reference → f ≡ Good i c → g ≡ fieldAt s (c .at) (bytes ":12:") (Numeral 3) → g ≡ Bad b → w ≡ whyNot g → a ≡ nowhere → o ≡ refusal w a → o ≡ requestAt s
+module _ (s : List ℕ) where
+  pub request-1 : {f : Field} {z : Cursor} {b w : Break} {o : Reading} → z .at ≡ 0 → f ≡ fieldAt s (z .at) (bytes ":20:") Reference → f ≡ Bad b → w ≡ whyNot f → o ≡ unread w → o ≡ requestAt s
   unfolding requestAt
-  request-2 z p p′ q q′ w a o = o ∙ simp (← z, ← p, p′, ← q, w, q′, a)
+  request-1 z p p′ w o = o ∙ simp (← z, ← p, w, p′)
+
+  pub request-2 : {f g : Field} {z c : Cursor} {i : Item} {b w : Break} {o : Reading} → z .at ≡ 0 → f ≡ fieldAt s (z .at) (bytes ":20:") Reference → f ≡ Good i c → g ≡ fieldAt s (c .at) (bytes ":12:") (Numeral 3) → g ≡ Bad b → w ≡ whyNot g → o ≡ unread w → o ≡ requestAt s
+  unfolding requestAt
+  request-2 z p p′ q q′ w o = o ∙ simp (← z, ← p, p′, ← q, w, q′)
 
   pub request-3 : {f g : Field} {z c d : Cursor} {i t : Item} {n : Named} {o : Reading} → z .at ≡ 0 → f ≡ fieldAt s (z .at) (bytes ":20:") Reference → f ≡ Good i c → g ≡ fieldAt s (c .at) (bytes ":12:") (Numeral 3) → g ≡ Good t d → member (t .number) (131 ∷ 133 ∷ []) ≡ true → n ≡ namedAt s (i .part) → o ≡ messageAt s (d .at) n t → o ≡ requestAt s
   unfolding requestAt
   request-3 z p p′ q q′ m n o = o ∙ simp (← z, ← p, p′, ← q, q′, m, n)
 
-  pub request-4 : {f g : Field} {z c d : Cursor} {i t : Item} {w : Break} {a : Address} {o : Reading} → z .at ≡ 0 → f ≡ fieldAt s (z .at) (bytes ":20:") Reference → f ≡ Good i c → g ≡ fieldAt s (c .at) (bytes ":12:") (Numeral 3) → g ≡ Good t d → member (t .number) (131 ∷ 133 ∷ []) ≡ false → w ≡ broken (c .at) OtherSubType → a ≡ nowhere → o ≡ refusal w a → o ≡ requestAt s
+  pub request-4 : {f g : Field} {z c d : Cursor} {i t : Item} {w : Break} {o : Reading} → z .at ≡ 0 → f ≡ fieldAt s (z .at) (bytes ":20:") Reference → f ≡ Good i c → g ≡ fieldAt s (c .at) (bytes ":12:") (Numeral 3) → g ≡ Good t d → member (t .number) (131 ∷ 133 ∷ []) ≡ false → w ≡ broken (c .at) OtherSubType → o ≡ unread w → o ≡ requestAt s
   unfolding requestAt
-  request-4 z p p′ q q′ m w a o = o ∙ simp (← z, ← p, p′, ← q, q′, m, w, a)
+  request-4 z p p′ q q′ m w o = o ∙ simp (← z, ← p, p′, ← q, q′, m, w)

@@ -13,7 +13,7 @@ use terms::Stated;
 use terms::Terms;
 use values::Part;
 ghost use mathlib.Core.Path.{_≡_};
-ghost use Rattle.request.specs.Request.{namedAt, nowhere, toStream, bare, refusal, addressAt, cutBy, settlementAt, recallAt, messageAt, requestAt};
+ghost use Rattle.request.specs.Request.{namedAt, nowhere, toStream, bare, refusal, unread, addressAt, cutBy, settlementAt, recallAt, messageAt, requestAt};
 
 // A reference or a BIN: where it stands, and its code.
 pub struct Named {
@@ -55,7 +55,7 @@ pub enum Outcome {
 }
 
 // What was read. The first n places hold the payments. Of a recall only the head is there; of a
-// text that is refused only the address; all else is zero.
+// text that is refused only the sub type and the address, as far as they were read; all else is zero.
 pub struct Reading {
     pub outcome: Outcome,
     pub head: Head,
@@ -146,16 +146,15 @@ impl Reading {
         }
     }
 
-    // Nothing but the break and the address so far.
-    fn refused(b: Break, address: Address) -> Reading
-        ensures { λ r. ⌜ r ≡ refusal b address ⌝ }
+    // Nothing but the break, the sub type and the address so far.
+    fn refused(subtype: Item, b: Break, address: Address) -> Reading
+        ensures { λ r. ⌜ r ≡ refusal subtype b address ⌝ }
     {
         let part = Part { start: 0, end: 0 };
         let reference = Named {
             part,
             code: Code { high: 0, low: 0 },
         };
-        let subtype = Item { part, number: 0 };
         Reading::bare(
             Outcome::Refused(b),
             Head {
@@ -164,6 +163,14 @@ impl Reading {
                 address,
             },
         )
+    }
+
+    // Nothing but the break.
+    fn unread(b: Break) -> Reading
+        ensures { λ r. ⌜ r ≡ unread b ⌝ }
+    {
+        let part = Part { start: 0, end: 0 };
+        Reading::refused(Item { part, number: 0 }, b, Address::nowhere())
     }
 }
 
@@ -209,23 +216,24 @@ fn cut(e: Ending) -> Break
 fn read_settlement(s: &[u8], c: Cursor, head: Head) -> Reading
     ensures { λ r. ⌜ r ≡ settlementAt (now (s .entry)) (c .at) head ⌝ }
 {
+    let subtype = head.subtype;
     let address = head.address;
     let t = terms::read_terms(s, c);
     let Stated::Whole(terms, past) = t else {
-        return Reading::refused(t.why(), address);
+        return Reading::refused(subtype, t.why(), address);
     };
     let p = payments::read_payments(s, past);
     let ending = p.ending;
     let Ending::Done(then) = ending else {
-        return Reading::refused(cut(ending), address);
+        return Reading::refused(subtype, cut(ending), address);
     };
     let n = p.n;
     let f = fields::read_field(s, then, b":203:", Kind::Count(n as u64));
     let Field::Good(count, next) = f else {
-        return Reading::refused(f.why(), address);
+        return Reading::refused(subtype, f.why(), address);
     };
     if next.at < s.len() {
-        return Reading::refused(Break::absent(next.at), address);
+        return Reading::refused(subtype, Break::absent(next.at), address);
     }
     let payments = p.items;
     Reading {
@@ -243,8 +251,9 @@ fn read_recall(s: &[u8], c: Cursor, head: Head) -> Reading
     ensures { λ r. ⌜ r ≡ recallAt (now (s .entry)) (c .at) head ⌝ }
 {
     if c.at < s.len() {
+        let subtype = head.subtype;
         let address = head.address;
-        return Reading::refused(Break::absent(c.at), address);
+        return Reading::refused(subtype, Break::absent(c.at), address);
     }
     Reading::bare(Outcome::Recall, head)
 }
@@ -254,7 +263,7 @@ fn read_message(s: &[u8], c: Cursor, reference: Named, subtype: Item) -> Reading
     ensures { λ r. ⌜ r ≡ messageAt (now (s .entry)) (c .at) reference subtype ⌝ }
 {
     match read_address(s, c) {
-        Addressed::Lost(b, address) => Reading::refused(b, address),
+        Addressed::Lost(b, address) => Reading::refused(subtype, b, address),
         Addressed::To(address, next) => {
             let head = Head {
                 reference,
@@ -275,19 +284,16 @@ pub fn read_request(s: &[u8]) -> Reading
 {
     let f = fields::read_field(s, Cursor::new(), b":20:", Kind::Reference);
     let Field::Good(reference, past) = f else {
-        return Reading::refused(f.why(), Address::nowhere());
+        return Reading::unread(f.why());
     };
     let g = fields::read_field(s, past, b":12:", Kind::Numeral(3));
     let Field::Good(subtype, next) = g else {
-        return Reading::refused(g.why(), Address::nowhere());
+        return Reading::unread(g.why());
     };
     let part = reference.part;
     let n = subtype.number;
     match n {
         131 | 133 => read_message(s, next, name_at(s, part), subtype),
-        _ => Reading::refused(
-            Break::wrong(past.at, Refusal::OtherSubType),
-            Address::nowhere(),
-        ),
+        _ => Reading::unread(Break::wrong(past.at, Refusal::OtherSubType)),
     }
 }
