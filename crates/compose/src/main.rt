@@ -2,8 +2,8 @@
 // the line that cannot be read; or the number by which the request would be refused. A dash is standard input.
 use chars::Refusal;
 use composing::Account;
-use composing::Ending;
 use composing::Expected;
+use composing::Extent;
 use files::Got;
 use libc::STDERR_FILENO;
 use response::Written;
@@ -62,8 +62,8 @@ fn compose(s: &[u8]) {
     let account = composing::read_account(s);
     let ending = account.ending;
     match ending {
-        Ending::Unread(at, expected) => say_unread(s, at, expected),
-        Ending::Whole => write_order(account),
+        Extent::Unread(at, expected) => say_unread(s, at, expected),
+        Extent::Whole => write_order(account),
     }
 }
 

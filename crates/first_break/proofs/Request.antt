@@ -17,20 +17,20 @@ use Rattle.scan.specs.declared.At.the-variants.{Next, No}
 use Rattle.scan.specs.declared.Cursor.{Cursor}
 use Rattle.scan.proofs.Laws.{lit-yes, lit-not}
 use Rattle.scan.specs.Spelling.{valueOf}
-use Rattle.values.specs.Values.{stands}
+use Rattle.values.specs.Values.{noPart, stands}
 use Rattle.values.specs.Grammar.{IsNumeral}
-use Rattle.fields.specs.Fields.{absent, broken, wrong as wrongAt, place, onGood, fieldAt}
+use Rattle.fields.specs.Fields.{absent, broken, wrong as wrongAt, nothing, place, onGood, fieldAt}
 use Rattle.fields.specs.declared.Break.{Break}
 use Rattle.fields.specs.declared.Item.{Item}
-use Rattle.fields.specs.declared.Kind.the-variants.{Reference, Numeral, Word, Bin, Numbers, Date, Time, Side, Amount, Letters, Count}
-use Rattle.terms.specs.Terms.{noPart, activationAt, onGiven, onWhole, terms, termsAt}
+use Rattle.fields.specs.declared.Kind.the-variants.{Empty, Reference, Numeral, Word, Bin, Numbers, Date, Time, Side, Amount, Letters, Count}
+use Rattle.terms.specs.Terms.{activationAt, onGiven, onWhole, terms, termsAt}
 use Rattle.terms.specs.declared.Terms.{Terms}
 use Rattle.terms.specs.declared.Activation.the-variants.{AtOnce, Minute}
 use Rattle.terms.specs.declared.Activated.{Activated}
 use Rattle.terms.specs.declared.Activated.the-variants.{Given, Ungiven}
 use Rattle.terms.specs.declared.Stated.{Stated}
 use Rattle.terms.specs.declared.Stated.the-variants.{Whole, Partial}
-use Rattle.payments.specs.Payments.{nothing, none as no-payments, payment as paid, bankAt, creditAt, debitAt, paymentAt, moreAt, onPaid, ended, paymentsOn, paymentsAt}
+use Rattle.payments.specs.Payments.{none as no-payments, payment as paid, bankAt, creditAt, debitAt, paymentAt, moreAt, onPaid, ended, paymentsOn, paymentsAt}
 use Rattle.payments.specs.declared.Payment.{Payment}
 use Rattle.payments.specs.declared.Paid.{Paid}
 use Rattle.payments.specs.declared.Paid.the-variants.{One, Unpaid}
@@ -190,15 +190,15 @@ module _ (s : List ℕ) where
     stated-for x = broken-in (onWhole x (λ b. refusal (h .subtype) b (h .address)) (λ t c. onDone (paymentsAt s (c .at) .ending) (λ b. refusal (h .subtype) b (h .address)) (λ d. onGood (fieldAt s (d .at) (bytes ":203:") (Count (paymentsAt s (c .at) .n))) (λ b. refusal (h .subtype) b (h .address)) (λ n e. ending s (e .at) h (settlement h t (paymentsAt s (c .at)) n)))))
 
     -- "the line may be missing"
-    activation-walk : (i date : Item) (p : ℕ) → Walk (stated-for (onGiven (activationAt s p) Partial (λ m q e. Whole (terms i date m q) e))) p at175
+    activation-walk : (i date : Item) (p : ℕ) → Walk (stated-for (onGiven (activationAt s p) Partial (λ m q e. Whole (terms s i date m q) e))) p at175
     unfolding activationAt
     activation-walk i date p = go (litAt s p (bytes ":175:")) refl
       where
-        go : (r : At) → litAt s p (bytes ":175:") ≡ r → Walk (stated-for (onGiven (onNext r (Given AtOnce noPart (place p)) (λ a. onGood (fieldAt s p (bytes ":175:") Time) Ungiven (λ j c. Given (Minute (j .number)) (j .part) c))) Partial (λ m q e. Whole (terms i date m q) e))) p at175
-        go No l = all-paid-walk (terms i date AtOnce noPart) p at175 (second p at175 (choice f175 (λ v. at127)) (payment 0) refl refl (lit-not s p (bytes ":175:") l))
+        go : (r : At) → litAt s p (bytes ":175:") ≡ r → Walk (stated-for (onGiven (onNext r (Given AtOnce noPart (place p)) (λ a. onGood (fieldAt s p (bytes ":175:") Time) Ungiven (λ j c. Given (Minute (j .number)) (j .part) c))) Partial (λ m q e. Whole (terms s i date m q) e))) p at175
+        go No l = all-paid-walk (terms s i date AtOnce noPart) p at175 (second p at175 (choice f175 (λ v. at127)) (payment 0) refl refl (lit-not s p (bytes ":175:") l))
         go (Next a) l =
-            on-line (λ (x : Activated). stated-for (onGiven x Partial (λ m q e. Whole (terms i date m q) e))) Ungiven (λ b. refl) (λ j c. Given (Minute (j .number)) (j .part) c) (choice f175 (λ v. at127)) Time (fits175 s) (leading p at175 (choice f175 (λ v. at127)) (payment 0) refl refl (lit-yes s p (bytes ":175:") l)) (λ v. refl) (λ j c q g.
-            all-paid-walk (terms i date (Minute (j .number)) (j .part)) (c .at) at127 (alone (c .at) at127 (payment 0) refl refl))
+            on-line (λ (x : Activated). stated-for (onGiven x Partial (λ m q e. Whole (terms s i date m q) e))) Ungiven (λ b. refl) (λ j c. Given (Minute (j .number)) (j .part) c) (choice f175 (λ v. at127)) Time (fits175 s) (leading p at175 (choice f175 (λ v. at127)) (payment 0) refl refl (lit-yes s p (bytes ":175:") l)) (λ v. refl) (λ j c q g.
+            all-paid-walk (terms s i date (Minute (j .number)) (j .part)) (c .at) at127 (alone (c .at) at127 (payment 0) refl refl))
 
     settlement-walk : (p : ℕ) → Walk (broken-in (settlementAt s p h)) p at16A
     unfolding settlementAt termsAt
@@ -216,7 +216,7 @@ module _ (s : List ℕ) where
   address-walk : (settles : Bool) (answer : Addressed → Option Break) → ((b : Break) (a : Address) → answer (Lost b a) ≡ some b) → ((a : Address) (c : Cursor) → Walk (answer (To a c)) (c .at) (cond settles at16A at-end)) → (p : ℕ) → Walk (answer (addressAt s p)) p (at77E settles)
   unfolding addressAt
   address-walk settles answer ok on p =
-      on-line answer (λ b. Lost b nowhere) (λ b. ok b nowhere) _ (choice f77E (λ v. at22A settles)) (Word 0) (fits77E s) (alone p (at77E settles) (choice f77E (λ v. at22A settles)) refl refl) (λ v. refl) (λ empty c q g.
+      on-line answer (λ b. Lost b nowhere) (λ b. ok b nowhere) _ (choice f77E (λ v. at22A settles)) Empty (fits77E s) (alone p (at77E settles) (choice f77E (λ v. at22A settles)) refl refl) (λ v. refl) (λ empty c q g.
       on-line answer (λ b. Lost b nowhere) (λ b. ok b nowhere) _ (choice f22A (λ v. at119 settles v)) (Word 4) (fits22A s) (alone (c .at) (at22A settles) (choice f22A (λ v. at119 settles v)) refl refl) (λ v. refl) (λ stream d r k.
       let w = k .line .value in
       let z : stream .part .end ≡ stream .part .start + 4 = rw (k .span) (omega (arith, k .line .is .size)) in

@@ -10,19 +10,18 @@ use lib.Dec.{eqb, ltb}
 use lib.ListN.{length}
 use Rattle.chars.specs.Words.{bytes, member}
 use Rattle.chars.specs.declared.Refusal.the-variants.{OtherSubType}
-use Rattle.codes.specs.Codes.{longOf, longAt}
+use Rattle.codes.specs.declared.Code.{Code}
 use Rattle.scan.specs.declared.Cursor.{Cursor}
 use Rattle.scan.proofs.Alike.{Alike, more-alike}
-use Rattle.values.specs.Values.{textOf}
 use Rattle.values.specs.declared.Part.{Part}
-use Rattle.values.proofs.Alike.{text-alike, word-ends}
+use Rattle.values.proofs.Alike.{code-of-alike, word-ends}
 use Rattle.fields.specs.Fields.{absent, broken, onGood, fieldAt}
 use Rattle.fields.specs.declared.Break.{Break}
 use Rattle.fields.specs.declared.Item.{Item}
 use Rattle.fields.specs.declared.Field.{Field}
 use Rattle.fields.specs.declared.Field.the-variants.{Good, Bad}
 use Rattle.fields.specs.declared.Kind.{Kind}
-use Rattle.fields.specs.declared.Kind.the-variants.{Reference, Numeral, Word, Bin, Count}
+use Rattle.fields.specs.declared.Kind.the-variants.{Empty, Reference, Numeral, Word, Bin, Count}
 use Rattle.fields.proofs.Alike.{Reaches, Or, In, Fine, PartIn, field-in, field-near, part-in}
 use Rattle.terms.specs.Terms.{onWhole, termsAt}
 use Rattle.terms.specs.declared.Terms.{Terms}
@@ -127,9 +126,9 @@ second-in s c = by-good (AddressIn (c .at) 56) (fieldAt s (c .at) (bytes ":22A:"
 
 address-in : (s : List ℕ) (at : ℕ) → AddressIn at 84 (addressAt s at)
 unfolding addressAt
-address-in s at = by-good (AddressIn at 84) (fieldAt s at (bytes ":77E:") (Word 0))
-    (λ b q. let g = bad-at s at (bytes ":77E:") (Word 0) (omega arith) (omega arith) b q in (omega (arith, g), omega (arith, g)))
-    (λ i c q. let g = good-at s at (bytes ":77E:") (Word 0) (omega arith) (omega arith) i c q in
+address-in s at = by-good (AddressIn at 84) (fieldAt s at (bytes ":77E:") Empty)
+    (λ b q. let g = bad-at s at (bytes ":77E:") Empty (omega arith) tt b q in (omega (arith, g), omega (arith, g)))
+    (λ i c q. let g = good-at s at (bytes ":77E:") Empty (omega arith) tt i c q in
     widen-in at 84 (c .at) 56 (second s c) (g .0) (omega (arith, g .1)) (second-in s c))
 
 address-reach : (at w : ℕ) (x : Addressed) → AddressIn at w x → Reaches at w (addressStop x)
@@ -138,8 +137,8 @@ address-reach at w (Lost b a) i = i
 
 module _ {n : ℕ} {s t : List ℕ} (a : Alike n s t) where
   named-alike : (p : Part) → p .end ≤ n → namedAt s p ≡ namedAt t p
-  unfolding namedAt longAt textOf
-  named-alike p h = ap (λ (l : List ℕ). record { part = p; code = longOf l }) (text-alike a p h)
+  unfolding namedAt
+  named-alike p h = ap (λ (c : Code). record { part = p; code = c }) (code-of-alike a p h)
 
   to-alike : (stream bin : Item) (e : Cursor) → e .at ≡ bin .part .end + 2 → Or n (To (address Both stream (namedAt s (bin .part))) e) (To (address Both stream (namedAt t (bin .part))) e) (e .at)
   to-alike stream bin e h = go (ltb n (bin .part .end)) refl
@@ -162,8 +161,8 @@ module _ {n : ℕ} {s t : List ℕ} (a : Alike n s t) where
 
   address-alike : (at : ℕ) → Or n (addressAt s at) (addressAt t at) (addressStop (addressAt s at))
   unfolding addressAt
-  address-alike at = alike-good addressStop n at (fieldAt s at (bytes ":77E:") (Word 0)) (fieldAt t at (bytes ":77E:") (Word 0)) _ _ _
-      (field-near a at (bytes ":77E:") (Word 0) (omega arith) (omega arith))
+  address-alike at = alike-good addressStop n at (fieldAt s at (bytes ":77E:") Empty) (fieldAt t at (bytes ":77E:") Empty) _ _ _
+      (field-near a at (bytes ":77E:") Empty (omega arith) tt)
       (address-reach at 84 (addressAt s at) (address-in s at) .0)
       (λ i c q. second-alike c)
 

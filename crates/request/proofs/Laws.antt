@@ -5,59 +5,75 @@ use mathlib.Core.List.{List, [], _∷_}
 use mathlib.Core.Bool.{true, false}
 use native.Mathlib.Omega.{arith}
 use borrow.Author.Tests.{eq-eqb, ne-eqb, lt-ltb, le-ltb}
-use lib.ListN.{length}
+use lib.ListN.{length, replicate}
 use Rattle.chars.specs.Words.{bytes, member}
 use Rattle.chars.specs.declared.Refusal.the-variants.{OtherSubType}
-use Rattle.codes.specs.Codes.{longAt}
 use Rattle.codes.specs.declared.Code.{Code}
 use Rattle.scan.specs.declared.Cursor.{Cursor}
+use Rattle.values.specs.Values.{noPart, codeOf}
 use Rattle.values.specs.declared.Part.{Part}
-use Rattle.fields.specs.Fields.{absent, broken, fieldAt, whyNot}
+use Rattle.fields.specs.Fields.{absent, broken, nothing, fieldAt, whyNot}
 use Rattle.fields.specs.declared.Break.{Break}
 use Rattle.fields.specs.declared.Item.{Item}
 use Rattle.fields.specs.declared.Field.{Field}
 use Rattle.fields.specs.declared.Field.the-variants.{Good, Bad}
-use Rattle.fields.specs.declared.Kind.the-variants.{Reference, Numeral, Word, Bin, Count}
-use Rattle.terms.specs.Terms.{termsAt, unstated}
+use Rattle.fields.specs.declared.Kind.the-variants.{Empty, Reference, Numeral, Word, Bin, Count}
+use Rattle.terms.specs.Terms.{noTerms, termsAt, unstated}
 use Rattle.terms.specs.declared.Terms.{Terms}
 use Rattle.terms.specs.declared.Stated.{Stated}
 use Rattle.terms.specs.declared.Stated.the-variants.{Whole, Partial}
-use Rattle.payments.specs.Payments.{nothing, paymentsAt}
+use Rattle.payments.specs.Payments.{none, noPayment, paymentsAt}
+use Rattle.payments.specs.declared.Payment.{Payment}
 use Rattle.payments.specs.declared.Payments.{Payments}
 use Rattle.payments.specs.declared.Ending.the-variants.{Done, Cut}
-use Rattle.request.specs.Request.{namedAt, address, nowhere, toStream, head, bare, refusal, unread, settlement, addressAt, cutBy, settlementAt, recallAt, messageAt, requestAt}
+use Rattle.request.specs.Request.{noName, namedAt, address, nowhere, toStream, head, bare, refusal, unread, settlement, addressAt, cutBy, settlementAt, recallAt, messageAt, requestAt}
 use Rattle.request.specs.declared.Named.{Named}
-use Rattle.request.specs.declared.Reached.the-variants.{Bin as Both}
+use Rattle.request.specs.declared.Reached.the-variants.{Nothing, Stream, Bin as Both}
 use Rattle.request.specs.declared.Address.{Address}
 use Rattle.request.specs.declared.Addressed.{Addressed}
 use Rattle.request.specs.declared.Addressed.the-variants.{To, Lost}
 use Rattle.request.specs.declared.Head.{Head}
-use Rattle.request.specs.declared.Outcome.the-variants.{Recall}
+use Rattle.request.specs.declared.Outcome.{Outcome}
+use Rattle.request.specs.declared.Outcome.the-variants.{Recall, Refused}
 use Rattle.request.specs.declared.Reading.{Reading}
 
 module _ (s : List ℕ) (p : Part) where
-  pub named-1 : {c : Code} → c ≡ longAt s (p .start) (p .end - p .start) → record { part = p; code = c } ≡ namedAt s p
+  pub named-is : {c : Code} → c ≡ codeOf s p → record { part = p; code = c } ≡ namedAt s p
   unfolding namedAt
-  named-1 e = simp e
+  named-is e = simp e
 
-  pub named-2 : {c : Code} → p .end < p .start → c ≡ longAt s (p .start) 0 → record { part = p; code = c } ≡ namedAt s p
-  unfolding namedAt
-  named-2 h e = let z : p .end - p .start ≡ 0 = omega arith in simp (z, e)
+-- what a text does not have
+pub no-name : {p : Part} → p ≡ noPart → record { part = p; code = record { high = 0; low = 0 } } ≡ noName
+no-name e = simp e
+
+pub nowhere-is : {i : Item} {n : Named} → i ≡ nothing → n ≡ noName → address Nothing i n ≡ nowhere
+nowhere-is i n = simp (i, n)
+
+pub stream-is : (i : Item) {n : Named} → n ≡ noName → address Stream i n ≡ toStream i
+stream-is i n = simp n
+
+module _ (o : Outcome) (h : Head) where
+  pub bare-is : {t : Terms} {p : Payment} {i : Item} → t ≡ noTerms → p ≡ noPayment → i ≡ nothing → record { outcome = o; head = h; terms = t; payments = replicate 10 p; n = 0; count = i } ≡ bare o h
+  bare-is t p i = simp (t, p, i)
+
+module _ (t : Item) (b : Break) (a : Address) where
+  pub refused-is : {n : Named} {r : Reading} → n ≡ noName → r ≡ bare (Refused b) (head n t a) → r ≡ refusal t b a
+  refused-is n r = r ∙ simp n
 
 module _ (s : List ℕ) (at : ℕ) where
-  pub address-1 : {f : Field} {b w : Break} {a : Address} → f ≡ fieldAt s at (bytes ":77E:") (Word 0) → f ≡ Bad b → w ≡ whyNot f → a ≡ nowhere → Lost w a ≡ addressAt s at
+  pub address-1 : {f : Field} {b w : Break} {a : Address} → f ≡ fieldAt s at (bytes ":77E:") Empty → f ≡ Bad b → w ≡ whyNot f → a ≡ nowhere → Lost w a ≡ addressAt s at
   unfolding addressAt
   address-1 p p′ w a = simp (← p, w, p′, a)
 
-  pub address-2 : {f g : Field} {i : Item} {c : Cursor} {b w : Break} {a : Address} → f ≡ fieldAt s at (bytes ":77E:") (Word 0) → f ≡ Good i c → g ≡ fieldAt s (c .at) (bytes ":22A:") (Word 4) → g ≡ Bad b → w ≡ whyNot g → a ≡ nowhere → Lost w a ≡ addressAt s at
+  pub address-2 : {f g : Field} {i : Item} {c : Cursor} {b w : Break} {a : Address} → f ≡ fieldAt s at (bytes ":77E:") Empty → f ≡ Good i c → g ≡ fieldAt s (c .at) (bytes ":22A:") (Word 4) → g ≡ Bad b → w ≡ whyNot g → a ≡ nowhere → Lost w a ≡ addressAt s at
   unfolding addressAt
   address-2 p p′ q q′ w a = simp (← p, p′, ← q, w, q′, a)
 
-  pub address-3 : {f g h : Field} {i j : Item} {c d : Cursor} {b w : Break} {a : Address} → f ≡ fieldAt s at (bytes ":77E:") (Word 0) → f ≡ Good i c → g ≡ fieldAt s (c .at) (bytes ":22A:") (Word 4) → g ≡ Good j d → h ≡ fieldAt s (d .at) (bytes ":119:") (Bin (j .part)) → h ≡ Bad b → w ≡ whyNot h → a ≡ toStream j → Lost w a ≡ addressAt s at
+  pub address-3 : {f g h : Field} {i j : Item} {c d : Cursor} {b w : Break} {a : Address} → f ≡ fieldAt s at (bytes ":77E:") Empty → f ≡ Good i c → g ≡ fieldAt s (c .at) (bytes ":22A:") (Word 4) → g ≡ Good j d → h ≡ fieldAt s (d .at) (bytes ":119:") (Bin (j .part)) → h ≡ Bad b → w ≡ whyNot h → a ≡ toStream j → Lost w a ≡ addressAt s at
   unfolding addressAt
   address-3 p p′ q q′ r r′ w a = simp (← p, p′, ← q, q′, ← r, w, r′, a)
 
-  pub address-4 : {f g h : Field} {i j k : Item} {c d e : Cursor} {n : Named} → f ≡ fieldAt s at (bytes ":77E:") (Word 0) → f ≡ Good i c → g ≡ fieldAt s (c .at) (bytes ":22A:") (Word 4) → g ≡ Good j d → h ≡ fieldAt s (d .at) (bytes ":119:") (Bin (j .part)) → h ≡ Good k e → n ≡ namedAt s (k .part) → To (address Both j n) e ≡ addressAt s at
+  pub address-4 : {f g h : Field} {i j k : Item} {c d e : Cursor} {n : Named} → f ≡ fieldAt s at (bytes ":77E:") Empty → f ≡ Good i c → g ≡ fieldAt s (c .at) (bytes ":22A:") (Word 4) → g ≡ Good j d → h ≡ fieldAt s (d .at) (bytes ":119:") (Bin (j .part)) → h ≡ Good k e → n ≡ namedAt s (k .part) → To (address Both j n) e ≡ addressAt s at
   unfolding addressAt
   address-4 p p′ q q′ r r′ n = simp (← p, p′, ← q, q′, ← r, r′, n)
 
@@ -103,8 +119,8 @@ module _ (s : List ℕ) (at : ℕ) where
     unfolding messageAt
     message-3 p p′ h o = o ∙ simp (← p, p′, ne-eqb _ _ h)
 
-pub unread-1 : {b : Break} {a : Address} {o : Reading} → a ≡ nowhere → o ≡ refusal nothing b a → o ≡ unread b
-unread-1 a o = o ∙ simp a
+pub unread-is : (b : Break) {i : Item} {a : Address} {o : Reading} → i ≡ nothing → a ≡ nowhere → o ≡ refusal i b a → o ≡ unread b
+unread-is b i a o = o ∙ simp (i, a)
 
 module _ (s : List ℕ) where
   pub request-1 : {f : Field} {z : Cursor} {b w : Break} {o : Reading} → z .at ≡ 0 → f ≡ fieldAt s (z .at) (bytes ":20:") Reference → f ≡ Bad b → w ≡ whyNot f → o ≡ unread w → o ≡ requestAt s

@@ -1,22 +1,21 @@
 -- "The text has every field once, in this order, and nothing else".
-use Prim.Native.Nat.{ℕ, _-_}
+use Prim.Native.Nat.{ℕ}
 use mathlib.Core.List.{List, [], _∷_}
 use mathlib.Core.Bool.{cond}
 use lib.ListN.{length}
 use lib.Dec.{eqb, ltb}
 use Rattle.chars.specs.Words.{bytes, member}
 use Rattle.chars.specs.declared.Refusal.the-variants.{OtherSubType}
-use Rattle.codes.specs.Codes.{longAt}
 use Rattle.scan.specs.declared.Cursor.{Cursor}
+use Rattle.values.specs.Values.{noPart, codeOf}
 use Rattle.values.specs.declared.Part.{Part}
-use Rattle.fields.specs.Fields.{absent, broken, onGood, fieldAt}
+use Rattle.fields.specs.Fields.{absent, broken, nothing, onGood, fieldAt}
 use Rattle.fields.specs.declared.Break.{Break}
 use Rattle.fields.specs.declared.Item.{Item}
-use Rattle.fields.specs.declared.Kind.the-variants.{Reference, Numeral, Word, Bin, Count}
-use Rattle.terms.specs.Terms.{noPart, onWhole, termsAt}
+use Rattle.fields.specs.declared.Kind.the-variants.{Empty, Reference, Numeral, Word, Bin, Count}
+use Rattle.terms.specs.Terms.{noTerms, onWhole, termsAt}
 use Rattle.terms.specs.declared.Terms.{Terms}
-use Rattle.terms.specs.declared.Activation.the-variants.{AtOnce}
-use Rattle.payments.specs.Payments.{nothing, none, paymentsAt}
+use Rattle.payments.specs.Payments.{none, paymentsAt}
 use Rattle.payments.specs.declared.Payments.{Payments}
 use Rattle.payments.specs.declared.Ending.{Ending}
 use Rattle.payments.specs.declared.Ending.the-variants.{Done, Cut}
@@ -33,7 +32,7 @@ use Rattle.request.specs.declared.Reading.{Reading}
 
 -- a reference or a BIN and its code
 unfoldable pub namedAt : List ℕ → Part → Named
-namedAt s p = record { part = p; code = longAt s (p .start) (p .end - p .start) }
+namedAt s p = record { part = p; code = codeOf s p }
 
 abbrev pub noName : Named
 noName = record { part = noPart; code = record { high = 0; low = 0 } }
@@ -49,9 +48,6 @@ toStream stream = address Stream stream noName
 
 abbrev pub head : Named → Item → Address → Head
 head reference t a = record { reference = reference; subtype = t; address = a }
-
-abbrev pub noTerms : Terms
-noTerms = record { numbers = noPart; number = 0; count = 0; date = nothing; activation = AtOnce; activated = noPart }
 
 abbrev pub bare : Outcome → Head → Reading
 bare o h = record { outcome = o; head = h; terms = noTerms; payments = none; n = 0; count = nothing }
@@ -70,7 +66,7 @@ settlement h t p count = record { outcome = Settlement; head = h; terms = t; pay
 -- 77E, 22A and 119
 unfoldable pub addressAt : List ℕ → ℕ → Addressed
 addressAt s at =
-    onGood (fieldAt s at (bytes ":77E:") (Word 0)) (λ b. Lost b nowhere) (λ empty c.
+    onGood (fieldAt s at (bytes ":77E:") Empty) (λ b. Lost b nowhere) (λ empty c.
     onGood (fieldAt s (c .at) (bytes ":22A:") (Word 4)) (λ b. Lost b nowhere) (λ stream d.
     onGood (fieldAt s (d .at) (bytes ":119:") (Bin (stream .part))) (λ b. Lost b (toStream stream)) (λ bin e.
     To (address Both stream (namedAt s (bin .part))) e)))

@@ -8,17 +8,28 @@ use fields::Kind;
 use payments::Ending;
 use payments::Payment;
 use scan::Cursor;
-use terms::Activation;
 use terms::Stated;
 use terms::Terms;
 use values::Part;
 ghost use mathlib.Core.Path.{_≡_};
-ghost use Rattle.request.specs.Request.{namedAt, nowhere, toStream, bare, refusal, unread, addressAt, cutBy, settlementAt, recallAt, messageAt, requestAt};
+ghost use Rattle.request.specs.Request.{noName, namedAt, nowhere, toStream, bare, refusal, unread, addressAt, cutBy, settlementAt, recallAt, messageAt, requestAt};
 
 // A reference or a BIN: where it stands, and its code.
 pub struct Named {
     pub part: Part,
     pub code: Code,
+}
+
+impl Named {
+    // Of a field that the text does not have.
+    fn nothing() -> Named
+        ensures { λ r. ⌜ r ≡ noName ⌝ }
+    {
+        Named {
+            part: Part::nowhere(),
+            code: Code { high: 0, low: 0 },
+        }
+    }
 }
 
 // How far the address of a request was read well.
@@ -65,22 +76,13 @@ pub struct Reading {
     pub count: Item,
 }
 
-// The code of a part.
+// The part and its code.
 fn name_at(s: &[u8], part: Part) -> Named
     ensures { λ r. ⌜ r ≡ namedAt (now (s .entry)) part ⌝ }
 {
-    let start = part.start;
-    let end = part.end;
-    if start <= end {
-        Named {
-            part,
-            code: codes::long_code(s, start, end - start),
-        }
-    } else {
-        Named {
-            part,
-            code: codes::long_code(s, start, 0),
-        }
+    Named {
+        part,
+        code: values::code_of(s, part),
     }
 }
 
@@ -88,29 +90,20 @@ impl Address {
     fn nowhere() -> Address
         ensures { λ r. ⌜ r ≡ nowhere ⌝ }
     {
-        let part = Part { start: 0, end: 0 };
         Address {
             reached: Reached::Nothing,
-            stream: Item { part, number: 0 },
-            bin: Named {
-                part,
-                code: Code { high: 0, low: 0 },
-            },
+            stream: Item::nothing(),
+            bin: Named::nothing(),
         }
     }
 
     fn to_stream(stream: Item) -> Address
         ensures { λ r. ⌜ r ≡ toStream stream ⌝ }
     {
-        let part = Part { start: 0, end: 0 };
-        let bin = Named {
-            part,
-            code: Code { high: 0, low: 0 },
-        };
         Address {
             reached: Reached::Stream,
             stream,
-            bin,
+            bin: Named::nothing(),
         }
     }
 }
@@ -120,29 +113,13 @@ impl Reading {
     fn bare(outcome: Outcome, head: Head) -> Reading
         ensures { λ r. ⌜ r ≡ bare outcome head ⌝ }
     {
-        let part = Part { start: 0, end: 0 };
-        let item = Item { part, number: 0 };
-        let payment = Payment {
-            side: item,
-            amount: item,
-            letters: item,
-            bank: item,
-        };
-        let terms = Terms {
-            numbers: part,
-            number: 0,
-            count: 0,
-            date: item,
-            activation: Activation::AtOnce,
-            activated: part,
-        };
         Reading {
             outcome,
             head,
-            terms,
-            payments: [payment; 10],
+            terms: Terms::nothing(),
+            payments: [Payment::nothing(); 10],
             n: 0,
-            count: item,
+            count: Item::nothing(),
         }
     }
 
@@ -150,15 +127,10 @@ impl Reading {
     fn refused(subtype: Item, b: Break, address: Address) -> Reading
         ensures { λ r. ⌜ r ≡ refusal subtype b address ⌝ }
     {
-        let part = Part { start: 0, end: 0 };
-        let reference = Named {
-            part,
-            code: Code { high: 0, low: 0 },
-        };
         Reading::bare(
             Outcome::Refused(b),
             Head {
-                reference,
+                reference: Named::nothing(),
                 subtype,
                 address,
             },
@@ -169,8 +141,7 @@ impl Reading {
     fn unread(b: Break) -> Reading
         ensures { λ r. ⌜ r ≡ unread b ⌝ }
     {
-        let part = Part { start: 0, end: 0 };
-        Reading::refused(Item { part, number: 0 }, b, Address::nowhere())
+        Reading::refused(Item::nothing(), b, Address::nowhere())
     }
 }
 
@@ -178,7 +149,7 @@ impl Reading {
 fn read_address(s: &[u8], c: Cursor) -> Addressed
     ensures { λ r. ⌜ r ≡ addressAt (now (s .entry)) (c .at) ⌝ }
 {
-    let f = fields::read_field(s, c, b":77E:", Kind::Word(0));
+    let f = fields::read_field(s, c, b":77E:", Kind::Empty);
     let Field::Good(_, past) = f else {
         return Addressed::Lost(f.why(), Address::nowhere());
     };
