@@ -112,8 +112,8 @@ extern "C" {
  *   REACHED   of a request, how far its address was read: REACHED_NOTHING, _STREAM or _BIN
  *   ZERO      0
  *
- * Of a request that is refused the four words after them are zero, and the fields STREAM and BIN
- * stand in their places where they were read, else they are zero. No other word is touched.
+ * Of a request that is refused the fields SUB_TYPE, STREAM and BIN stand in their places where they
+ * were read, else they are zero: so is a SUB_TYPE other than 131 and 133. No other word is touched.
  */
 #define PURMAGHELI_BREAK_AT 0
 #define PURMAGHELI_BREAK_MISSING 1

@@ -227,8 +227,7 @@ uint64_t plain_read_request(const uint8_t *bytes, size_t length, uint64_t *row) 
         return 0;
     }
     put_break(row, &t, reached);
-    memset(row + PURMAGHELI_REQUEST_SUB_TYPE, 0, PURMAGHELI_FIELD_WORDS * sizeof *row);
-    memcpy(row + PURMAGHELI_REQUEST_STREAM, fields + PURMAGHELI_REQUEST_STREAM, 2 * PURMAGHELI_FIELD_WORDS * sizeof *row);
+    memcpy(row + PURMAGHELI_REQUEST_SUB_TYPE, fields + PURMAGHELI_REQUEST_SUB_TYPE, 3 * PURMAGHELI_FIELD_WORDS * sizeof *row);
     return t.number;
 }
 

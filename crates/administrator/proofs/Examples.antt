@@ -9,13 +9,13 @@ use Rattle.clock.specs.Clock.{hhmmOf}
 use Rattle.codes.specs.Codes.{packOn, packed, longOf, unpacked, named, shortText, spelled, longText}
 use Rattle.put.specs.Digits.{digitsOf}
 use Rattle.terms.specs.declared.Activation.the-variants.{Minute}
-use Rattle.administrator.specs.Orders.{fixed, widthOn, widthOf, blank, proper, nameText, fourText, numbersText, timeText, amountText, countText, lineText, headText, termsText, paymentOf, noLine, paymentsTo, paymentsText, messageText, orderText}
-use Rattle.administrator.specs.declared.Line.{Line}
+use Rattle.administrator.specs.Orders.{fixed, widthOn, widthOf, blank, proper, nameText, fourText, numbersText, timeText, amountText, countText, lineText, headText, termsText, paymentOf, noPayable, paymentsTo, paymentsText, messageText, orderText}
+use Rattle.administrator.specs.declared.Payable.{Payable}
 use Rattle.administrator.specs.declared.Side.the-variants.{Credit, Debit}
 use Rattle.administrator.specs.declared.Order.{Order}
 
-abbrev lines : List Line
-lines = record { side = Debit (packed 4 (bytes "A P ")); cents = 1205; bank = packed 4 (bytes "AAAA") } ∷ (record { side = Credit; cents = 999999999999; bank = packed 4 (bytes "BBBB") } ∷ replicate 8 noLine)
+abbrev lines : List Payable
+lines = record { side = Debit (packed 4 (bytes "A P ")); cents = 1205; bank = packed 4 (bytes "AAAA") } ∷ (record { side = Credit; cents = 999999999999; bank = packed 4 (bytes "BBBB") } ∷ replicate 8 noPayable)
 
 abbrev pub order : ℕ → ℕ → Order
 order subtype n = record {
@@ -27,7 +27,7 @@ order subtype n = record {
   count = 2;
   date = 270203;
   activation = Minute 630;
-  lines = lines;
+  payments = lines;
   n = n;
 }
 

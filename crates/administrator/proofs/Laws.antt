@@ -19,10 +19,10 @@ use Rattle.put.specs.Digits.{digitsOf}
 use Rattle.put.proofs.Laws.{then, digits-length}
 use Rattle.response.proofs.Laws.{short-length}
 use Rattle.scan.specs.Scan.{ten}
-use Rattle.administrator.specs.Orders.{fixed, widthOn, widthOf, blank, proper, nameText, fourText, numbersText, timeText, amountText, countText, valueText, lineText, headText, activationText, termsText, paymentOf, paymentText, noLine, paymentsTo, paymentsText, messageText, orderText, Puts, Wrote}
+use Rattle.administrator.specs.Orders.{fixed, widthOn, widthOf, blank, proper, nameText, fourText, numbersText, timeText, amountText, countText, valueText, lineText, headText, activationText, termsText, paymentOf, paymentText, noPayable, paymentsTo, paymentsText, messageText, orderText, Puts, Wrote}
 use Rattle.administrator.specs.declared.Given.{Given}
 use Rattle.administrator.specs.declared.Given.the-variants.{Nothing, Name, SubType, Numbers, Date, Four, CreditSide, DebitSide, Amount, Count}
-use Rattle.administrator.specs.declared.Line.{Line}
+use Rattle.administrator.specs.declared.Payable.{Payable}
 use Rattle.administrator.specs.declared.Side.{Side}
 use Rattle.administrator.specs.declared.Side.the-variants.{Credit, Debit}
 use Rattle.administrator.specs.declared.Order.{Order}
@@ -205,19 +205,19 @@ module _ {out o₁ o₂ : List ℕ} {at a e : ℕ} (side : Side) (cents bank : �
   debit-put q f g = rw q (put-then f g)
 
 -- where the loop of payments stands: i of them are written
-pub record Paying (ps : List Line) (n : ℕ) (first : List ℕ) (at : ℕ) (out : List ℕ) (i a : ℕ) : Type 0 where
+pub record Paying (ps : List Payable) (n : ℕ) (first : List ℕ) (at : ℕ) (out : List ℕ) (i a : ℕ) : Type 0 where
   pub inside : i ≤ 10
   pub few : i ≤ n
   pub size : length out ≡ length first
   pub small : a ≤ at + 92 * i
   pub same : Puts first at (paymentsTo i ps) a out
 
-pub paying-start : (ps : List Line) (n : ℕ) (out : List ℕ) (at : ℕ) → Paying ps n out at out 0 at
+pub paying-start : (ps : List Payable) (n : ℕ) (out : List ℕ) (at : ℕ) → Paying ps n out at out 0 at
 unfolding paymentsTo
 paying-start ps n out at = record { inside = omega arith; few = omega arith; size = refl; small = omega arith; same = nothing-put out at }
 
-module _ {ps : List Line} {n : ℕ} {first : List ℕ} {at : ℕ} {out : List ℕ} {i a : ℕ} (g : Paying ps n first at out i a) where
-  pub paying-on : {o : List ℕ} {e : ℕ} → i < 10 → i < n → Puts out a (paymentText (getD ps i noLine)) e o → e ≤ a + 92 → length o ≡ length out → Paying ps n first at o (i + 1) e
+module _ {ps : List Payable} {n : ℕ} {first : List ℕ} {at : ℕ} {out : List ℕ} {i a : ℕ} (g : Paying ps n first at out i a) where
+  pub paying-on : {o : List ℕ} {e : ℕ} → i < 10 → i < n → Puts out a (paymentText (getD ps i noPayable)) e o → e ≤ a + 92 → length o ≡ length out → Paying ps n first at o (i + 1) e
   unfolding paymentsTo
   paying-on h k f s l = record {
     inside = omega arith;
@@ -240,7 +240,7 @@ module _ {ps : List Line} {n : ℕ} {first : List ℕ} {at : ℕ} {out : List �
       (rw (le-ltb n 10 (omega (arith, g .few)), ← z) (g .same), omega (arith, g .small, g .inside))
 
 module _ (o : Order) where
-  pub message-put : {out o₁ o₂ o₃ : List ℕ} {at a b e : ℕ} → Puts out at (termsText o) a o₁ → Puts o₁ a (paymentsText (o .n) (o .lines)) b o₂ → Puts o₂ b (lineText (bytes ":203:") (Count (o .n))) e o₃
+  pub message-put : {out o₁ o₂ o₃ : List ℕ} {at a b e : ℕ} → Puts out at (termsText o) a o₁ → Puts o₁ a (paymentsText (o .n) (o .payments)) b o₂ → Puts o₂ b (lineText (bytes ":203:") (Count (o .n))) e o₃
       → Puts out at (messageText o) e o₃
   unfolding messageText
   message-put f g h = put-then (put-then f g) h

@@ -21,12 +21,16 @@ use Rattle.terms.specs.declared.Activation.the-variants.{AtOnce, Minute}
 use Rattle.request.specs.Request.{requestAt}
 use Rattle.request.specs.declared.Outcome.{Outcome}
 use Rattle.request.specs.declared.Outcome.the-variants.{Settlement, Recall, Refused}
-use Rattle.administrator.specs.declared.Line.{Line}
+use Rattle.administrator.specs.declared.Payable.{Payable}
 use Rattle.administrator.specs.declared.Side.{Side}
 use Rattle.administrator.specs.declared.Side.the-variants.{Credit, Debit}
 use Rattle.administrator.specs.declared.Given.{Given}
 use Rattle.administrator.specs.declared.Given.the-variants.{Nothing, Name, SubType, Numbers, Date, Time, Four, CreditSide, DebitSide, Amount, Count}
 use Rattle.administrator.specs.declared.Order.{Order}
+
+-- a request is made in so many bytes: who writes at a place has room there for the most that it writes
+abbrev pub room : ℕ
+room = 2048
 
 -- a value that its field cannot hold is left out, and the reader breaks there
 abbrev pub held : Bool → List ℕ → List ℕ
@@ -122,23 +126,23 @@ paymentOf (Debit letters) cents bank =
     (lineText (bytes ":127:") DebitSide ++ lineText (bytes ":32B:") (Amount cents))
     ++ (lineText (bytes ":113:") (Four letters) ++ lineText (bytes ":102:") (Four bank))
 
-abbrev pub paymentText : Line → List ℕ
+abbrev pub paymentText : Payable → List ℕ
 paymentText p = paymentOf (p .side) (p .cents) (p .bank)
 
-abbrev pub noLine : Line
-noLine = record { side = Credit; cents = 0; bank = 0 }
+abbrev pub noPayable : Payable
+noPayable = record { side = Credit; cents = 0; bank = 0 }
 
 -- the first n payments; the order has ten places
-unfoldable pub paymentsTo : ℕ → List Line → List ℕ
+unfoldable pub paymentsTo : ℕ → List Payable → List ℕ
 paymentsTo zero ps = []
-paymentsTo (suc i) ps = paymentsTo i ps ++ paymentText (getD ps i noLine)
+paymentsTo (suc i) ps = paymentsTo i ps ++ paymentText (getD ps i noPayable)
 
-unfoldable pub paymentsText : ℕ → List Line → List ℕ
+unfoldable pub paymentsText : ℕ → List Payable → List ℕ
 paymentsText n ps = paymentsTo (cond (ltb n 10) n 10) ps
 
 -- what follows 119 of a 131
 unfoldable pub messageText : Order → List ℕ
-messageText o = (termsText o ++ paymentsText (o .n) (o .lines)) ++ lineText (bytes ":203:") (Count (o .n))
+messageText o = (termsText o ++ paymentsText (o .n) (o .payments)) ++ lineText (bytes ":203:") (Count (o .n))
 
 -- "A recall ends after 119."
 unfoldable pub orderText : Order → List ℕ

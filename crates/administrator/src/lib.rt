@@ -14,7 +14,7 @@ ghost use Rattle.chars.specs.Words.{bytes};
 ghost use Rattle.response.specs.Texts.{written, after};
 ghost use Rattle.administrator.specs.declared.Given.the-variants as given;
 ghost use Rattle.codes.specs.Codes.{spelled};
-ghost use Rattle.administrator.specs.Orders.{widthOf, blank, proper, nameText, fixed, numbersText, timeText, fourText, amountText, countText, valueText, lineText, headText, activationText, termsText, paymentText, paymentsText, messageText, orderText, Puts, Wrote};
+ghost use Rattle.administrator.specs.Orders.{room, widthOf, blank, proper, nameText, fixed, numbersText, timeText, fourText, amountText, countText, valueText, lineText, headText, activationText, termsText, paymentText, paymentsText, messageText, orderText, Puts, Wrote};
 
 // The side of a payment. A debit has four letters, a credit has none.
 pub enum Side {
@@ -22,13 +22,14 @@ pub enum Side {
     Debit(u64),
 }
 
-pub struct Line {
+// A payment to write.
+pub struct Payable {
     pub side: Side,
     pub cents: u64,
     pub bank: u64,
 }
 
-// What a request is to say. The date is YYMMDD as a number; the first n lines are the payments.
+// What a request is to say. The date is YYMMDD as a number; the first n places hold the payments.
 pub struct Order {
     pub subtype: u64,
     pub reference: Code,
@@ -38,7 +39,7 @@ pub struct Order {
     pub count: u64,
     pub date: u64,
     pub activation: Activation,
-    pub lines: [Line; 10],
+    pub payments: [Payable; 10],
     pub n: usize,
 }
 
@@ -105,7 +106,7 @@ fn is_proper(c: Code) -> bool
 }
 
 fn put_name(out: &mut [u8], at: usize, c: Code) -> usize
-    requires { ⌜ at ≤ 4096 ⌝ }
+    requires { ⌜ at + 16 ≤ room ⌝ }
     ensures { λ r. ⌜ Puts (now (out .entry)) at (nameText c) r (now (out .exit)) ⌝ }
     ensures small { λ r. ⌜ r ≤ at + 16 ⌝ }
 {
@@ -118,7 +119,7 @@ fn put_name(out: &mut [u8], at: usize, c: Code) -> usize
 
 // A stream, a bank or four letters.
 fn put_four(out: &mut [u8], at: usize, v: u64) -> usize
-    requires { ⌜ at ≤ 4096 ⌝ }
+    requires { ⌜ at + 4 ≤ room ⌝ }
     ensures { λ r. ⌜ Puts (now (out .entry)) at (fourText v) r (now (out .exit)) ⌝ }
     ensures small { λ r. ⌜ r ≤ at + 4 ⌝ }
 {
@@ -144,7 +145,7 @@ fn fits(v: u64, k: usize) -> bool
 
 // Just k digits.
 fn put_number(out: &mut [u8], at: usize, v: u64, k: usize) -> usize
-    requires { ⌜ (at ≤ 4096) × (k ≤ 6) ⌝ }
+    requires { ⌜ (at + k ≤ room) × (k ≤ 6) ⌝ }
     ensures { λ r. ⌜ Puts (now (out .entry)) at (fixed k v) r (now (out .exit)) ⌝ }
     ensures small { λ r. ⌜ r ≤ at + k ⌝ }
 {
@@ -156,7 +157,7 @@ fn put_number(out: &mut [u8], at: usize, v: u64, k: usize) -> usize
 }
 
 fn put_numbers(out: &mut [u8], at: usize, n: u64, m: u64) -> usize
-    requires { ⌜ at ≤ 4090 ⌝ }
+    requires { ⌜ at + 5 ≤ room ⌝ }
     ensures { λ r. ⌜ Puts (now (out .entry)) at (numbersText n m) r (now (out .exit)) ⌝ }
     ensures small { λ r. ⌜ r ≤ at + 5 ⌝ }
 {
@@ -167,7 +168,7 @@ fn put_numbers(out: &mut [u8], at: usize, n: u64, m: u64) -> usize
 
 // HHMM of a minute of the day.
 fn put_time(out: &mut [u8], at: usize, m: u64) -> usize
-    requires { ⌜ at ≤ 4096 ⌝ }
+    requires { ⌜ at + 4 ≤ room ⌝ }
     ensures { λ r. ⌜ Puts (now (out .entry)) at (timeText m) r (now (out .exit)) ⌝ }
     ensures small { λ r. ⌜ r ≤ at + 4 ⌝ }
 {
@@ -180,7 +181,7 @@ fn put_time(out: &mut [u8], at: usize, m: u64) -> usize
 
 // AUD, the units, a comma and two digits.
 fn put_cents(out: &mut [u8], at: usize, c: u64) -> usize
-    requires { ⌜ at ≤ 4096 ⌝ }
+    requires { ⌜ at + 16 ≤ room ⌝ }
     ensures { λ r. ⌜ Puts (now (out .entry)) at (amountText c) r (now (out .exit)) ⌝ }
     ensures small { λ r. ⌜ r ≤ at + 16 ⌝ }
 {
@@ -197,7 +198,7 @@ fn put_cents(out: &mut [u8], at: usize, c: u64) -> usize
 
 // One or two digits.
 fn put_count(out: &mut [u8], at: usize, n: u64) -> usize
-    requires { ⌜ at ≤ 4096 ⌝ }
+    requires { ⌜ at + 10 ≤ room ⌝ }
     ensures { λ r. ⌜ Puts (now (out .entry)) at (countText n) r (now (out .exit)) ⌝ }
     ensures small { λ r. ⌜ r ≤ at + 10 ⌝ }
 {
@@ -210,7 +211,7 @@ fn put_count(out: &mut [u8], at: usize, n: u64) -> usize
 }
 
 fn put_side(out: &mut [u8], at: usize, side: &[u8]) -> usize
-    requires { ⌜ (at ≤ 4096) × (length (now side) ≤ 2) ⌝ }
+    requires { ⌜ (at + 2 ≤ room) × (length (now side) ≤ 2) ⌝ }
     ensures { λ r. ⌜ Puts (now (out .entry)) at (now (side .entry)) r (now (out .exit)) ⌝ }
     ensures small { λ r. ⌜ r ≤ at + 2 ⌝ }
 {
@@ -219,7 +220,7 @@ fn put_side(out: &mut [u8], at: usize, side: &[u8]) -> usize
 }
 
 fn put_value(out: &mut [u8], at: usize, given: Given) -> usize
-    requires { ⌜ at ≤ 4090 ⌝ }
+    requires { ⌜ at + 16 ≤ room ⌝ }
     ensures { λ r. ⌜ Puts (now (out .entry)) at (valueText given) r (now (out .exit)) ⌝ }
     ensures small { λ r. ⌜ r ≤ at + 16 ⌝ }
 {
@@ -239,7 +240,7 @@ fn put_value(out: &mut [u8], at: usize, given: Given) -> usize
 }
 
 fn put_line(out: &mut [u8], at: usize, tag: &[u8], given: Given) -> usize
-    requires { ⌜ (at ≤ 4080) × (length (now tag) ≤ 5) ⌝ }
+    requires { ⌜ (at + 23 ≤ room) × (length (now tag) ≤ 5) ⌝ }
     ensures { λ r. ⌜ Puts (now (out .entry)) at (lineText (now (tag .entry)) given) r (now (out .exit)) ⌝ }
     ensures small { λ r. ⌜ r ≤ at + 23 ⌝ }
 {
@@ -251,7 +252,7 @@ fn put_line(out: &mut [u8], at: usize, tag: &[u8], given: Given) -> usize
 
 // 20 and 12.
 fn put_opening(out: &mut [u8], at: usize, reference: Code, subtype: u64) -> usize
-    requires { ⌜ at ≤ 4000 ⌝ }
+    requires { ⌜ at + 46 ≤ room ⌝ }
     ensures { λ r. ⌜ Puts (now (out .entry)) at (lineText (bytes ":20:") (given.Name reference) ++ lineText (bytes ":12:") (given.SubType subtype)) r (now (out .exit)) ⌝ }
     ensures small { λ r. ⌜ r ≤ at + 46 ⌝ }
 {
@@ -261,7 +262,7 @@ fn put_opening(out: &mut [u8], at: usize, reference: Code, subtype: u64) -> usiz
 
 // 77E, 22A and 119.
 fn put_address(out: &mut [u8], at: usize, stream: u64, bin: Code) -> usize
-    requires { ⌜ at ≤ 4000 ⌝ }
+    requires { ⌜ at + 69 ≤ room ⌝ }
     ensures { λ r. ⌜ Puts (now (out .entry)) at ((lineText (bytes ":77E:") given.Nothing ++ lineText (bytes ":22A:") (given.Four stream)) ++ lineText (bytes ":119:") (given.Name bin)) r (now (out .exit)) ⌝ }
     ensures small { λ r. ⌜ r ≤ at + 69 ⌝ }
 {
@@ -272,7 +273,7 @@ fn put_address(out: &mut [u8], at: usize, stream: u64, bin: Code) -> usize
 
 // 175, whose line may be missing.
 fn put_activation(out: &mut [u8], at: usize, activation: Activation) -> usize
-    requires { ⌜ at ≤ 4000 ⌝ }
+    requires { ⌜ at + 23 ≤ room ⌝ }
     ensures { λ r. ⌜ Puts (now (out .entry)) at (activationText activation) r (now (out .exit)) ⌝ }
     ensures small { λ r. ⌜ r ≤ at + 23 ⌝ }
 {
@@ -284,7 +285,7 @@ fn put_activation(out: &mut [u8], at: usize, activation: Activation) -> usize
 
 // 16A, 171 and 175.
 fn put_terms(out: &mut [u8], at: usize, o: Order) -> usize
-    requires { ⌜ at ≤ 3900 ⌝ }
+    requires { ⌜ at + 69 ≤ room ⌝ }
     ensures { λ r. ⌜ Puts (now (out .entry)) at (termsText o) r (now (out .exit)) ⌝ }
     ensures small { λ r. ⌜ r ≤ at + 69 ⌝ }
 {
@@ -296,7 +297,7 @@ fn put_terms(out: &mut [u8], at: usize, o: Order) -> usize
 
 // 127 and 32B.
 fn put_money(out: &mut [u8], at: usize, side: Given, cents: u64) -> usize
-    requires { ⌜ at ≤ 4000 ⌝ }
+    requires { ⌜ at + 46 ≤ room ⌝ }
     ensures { λ r. ⌜ Puts (now (out .entry)) at (lineText (bytes ":127:") side ++ lineText (bytes ":32B:") (given.Amount cents)) r (now (out .exit)) ⌝ }
     ensures small { λ r. ⌜ r ≤ at + 46 ⌝ }
 {
@@ -306,7 +307,7 @@ fn put_money(out: &mut [u8], at: usize, side: Given, cents: u64) -> usize
 
 // 113 and 102 of a debit.
 fn put_debtor(out: &mut [u8], at: usize, letters: u64, bank: u64) -> usize
-    requires { ⌜ at ≤ 4000 ⌝ }
+    requires { ⌜ at + 46 ≤ room ⌝ }
     ensures { λ r. ⌜ Puts (now (out .entry)) at (lineText (bytes ":113:") (given.Four letters) ++ lineText (bytes ":102:") (given.Four bank)) r (now (out .exit)) ⌝ }
     ensures small { λ r. ⌜ r ≤ at + 46 ⌝ }
 {
@@ -314,8 +315,8 @@ fn put_debtor(out: &mut [u8], at: usize, letters: u64, bank: u64) -> usize
     put_line(out, a, b":102:", Given::Four(bank))
 }
 
-fn put_payment(out: &mut [u8], at: usize, line: Line) -> usize
-    requires { ⌜ at ≤ 3900 ⌝ }
+fn put_payment(out: &mut [u8], at: usize, line: Payable) -> usize
+    requires { ⌜ at + 92 ≤ room ⌝ }
     ensures { λ r. ⌜ Puts (now (out .entry)) at (paymentText line) r (now (out .exit)) ⌝ }
     ensures small { λ r. ⌜ r ≤ at + 92 ⌝ }
 {
@@ -333,8 +334,8 @@ fn put_payment(out: &mut [u8], at: usize, line: Line) -> usize
 }
 
 // The first n payments.
-fn put_payments(out: &mut [u8], at: usize, lines: [Line; 10], n: usize) -> usize
-    requires { ⌜ at ≤ 1000 ⌝ }
+fn put_payments(out: &mut [u8], at: usize, lines: [Payable; 10], n: usize) -> usize
+    requires { ⌜ at + 920 ≤ room ⌝ }
     ensures { λ r. ⌜ Puts (now (out .entry)) at (paymentsText n lines) r (now (out .exit)) ⌝ }
     ensures small { λ r. ⌜ r ≤ at + 920 ⌝ }
 {
@@ -353,13 +354,13 @@ fn put_payments(out: &mut [u8], at: usize, lines: [Line; 10], n: usize) -> usize
 
 // What follows 119 of a 131.
 fn put_message(out: &mut [u8], at: usize, o: Order) -> usize
-    requires { ⌜ at ≤ 500 ⌝ }
+    requires { ⌜ at + 1012 ≤ room ⌝ }
     ensures { λ r. ⌜ Puts (now (out .entry)) at (messageText o) r (now (out .exit)) ⌝ }
     ensures small { λ r. ⌜ r ≤ at + 1012 ⌝ }
 {
     let a = put_terms(out, at, o);
-    let lines = o.lines;
-    let b = put_payments(out, a, lines, o.n);
+    let payments = o.payments;
+    let b = put_payments(out, a, payments, o.n);
     put_line(out, b, b":203:", Given::Count(o.n as u64))
 }
 

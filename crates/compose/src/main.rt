@@ -2,8 +2,8 @@
 // one behind another; of what cannot be composed the line that cannot be read, or the number by which the request would be refused. A dash is standard input.
 use chars::Refusal;
 use composing::Account;
-use composing::Ending;
 use composing::Expected;
+use composing::Extent;
 use composing::several;
 use files::Got;
 use libc::STDERR_FILENO;
@@ -75,8 +75,8 @@ fn compose(s: &[u8], first: usize) {
     let account = composing::read_account(s);
     let ending = account.ending;
     match ending {
-        Ending::Unread(at, expected) => say_unread(s, first, at, expected),
-        Ending::Whole => write_order(account),
+        Extent::Unread(at, expected) => say_unread(s, first, at, expected),
+        Extent::Whole => write_order(account),
     }
 }
 

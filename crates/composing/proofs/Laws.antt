@@ -24,32 +24,32 @@ use Rattle.scan.specs.declared.Fixed.{Fixed}
 use Rattle.scan.specs.declared.Fixed.the-variants.{Value, No as Unfit}
 use Rattle.terms.specs.declared.Activation.{Activation}
 use Rattle.terms.specs.declared.Activation.the-variants.{AtOnce, Minute}
-use Rattle.administrator.specs.declared.Line.{Line}
+use Rattle.administrator.specs.declared.Payable.{Payable}
 use Rattle.administrator.specs.declared.Side.the-variants.{Credit, Debit}
-use Rattle.composing.specs.Account.{lineOver, kindAt, lineAt, numbersAt, nameAt, activationOf, activationAt, isPlain, sumAt, isShown, areShown, fourAt, spaced, unshown, lettersAt, line, creditAt, debitAt, paymentAt, noLines, paid, paymentsOn, paymentsAt, headAt, termsAt, lineFrom, lineAfter, firstLine, asked, headed, unread, bodyAt, messageAt, accountIn, feed, fed, lineOf}
+use Rattle.composing.specs.Account.{lineOver, kindAt, lineAt, numbersAt, nameAt, activationOf, activationAt, isPlain, sumAt, isShown, areShown, fourAt, spaced, unshown, lettersAt, payable, creditAt, debitAt, paymentAt, noPayables, paid, paymentsOn, paymentsAt, headAt, termsAt, lineFrom, lineAfter, firstLine, asked, headed, unread, bodyAt, messageAt, accountIn, feed, fed, lineOf}
 use Rattle.composing.specs.declared.Told.{Told}
 use Rattle.composing.specs.declared.Told.the-variants.{Number, Untold}
-use Rattle.composing.specs.declared.Kind.{Kind}
-use Rattle.composing.specs.declared.Kind.the-variants.{Digits, Four}
+use Rattle.composing.specs.declared.Spelling.{Spelling}
+use Rattle.composing.specs.declared.Spelling.the-variants.{Digits, Four}
 use Rattle.composing.specs.declared.Paired.{Paired}
 use Rattle.composing.specs.declared.Paired.the-variants.{Numbers, Unpaired}
-use Rattle.composing.specs.declared.Named.{Named}
-use Rattle.composing.specs.declared.Named.the-variants.{Name, Unnamed}
+use Rattle.composing.specs.declared.ToldName.{ToldName}
+use Rattle.composing.specs.declared.ToldName.the-variants.{Name, Unnamed}
 use Rattle.composing.specs.declared.Timed.{Timed}
 use Rattle.composing.specs.declared.Timed.the-variants.{From, Untimed}
 use Rattle.composing.specs.declared.Sum.{Sum}
 use Rattle.composing.specs.declared.Sum.the-variants.{Owed, NotOwed}
-use Rattle.composing.specs.declared.Paid.{Paid}
-use Rattle.composing.specs.declared.Paid.the-variants.{One, Unpaid}
+use Rattle.composing.specs.declared.ToldPayment.{ToldPayment}
+use Rattle.composing.specs.declared.ToldPayment.the-variants.{One, Unpaid}
 use Rattle.composing.specs.declared.Expected.{Expected}
 use Rattle.composing.specs.declared.Expected.the-variants as wanted
-use Rattle.composing.specs.declared.Ending.{Ending}
-use Rattle.composing.specs.declared.Ending.the-variants.{Whole, Unread}
-use Rattle.composing.specs.declared.Payments.{Payments}
-use Rattle.composing.specs.declared.Head.{Head}
+use Rattle.composing.specs.declared.Extent.{Extent}
+use Rattle.composing.specs.declared.Extent.the-variants.{Whole, Unread}
+use Rattle.composing.specs.declared.ToldPayments.{ToldPayments}
+use Rattle.composing.specs.declared.ToldHead.{ToldHead}
 use Rattle.composing.specs.declared.Heading.{Heading}
 use Rattle.composing.specs.declared.Heading.the-variants.{Headed, Unheaded}
-use Rattle.composing.specs.declared.Terms.{Terms}
+use Rattle.composing.specs.declared.ToldTerms.{ToldTerms}
 use Rattle.composing.specs.declared.Termed.{Termed}
 use Rattle.composing.specs.declared.Termed.the-variants.{Stated, Unstated}
 use Rattle.composing.specs.declared.Account.{Account}
@@ -69,24 +69,24 @@ module _ (s : List ℕ) (at : ℕ) where
   unfolding lineOver
   over-3 h e p = simp (lt-leb _ _ h, ne-eqb _ _ e, ← p)
 
-  pub kind-1 : {k : Kind} {n : ℕ} {f : Fixed} → k ≡ Digits n → f ≡ numberAt s at n → f ≡ Unfit → Untold ≡ kindAt s at k
+  pub kind-1 : {k : Spelling} {n : ℕ} {f : Fixed} → k ≡ Digits n → f ≡ numberAt s at n → f ≡ Unfit → Untold ≡ kindAt s at k
   unfolding kindAt
   kind-1 e p p′ = rw e (simp (← p, p′))
 
-  pub kind-2 : {k : Kind} {n v a : ℕ} {f : Fixed} → k ≡ Digits n → f ≡ numberAt s at n → f ≡ Value v a → Number v a ≡ kindAt s at k
+  pub kind-2 : {k : Spelling} {n v a : ℕ} {f : Fixed} → k ≡ Digits n → f ≡ numberAt s at n → f ≡ Value v a → Number v a ≡ kindAt s at k
   unfolding kindAt
   kind-2 e p p′ = rw e (simp (← p, p′))
 
-  pub kind-3 : {k : Kind} {r : At} → k ≡ Four → r ≡ codeAt s at 4 → r ≡ No → Untold ≡ kindAt s at k
+  pub kind-3 : {k : Spelling} {r : At} → k ≡ Four → r ≡ codeAt s at 4 → r ≡ No → Untold ≡ kindAt s at k
   unfolding kindAt
   kind-3 e p p′ = rw e (simp (← p, p′))
 
-  pub kind-4 : {k : Kind} {r : At} {a v : ℕ} → k ≡ Four → r ≡ codeAt s at 4 → r ≡ Next a → v ≡ shortAt s at → Number v a ≡ kindAt s at k
+  pub kind-4 : {k : Spelling} {r : At} {a v : ℕ} → k ≡ Four → r ≡ codeAt s at 4 → r ≡ Next a → v ≡ shortAt s at → Number v a ≡ kindAt s at k
   unfolding kindAt
   kind-4 e p p′ w = rw e (simp (← p, p′, w))
 
   module _ (name : List ℕ) where
-    module _ (kind : Kind) where
+    module _ (kind : Spelling) where
       pub line-1 : {r : At} → r ≡ litAt s at name → r ≡ No → Untold ≡ lineAt s at name kind
       unfolding lineAt
       line-1 p p′ = simp (← p, p′)
@@ -206,7 +206,7 @@ module _ (s : List ℕ) (at : ℕ) where
   unfolding creditAt
   credit-2 p p′ q q′ = simp (← p, p′, ← q, q′)
 
-  pub credit-3 : {r : Sum} {c b a e : ℕ} {o : At} → r ≡ sumAt s at → r ≡ Owed c b a → o ≡ lineOver s a → o ≡ Next e → One (line Credit c b) e ≡ creditAt s at
+  pub credit-3 : {r : Sum} {c b a e : ℕ} {o : At} → r ≡ sumAt s at → r ≡ Owed c b a → o ≡ lineOver s a → o ≡ Next e → One (payable Credit c b) e ≡ creditAt s at
   unfolding creditAt
   credit-3 p p′ q q′ = simp (← p, p′, ← q, q′)
 
@@ -226,15 +226,15 @@ module _ (s : List ℕ) (at : ℕ) where
   unfolding debitAt
   debit-4 p p′ q q′ t t′ o o′ = simp (← p, p′, ← q, q′, ← t, t′, ← o, o′)
 
-  pub debit-5 : {r : Sum} {c b a d x e f : ℕ} {l o : At} {t : Told} → r ≡ sumAt s at → r ≡ Owed c b a → l ≡ litAt s a (bytes " ") → l ≡ Next d → t ≡ lettersAt s d → t ≡ Number x e → o ≡ lineOver s e → o ≡ Next f → One (line (Debit x) c b) f ≡ debitAt s at
+  pub debit-5 : {r : Sum} {c b a d x e f : ℕ} {l o : At} {t : Told} → r ≡ sumAt s at → r ≡ Owed c b a → l ≡ litAt s a (bytes " ") → l ≡ Next d → t ≡ lettersAt s d → t ≡ Number x e → o ≡ lineOver s e → o ≡ Next f → One (payable (Debit x) c b) f ≡ debitAt s at
   unfolding debitAt
   debit-5 p p′ q q′ t t′ o o′ = simp (← p, p′, ← q, q′, ← t, t′, ← o, o′)
 
-  pub payment-1 : {r : At} {a : ℕ} {o : Paid} → r ≡ litAt s at (bytes "payment CR ") → r ≡ Next a → o ≡ creditAt s a → o ≡ paymentAt s at
+  pub payment-1 : {r : At} {a : ℕ} {o : ToldPayment} → r ≡ litAt s at (bytes "payment CR ") → r ≡ Next a → o ≡ creditAt s a → o ≡ paymentAt s at
   unfolding paymentAt
   payment-1 p p′ q = simp (← p, p′, ← q)
 
-  pub payment-2 : {r l : At} {a : ℕ} {o : Paid} → r ≡ litAt s at (bytes "payment CR ") → r ≡ No → l ≡ litAt s at (bytes "payment DR ") → l ≡ Next a → o ≡ debitAt s a → o ≡ paymentAt s at
+  pub payment-2 : {r l : At} {a : ℕ} {o : ToldPayment} → r ≡ litAt s at (bytes "payment CR ") → r ≡ No → l ≡ litAt s at (bytes "payment DR ") → l ≡ Next a → o ≡ debitAt s a → o ≡ paymentAt s at
   unfolding paymentAt
   payment-2 p p′ q q′ o = simp (← p, p′, ← q, q′, ← o)
 
@@ -248,19 +248,19 @@ module _ (s : List ℕ) (at : ℕ) where
   unfolding headAt
   head-1 p p′ = simp (← p, p′)
 
-  pub head-2 : {t : Told} {v a : ℕ} {n : Named} → t ≡ lineAt s at (bytes "accepted ") (Digits 3) → t ≡ Number v a → n ≡ nameAt s a (bytes "reference ") 16 → n ≡ Unnamed → Unheaded a wanted.Reference ≡ headAt s at
+  pub head-2 : {t : Told} {v a : ℕ} {n : ToldName} → t ≡ lineAt s at (bytes "accepted ") (Digits 3) → t ≡ Number v a → n ≡ nameAt s a (bytes "reference ") 16 → n ≡ Unnamed → Unheaded a wanted.Reference ≡ headAt s at
   unfolding headAt
   head-2 p p′ q q′ = simp (← p, p′, ← q, q′)
 
-  pub head-3 : {t u : Told} {v a b : ℕ} {c : Code} {n : Named} → t ≡ lineAt s at (bytes "accepted ") (Digits 3) → t ≡ Number v a → n ≡ nameAt s a (bytes "reference ") 16 → n ≡ Name c b → u ≡ lineAt s b (bytes "stream ") Four → u ≡ Untold → Unheaded b wanted.Stream ≡ headAt s at
+  pub head-3 : {t u : Told} {v a b : ℕ} {c : Code} {n : ToldName} → t ≡ lineAt s at (bytes "accepted ") (Digits 3) → t ≡ Number v a → n ≡ nameAt s a (bytes "reference ") 16 → n ≡ Name c b → u ≡ lineAt s b (bytes "stream ") Four → u ≡ Untold → Unheaded b wanted.Stream ≡ headAt s at
   unfolding headAt
   head-3 p p′ q q′ u u′ = simp (← p, p′, ← q, q′, ← u, u′)
 
-  pub head-4 : {t u : Told} {v a b w d : ℕ} {c : Code} {n m : Named} → t ≡ lineAt s at (bytes "accepted ") (Digits 3) → t ≡ Number v a → n ≡ nameAt s a (bytes "reference ") 16 → n ≡ Name c b → u ≡ lineAt s b (bytes "stream ") Four → u ≡ Number w d → m ≡ nameAt s d (bytes "bin ") 8 → m ≡ Unnamed → Unheaded d wanted.Bin ≡ headAt s at
+  pub head-4 : {t u : Told} {v a b w d : ℕ} {c : Code} {n m : ToldName} → t ≡ lineAt s at (bytes "accepted ") (Digits 3) → t ≡ Number v a → n ≡ nameAt s a (bytes "reference ") 16 → n ≡ Name c b → u ≡ lineAt s b (bytes "stream ") Four → u ≡ Number w d → m ≡ nameAt s d (bytes "bin ") 8 → m ≡ Unnamed → Unheaded d wanted.Bin ≡ headAt s at
   unfolding headAt
   head-4 p p′ q q′ u u′ m m′ = simp (← p, p′, ← q, q′, ← u, u′, ← m, m′)
 
-  pub head-5 : {t u : Told} {v a b w d e : ℕ} {c k : Code} {n m : Named} → t ≡ lineAt s at (bytes "accepted ") (Digits 3) → t ≡ Number v a → n ≡ nameAt s a (bytes "reference ") 16 → n ≡ Name c b → u ≡ lineAt s b (bytes "stream ") Four → u ≡ Number w d → m ≡ nameAt s d (bytes "bin ") 8 → m ≡ Name k e → Headed (record { subtype = v; reference = c; stream = w; bin = k }) e ≡ headAt s at
+  pub head-5 : {t u : Told} {v a b w d e : ℕ} {c k : Code} {n m : ToldName} → t ≡ lineAt s at (bytes "accepted ") (Digits 3) → t ≡ Number v a → n ≡ nameAt s a (bytes "reference ") 16 → n ≡ Name c b → u ≡ lineAt s b (bytes "stream ") Four → u ≡ Number w d → m ≡ nameAt s d (bytes "bin ") 8 → m ≡ Name k e → Headed (record { subtype = v; reference = c; stream = w; bin = k }) e ≡ headAt s at
   unfolding headAt
   head-5 p p′ q q′ u u′ m m′ = simp (← p, p′, ← q, q′, ← u, u′, ← m, m′)
 
@@ -280,12 +280,12 @@ module _ (s : List ℕ) (at : ℕ) where
   unfolding termsAt
   terms-4 p p′ q q′ x x′ = simp (← p, p′, ← q, q′, ← x, x′)
 
-  module _ (head : Head) where
+  module _ (head : ToldHead) where
     pub message-1 : {t : Termed} {b : ℕ} {x : Expected} {o : Account} → t ≡ termsAt s at → t ≡ Unstated b x → o ≡ headed head (Unread b x) → o ≡ messageAt s at head
     unfolding messageAt
     message-1 p p′ o = simp (← p, p′, ← o)
 
-    pub message-2 : {t : Termed} {b : ℕ} {x : Terms} {ps : Payments} {o : Account} → t ≡ termsAt s at → t ≡ Stated x b → ps ≡ paymentsAt s b → o ≡ asked head x ps → o ≡ messageAt s at head
+    pub message-2 : {t : Termed} {b : ℕ} {x : ToldTerms} {ps : ToldPayments} {o : Account} → t ≡ termsAt s at → t ≡ Stated x b → ps ≡ paymentsAt s b → o ≡ asked head x ps → o ≡ messageAt s at head
     unfolding messageAt
     message-2 p p′ q o = simp (← p, p′, ← q, ← o)
 
@@ -318,7 +318,7 @@ module _ (s : List ℕ) where
   unfolding accountIn
   account-1 f p p′ o = simp (← f, ← p, p′, ← o)
 
-  pub account-2 : {f : ℕ} {h : Heading} {a : ℕ} {x : Head} {o : Account} → f ≡ firstLine s → h ≡ headAt s f → h ≡ Headed x a → o ≡ bodyAt s a x → o ≡ accountIn s
+  pub account-2 : {f : ℕ} {h : Heading} {a : ℕ} {x : ToldHead} {o : Account} → f ≡ firstLine s → h ≡ headAt s f → h ≡ Headed x a → o ≡ bodyAt s a x → o ≡ accountIn s
   unfolding accountIn
   account-2 f p p′ o = simp (← f, ← p, p′, ← o)
 
@@ -384,7 +384,7 @@ module _ (l : List ℕ) where
   unfolding areShown
   shown-last {b = b} {c = c} {d = d} p p′ q q′ r r′ o = simp (← p, not-false b p′, ← q, not-false c q′, ← r, not-false d r′, ← o)
 
-pub headed-is : (h : Head) (e : Ending) {o : Account} → o ≡ asked h (record { number = 0; count = 0; date = 0; activation = AtOnce }) (paid noLines 0 e) → o ≡ headed h e
+pub headed-is : (h : ToldHead) (e : Extent) {o : Account} → o ≡ asked h (record { number = 0; count = 0; date = 0; activation = AtOnce }) (paid noPayables 0 e) → o ≡ headed h e
 unfolding headed
 headed-is h e p = p
 
@@ -445,27 +445,27 @@ module _ {s : List ℕ} {at i n : ℕ} (g : Numbering s at i n) where
 
 -- ---- payments
 
-pub record Going (s : List ℕ) (at : ℕ) (lines : List Line) (n j : ℕ) : Type 0 where
+pub record Going (s : List ℕ) (at : ℕ) (payments : List Payable) (n j : ℕ) : Type 0 where
   pub room : n ≤ 10
-  pub size : length lines ≡ 10
-  pub same : paymentsOn (10 - n) s j n lines ≡ paymentsAt s at
+  pub size : length payments ≡ 10
+  pub same : paymentsOn (10 - n) s j n payments ≡ paymentsAt s at
 
-module _ {s : List ℕ} {at n j : ℕ} {lines : List Line} (g : Going s at lines n j) where
-  full : 10 ≤ n → paymentsOn 0 s j n lines ≡ paymentsAt s at
+module _ {s : List ℕ} {at n j : ℕ} {payments : List Payable} (g : Going s at payments n j) where
+  full : 10 ≤ n → paymentsOn 0 s j n payments ≡ paymentsAt s at
   full h = let z : 10 - n ≡ 0 = omega arith in rw z at (g .same)
 
-  step : n < 10 → paymentsOn (suc (10 - (n + 1))) s j n lines ≡ paymentsAt s at
+  step : n < 10 → paymentsOn (suc (10 - (n + 1))) s j n payments ≡ paymentsAt s at
   step h = let z : 10 - n ≡ suc (10 - (n + 1)) = omega arith in rw z at (g .same)
 
-  pub going-end : n < 10 → length s ≤ j → paid lines n Whole ≡ paymentsAt s at
+  pub going-end : n < 10 → length s ≤ j → paid payments n Whole ≡ paymentsAt s at
   unfolding paymentsOn
   going-end h e = simp (le-leb _ _ e) at (step h)
 
-  pub going-cut : {r : Paid} → n < 10 → j < length s → r ≡ paymentAt s j → r ≡ Unpaid → paid lines n (Unread j wanted.Payment) ≡ paymentsAt s at
+  pub going-cut : {r : ToldPayment} → n < 10 → j < length s → r ≡ paymentAt s j → r ≡ Unpaid → paid payments n (Unread j wanted.Payment) ≡ paymentsAt s at
   unfolding paymentsOn
   going-cut h e p p′ = simp (lt-leb _ _ e, ← p, p′) at (step h)
 
-  pub going-on : {r : Paid} {q : Line} {e : ℕ} → n < 10 → j < length s → r ≡ paymentAt s j → r ≡ One q e → Going s at (set lines n q) (n + 1) e
+  pub going-on : {r : ToldPayment} {q : Payable} {e : ℕ} → n < 10 → j < length s → r ≡ paymentAt s j → r ≡ One q e → Going s at (set payments n q) (n + 1) e
   unfolding paymentsOn
   going-on h l p p′ = record {
     room = omega arith;
@@ -473,14 +473,14 @@ module _ {s : List ℕ} {at n j : ℕ} {lines : List Line} (g : Going s at lines
     same = simp (lt-leb _ _ l, ← p, p′) at (step h);
   }
 
-  pub full-end : 10 ≤ n → length s ≤ j → paid lines n Whole ≡ paymentsAt s at
+  pub full-end : 10 ≤ n → length s ≤ j → paid payments n Whole ≡ paymentsAt s at
   unfolding paymentsOn
   full-end h e = simp (le-leb _ _ e) at (full h)
 
-  pub full-cut : {r : Paid} → 10 ≤ n → j < length s → r ≡ paymentAt s j → r ≡ Unpaid → paid lines n (Unread j wanted.Payment) ≡ paymentsAt s at
+  pub full-cut : {r : ToldPayment} → 10 ≤ n → j < length s → r ≡ paymentAt s j → r ≡ Unpaid → paid payments n (Unread j wanted.Payment) ≡ paymentsAt s at
   unfolding paymentsOn
   full-cut h e p p′ = simp (lt-leb _ _ e, ← p, p′) at (full h)
 
-  pub full-more : {r : Paid} {q : Line} {e : ℕ} → 10 ≤ n → j < length s → r ≡ paymentAt s j → r ≡ One q e → paid lines 11 Whole ≡ paymentsAt s at
+  pub full-more : {r : ToldPayment} {q : Payable} {e : ℕ} → 10 ≤ n → j < length s → r ≡ paymentAt s j → r ≡ One q e → paid payments 11 Whole ≡ paymentsAt s at
   unfolding paymentsOn
   full-more h e p p′ = simp (lt-leb _ _ e, ← p, p′) at (full h)

@@ -18,33 +18,33 @@ use Rattle.scan.specs.declared.Fixed.{Fixed}
 use Rattle.scan.specs.declared.Fixed.the-variants.{Value, No as Unfit}
 use Rattle.terms.specs.declared.Activation.{Activation}
 use Rattle.terms.specs.declared.Activation.the-variants.{AtOnce, Minute}
-use Rattle.administrator.specs.declared.Line.{Line}
+use Rattle.administrator.specs.declared.Payable.{Payable}
 use Rattle.administrator.specs.declared.Side.{Side}
 use Rattle.administrator.specs.declared.Side.the-variants.{Credit, Debit}
-use Rattle.administrator.specs.Orders.{noLine}
+use Rattle.administrator.specs.Orders.{noPayable}
 use Rattle.composing.specs.declared.Told.{Told}
 use Rattle.composing.specs.declared.Told.the-variants.{Number, Untold}
-use Rattle.composing.specs.declared.Kind.{Kind}
-use Rattle.composing.specs.declared.Kind.the-variants.{Digits, Four}
+use Rattle.composing.specs.declared.Spelling.{Spelling}
+use Rattle.composing.specs.declared.Spelling.the-variants.{Digits, Four}
 use Rattle.composing.specs.declared.Paired.{Paired}
 use Rattle.composing.specs.declared.Paired.the-variants.{Numbers, Unpaired}
-use Rattle.composing.specs.declared.Named.{Named}
-use Rattle.composing.specs.declared.Named.the-variants.{Name, Unnamed}
+use Rattle.composing.specs.declared.ToldName.{ToldName}
+use Rattle.composing.specs.declared.ToldName.the-variants.{Name, Unnamed}
 use Rattle.composing.specs.declared.Timed.{Timed}
 use Rattle.composing.specs.declared.Timed.the-variants.{From, Untimed}
 use Rattle.composing.specs.declared.Sum.{Sum}
 use Rattle.composing.specs.declared.Sum.the-variants.{Owed, NotOwed}
-use Rattle.composing.specs.declared.Paid.{Paid}
-use Rattle.composing.specs.declared.Paid.the-variants.{One, Unpaid}
+use Rattle.composing.specs.declared.ToldPayment.{ToldPayment}
+use Rattle.composing.specs.declared.ToldPayment.the-variants.{One, Unpaid}
 use Rattle.composing.specs.declared.Expected.{Expected}
 use Rattle.composing.specs.declared.Expected.the-variants as wanted
-use Rattle.composing.specs.declared.Ending.{Ending}
-use Rattle.composing.specs.declared.Ending.the-variants.{Whole, Unread}
-use Rattle.composing.specs.declared.Payments.{Payments}
-use Rattle.composing.specs.declared.Head.{Head}
+use Rattle.composing.specs.declared.Extent.{Extent}
+use Rattle.composing.specs.declared.Extent.the-variants.{Whole, Unread}
+use Rattle.composing.specs.declared.ToldPayments.{ToldPayments}
+use Rattle.composing.specs.declared.ToldHead.{ToldHead}
 use Rattle.composing.specs.declared.Heading.{Heading}
 use Rattle.composing.specs.declared.Heading.the-variants.{Headed, Unheaded}
-use Rattle.composing.specs.declared.Terms.{Terms}
+use Rattle.composing.specs.declared.ToldTerms.{ToldTerms}
 use Rattle.composing.specs.declared.Termed.{Termed}
 use Rattle.composing.specs.declared.Termed.the-variants.{Stated, Unstated}
 use Rattle.composing.specs.declared.Account.{Account}
@@ -62,7 +62,7 @@ abbrev pub onPair : {A : Type 0} → Paired → A → (ℕ → ℕ → ℕ → A
 onPair (Numbers n m e) d k = k n m e
 onPair Unpaired d k = d
 
-abbrev pub onName : {A : Type 0} → Named → A → (Code → ℕ → A) → A
+abbrev pub onName : {A : Type 0} → ToldName → A → (Code → ℕ → A) → A
 onName (Name c e) d k = k c e
 onName Unnamed d k = d
 
@@ -74,7 +74,7 @@ abbrev pub onSum : {A : Type 0} → Sum → A → (ℕ → ℕ → ℕ → A) �
 onSum (Owed c b e) d k = k c b e
 onSum NotOwed d k = d
 
-abbrev pub onPaid : {A : Type 0} → Paid → A → (Line → ℕ → A) → A
+abbrev pub onPaid : {A : Type 0} → ToldPayment → A → (Payable → ℕ → A) → A
 onPaid (One p e) d k = k p e
 onPaid Unpaid d k = d
 
@@ -84,12 +84,12 @@ onPaid Unpaid d k = d
 unfoldable pub lineOver : List ℕ → ℕ → At
 lineOver s at = cond (leb (length s) at) (Next at) (cond (eqb (getD s at 0) 10) (Next (at + 1)) (litAt s at crlf))
 
-unfoldable pub kindAt : List ℕ → ℕ → Kind → Told
+unfoldable pub kindAt : List ℕ → ℕ → Spelling → Told
 kindAt s at (Digits k) = onValue (numberAt s at k) Untold (λ v e. Number v e)
 kindAt s at Four = onNext (codeAt s at 4) Untold (λ e. Number (shortAt s at) e)
 
 -- a name, a value, the end of the line
-unfoldable pub lineAt : List ℕ → ℕ → List ℕ → Kind → Told
+unfoldable pub lineAt : List ℕ → ℕ → List ℕ → Spelling → Told
 lineAt s at name kind =
     onNext (litAt s at name) Untold (λ a.
     onNumber (kindAt s a kind) Untold (λ v b.
@@ -106,19 +106,19 @@ numbersAt s at =
     Numbers n m d))))
 
 -- "reference R", "bin B": up to so many of A-Z 0-9
-unfoldable pub nameAt : List ℕ → ℕ → List ℕ → ℕ → Named
+unfoldable pub nameAt : List ℕ → ℕ → List ℕ → ℕ → ToldName
 nameAt s at name most =
     onNext (litAt s at name) Unnamed (λ a.
     onNext (lineOver s (codesAt s a most)) Unnamed (λ c.
     Name (longAt s a (codesAt s a most - a)) c))
 
 -- HHMM that is no time is a minute that no text can hold
-abbrev pub begins : Clocked → Activation
-begins (Begins m) = Minute m
-begins Untrue = Minute 1440
+abbrev pub minuteTold : Clocked → Activation
+minuteTold (Begins m) = Minute m
+minuteTold Untrue = Minute 1440
 
 unfoldable pub activationOf : ℕ → Activation
-activationOf hhmm = begins (minuteOf hhmm)
+activationOf hhmm = minuteTold (minuteOf hhmm)
 
 -- "activation 1030 or activation none"
 unfoldable pub activationAt : List ℕ → ℕ → Timed
@@ -164,47 +164,47 @@ lettersAt s at =
     (cond (areShown (fourAt s at)) (Number (shortAt (spaced (fourAt s at)) 0) (at + 4)) Untold)
     Untold
 
-abbrev pub line : Side → ℕ → ℕ → Line
-line side cents bank = record { side = side; cents = cents; bank = bank }
+abbrev pub payable : Side → ℕ → ℕ → Payable
+payable side cents bank = record { side = side; cents = cents; bank = bank }
 
-unfoldable pub creditAt : List ℕ → ℕ → Paid
+unfoldable pub creditAt : List ℕ → ℕ → ToldPayment
 creditAt s at =
     onSum (sumAt s at) Unpaid (λ cents bank a.
     onNext (lineOver s a) Unpaid (λ b.
-    One (line Credit cents bank) b))
+    One (payable Credit cents bank) b))
 
-unfoldable pub debitAt : List ℕ → ℕ → Paid
+unfoldable pub debitAt : List ℕ → ℕ → ToldPayment
 debitAt s at =
     onSum (sumAt s at) Unpaid (λ cents bank a.
     onNext (litAt s a (bytes " ")) Unpaid (λ b.
     onNumber (lettersAt s b) Unpaid (λ letters c.
     onNext (lineOver s c) Unpaid (λ d.
-    One (line (Debit letters) cents bank) d))))
+    One (payable (Debit letters) cents bank) d))))
 
 -- "payment CR CENTS BANK or payment DR CENTS BANK LETTERS"
-unfoldable pub paymentAt : List ℕ → ℕ → Paid
+unfoldable pub paymentAt : List ℕ → ℕ → ToldPayment
 paymentAt s at =
     onNext (litAt s at (bytes "payment CR "))
     (onNext (litAt s at (bytes "payment DR ")) Unpaid (debitAt s))
     (creditAt s)
 
-abbrev pub noLines : List Line
-noLines = replicate 10 noLine
+abbrev pub noPayables : List Payable
+noPayables = replicate 10 noPayable
 
-abbrev pub paid : List Line → ℕ → Ending → Payments
-paid lines n ending = record { lines = lines; n = n; ending = ending }
+abbrev pub paid : List Payable → ℕ → Extent → ToldPayments
+paid payments n ending = record { payments = payments; n = n; ending = ending }
 
 -- with n payments so far and room for as many more as the first number says; an eleventh is counted and not kept
-unfoldable pub paymentsOn : ℕ → List ℕ → ℕ → ℕ → List Line → Payments
-paymentsOn zero s at n lines =
-    cond (leb (length s) at) (paid lines n Whole)
-    (onPaid (paymentAt s at) (paid lines n (Unread at wanted.Payment)) (λ p e. paid lines 11 Whole))
-paymentsOn (suc room) s at n lines =
-    cond (leb (length s) at) (paid lines n Whole)
-    (onPaid (paymentAt s at) (paid lines n (Unread at wanted.Payment)) (λ p e. paymentsOn room s e (n + 1) (set lines n p)))
+unfoldable pub paymentsOn : ℕ → List ℕ → ℕ → ℕ → List Payable → ToldPayments
+paymentsOn zero s at n payments =
+    cond (leb (length s) at) (paid payments n Whole)
+    (onPaid (paymentAt s at) (paid payments n (Unread at wanted.Payment)) (λ p e. paid payments 11 Whole))
+paymentsOn (suc room) s at n payments =
+    cond (leb (length s) at) (paid payments n Whole)
+    (onPaid (paymentAt s at) (paid payments n (Unread at wanted.Payment)) (λ p e. paymentsOn room s e (n + 1) (set payments n p)))
 
-unfoldable pub paymentsAt : List ℕ → ℕ → Payments
-paymentsAt s at = paymentsOn 10 s at 0 noLines
+unfoldable pub paymentsAt : List ℕ → ℕ → ToldPayments
+paymentsAt s at = paymentsOn 10 s at 0 noPayables
 
 -- ---- the account
 
@@ -237,7 +237,7 @@ lineAfter s at = lineFrom at (drop at s)
 unfoldable pub firstLine : List ℕ → ℕ
 firstLine s = onNext (litAt s 0 (bytes "file ")) 0 (lineAfter s)
 
-unfoldable pub asked : Head → Terms → Payments → Account
+unfoldable pub asked : ToldHead → ToldTerms → ToldPayments → Account
 asked h t p = record {
   order = record {
     subtype = h .subtype;
@@ -248,44 +248,44 @@ asked h t p = record {
     count = t .count;
     date = t .date;
     activation = t .activation;
-    lines = p .lines;
+    payments = p .payments;
     n = p .n;
   };
   ending = p .ending;
 }
 
-abbrev pub noTerms : Terms
+abbrev pub noTerms : ToldTerms
 noTerms = record { number = 0; count = 0; date = 0; activation = AtOnce }
 
 abbrev pub noCode : Code
 noCode = record { high = 0; low = 0 }
 
-abbrev pub noHead : Head
+abbrev pub noHead : ToldHead
 noHead = record { subtype = 0; reference = noCode; stream = 0; bin = noCode }
 
 -- the head alone
-unfoldable pub headed : Head → Ending → Account
-headed h ending = asked h noTerms (paid noLines 0 ending)
+unfoldable pub headed : ToldHead → Extent → Account
+headed h ending = asked h noTerms (paid noPayables 0 ending)
 
 unfoldable pub unread : ℕ → Expected → Account
 unread at expected = headed noHead (Unread at expected)
 
-abbrev pub onTerms : {A : Type 0} → Termed → (ℕ → Expected → A) → (Terms → ℕ → A) → A
+abbrev pub onTerms : {A : Type 0} → Termed → (ℕ → Expected → A) → (ToldTerms → ℕ → A) → A
 onTerms (Stated t e) d k = k t e
 onTerms (Unstated at x) d k = d at x
 
 -- what follows the head of a 131
-unfoldable pub messageAt : List ℕ → ℕ → Head → Account
+unfoldable pub messageAt : List ℕ → ℕ → ToldHead → Account
 messageAt s at head =
     onTerms (termsAt s at) (λ here x. headed head (Unread here x)) (λ terms next. asked head terms (paymentsAt s next))
 
 -- a recall ends after its head; what follows another sub type is not read
-unfoldable pub bodyAt : List ℕ → ℕ → Head → Account
+unfoldable pub bodyAt : List ℕ → ℕ → ToldHead → Account
 bodyAt s at head =
     cond (eqb (head .subtype) 131) (messageAt s at head)
     (cond (eqb (head .subtype) 133 && ltb at (length s)) (headed head (Unread at wanted.Nothing)) (headed head Whole))
 
-abbrev pub onHead : {A : Type 0} → Heading → (ℕ → Expected → A) → (Head → ℕ → A) → A
+abbrev pub onHead : {A : Type 0} → Heading → (ℕ → Expected → A) → (ToldHead → ℕ → A) → A
 onHead (Headed h e) d k = k h e
 onHead (Unheaded at x) d k = d at x
 

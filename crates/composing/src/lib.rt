@@ -2,8 +2,8 @@
 // writes.
 pub mod several;
 
-use administrator::Line;
 use administrator::Order;
+use administrator::Payable;
 use administrator::Side;
 use clock::Minute;
 use codes::Code;
@@ -17,7 +17,7 @@ ghost use Rattle.codes.specs.Codes.{shortAt};
 ghost use Rattle.composing.specs.Account.{lineOver, kindAt, lineAt, numbersAt, nameAt, activationOf, activationAt, isPlain, sumAt, isShown, areShown, unshown, spaced, lettersAt, creditAt, debitAt, paymentAt, paymentsAt, headAt, termsAt, lineAfter, firstLine, asked, headed, unread, bodyAt, messageAt, accountIn, feed, lineOf};
 
 // How a value is spelled.
-pub enum Kind {
+pub enum Spelling {
     // Just so many digits.
     Digits(usize),
     // Four of A-Z 0-9.
@@ -37,7 +37,7 @@ pub enum Paired {
 }
 
 // A name, and the place past its line.
-pub enum Named {
+pub enum ToldName {
     Name(Code, usize),
     Unnamed,
 }
@@ -55,8 +55,8 @@ pub enum Sum {
 }
 
 // A payment, and the place past its line.
-pub enum Paid {
-    One(Line, usize),
+pub enum ToldPayment {
+    One(Payable, usize),
     Unpaid,
 }
 
@@ -74,12 +74,12 @@ pub enum Expected {
 }
 
 // The account is read to its end, or to the line at a place that does not say what was expected.
-pub enum Ending {
+pub enum Extent {
     Whole,
     Unread(usize, Expected),
 }
 
-pub struct Head {
+pub struct ToldHead {
     pub subtype: u64,
     pub reference: Code,
     pub stream: u64,
@@ -87,11 +87,11 @@ pub struct Head {
 }
 
 pub enum Heading {
-    Headed(Head, usize),
+    Headed(ToldHead, usize),
     Unheaded(usize, Expected),
 }
 
-pub struct Terms {
+pub struct ToldTerms {
     pub number: u64,
     pub count: u64,
     pub date: u64,
@@ -99,21 +99,21 @@ pub struct Terms {
 }
 
 pub enum Termed {
-    Stated(Terms, usize),
+    Stated(ToldTerms, usize),
     Unstated(usize, Expected),
 }
 
 // The first n lines are payments, where no more than ten are told.
-pub struct Payments {
-    pub lines: [Line; 10],
+pub struct ToldPayments {
+    pub payments: [Payable; 10],
     pub n: usize,
-    pub ending: Ending,
+    pub ending: Extent,
 }
 
 // The order is as far as the account was read.
 pub struct Account {
     pub order: Order,
-    pub ending: Ending,
+    pub ending: Extent,
 }
 
 // A line ends with a line feed, a CR before it or not, or with the account.
@@ -129,17 +129,17 @@ fn line_over(s: &[u8], at: usize) -> At
     scan::lit(s, at, b"\r\n")
 }
 
-fn read_kind(s: &[u8], at: usize, kind: Kind) -> Told
+fn read_kind(s: &[u8], at: usize, kind: Spelling) -> Told
     ensures { λ r. ⌜ r ≡ kindAt (now (s .entry)) at kind ⌝ }
 {
     match kind {
-        Kind::Digits(k) => {
+        Spelling::Digits(k) => {
             let Fixed::Value(v, e) = scan::number(s, at, k) else {
                 return Told::Untold;
             };
             Told::Number(v, e)
         }
-        Kind::Four => {
+        Spelling::Four => {
             let At::Next(e) = scan::code(s, at, 4) else {
                 return Told::Untold;
             };
@@ -149,7 +149,7 @@ fn read_kind(s: &[u8], at: usize, kind: Kind) -> Told
 }
 
 // A line: its name, its value and its end.
-fn read_line(s: &[u8], at: usize, name: &[u8], kind: Kind) -> Told
+fn read_line(s: &[u8], at: usize, name: &[u8], kind: Spelling) -> Told
     ensures { λ r. ⌜ r ≡ lineAt (now (s .entry)) at (now (name .entry)) kind ⌝ }
 {
     let At::Next(a) = scan::lit(s, at, name) else {
@@ -177,24 +177,24 @@ fn read_numbers(s: &[u8], at: usize) -> Paired
     let At::Next(c) = scan::lit(s, b, b"/") else {
         return Paired::Unpaired;
     };
-    let Told::Number(m, d) = read_line(s, c, b"", Kind::Digits(2)) else {
+    let Told::Number(m, d) = read_line(s, c, b"", Spelling::Digits(2)) else {
         return Paired::Unpaired;
     };
     Paired::Numbers(n, m, d)
 }
 
 // A line of a name of A-Z 0-9.
-fn read_name(s: &[u8], at: usize, name: &[u8], most: usize) -> Named
+fn read_name(s: &[u8], at: usize, name: &[u8], most: usize) -> ToldName
     ensures { λ r. ⌜ r ≡ nameAt (now (s .entry)) at (now (name .entry)) most ⌝ }
 {
     let At::Next(a) = scan::lit(s, at, name) else {
-        return Named::Unnamed;
+        return ToldName::Unnamed;
     };
     let b = scan::codes(s, a, most);
     let At::Next(c) = line_over(s, b) else {
-        return Named::Unnamed;
+        return ToldName::Unnamed;
     };
-    Named::Name(codes::long_code(s, a, b - a), c)
+    ToldName::Name(codes::long_code(s, a, b - a), c)
 }
 
 // Of HHMM that is no time, a minute that no text can hold.
@@ -216,7 +216,7 @@ fn read_activation(s: &[u8], at: usize) -> Timed
         };
         return Timed::From(Activation::AtOnce, b);
     }
-    let Told::Number(v, c) = read_line(s, at, b"activation ", Kind::Digits(4)) else {
+    let Told::Number(v, c) = read_line(s, at, b"activation ", Spelling::Digits(4)) else {
         return Timed::Untimed;
     };
     Timed::From(activation_of(v), c)
@@ -315,17 +315,17 @@ fn read_letters(s: &[u8], at: usize) -> Told
     Told::Number(spaced(b), at + 4)
 }
 
-fn read_credit(s: &[u8], at: usize) -> Paid
+fn read_credit(s: &[u8], at: usize) -> ToldPayment
     ensures { λ r. ⌜ r ≡ creditAt (now (s .entry)) at ⌝ }
 {
     let Sum::Owed(cents, bank, a) = read_sum(s, at) else {
-        return Paid::Unpaid;
+        return ToldPayment::Unpaid;
     };
     let At::Next(b) = line_over(s, a) else {
-        return Paid::Unpaid;
+        return ToldPayment::Unpaid;
     };
-    Paid::One(
-        Line {
+    ToldPayment::One(
+        Payable {
             side: Side::Credit,
             cents,
             bank,
@@ -334,23 +334,23 @@ fn read_credit(s: &[u8], at: usize) -> Paid
     )
 }
 
-fn read_debit(s: &[u8], at: usize) -> Paid
+fn read_debit(s: &[u8], at: usize) -> ToldPayment
     ensures { λ r. ⌜ r ≡ debitAt (now (s .entry)) at ⌝ }
 {
     let Sum::Owed(cents, bank, a) = read_sum(s, at) else {
-        return Paid::Unpaid;
+        return ToldPayment::Unpaid;
     };
     let At::Next(b) = scan::lit(s, a, b" ") else {
-        return Paid::Unpaid;
+        return ToldPayment::Unpaid;
     };
     let Told::Number(letters, c) = read_letters(s, b) else {
-        return Paid::Unpaid;
+        return ToldPayment::Unpaid;
     };
     let At::Next(d) = line_over(s, c) else {
-        return Paid::Unpaid;
+        return ToldPayment::Unpaid;
     };
-    Paid::One(
-        Line {
+    ToldPayment::One(
+        Payable {
             side: Side::Debit(letters),
             cents,
             bank,
@@ -359,7 +359,7 @@ fn read_debit(s: &[u8], at: usize) -> Paid
     )
 }
 
-fn read_payment(s: &[u8], at: usize) -> Paid
+fn read_payment(s: &[u8], at: usize) -> ToldPayment
     ensures { λ r. ⌜ r ≡ paymentAt (now (s .entry)) at ⌝ }
 {
     if let At::Next(a) = scan::lit(s, at, b"payment CR ") {
@@ -368,82 +368,82 @@ fn read_payment(s: &[u8], at: usize) -> Paid
     if let At::Next(a) = scan::lit(s, at, b"payment DR ") {
         return read_debit(s, a);
     }
-    Paid::Unpaid
+    ToldPayment::Unpaid
 }
 
 // An eleventh payment is counted and not kept: no text can hold it.
-fn read_payments(s: &[u8], at: usize) -> Payments
+fn read_payments(s: &[u8], at: usize) -> ToldPayments
     ensures { λ r. ⌜ r ≡ paymentsAt (now (s .entry)) at ⌝ }
 {
-    let none = Line {
+    let none = Payable {
         side: Side::Credit,
         cents: 0,
         bank: 0,
     };
-    let mut lines = [none; 10];
+    let mut payments = [none; 10];
     let mut n = 0;
     let mut here = at;
     while n < 10 {
         if s.len() <= here {
-            return Payments {
-                lines,
+            return ToldPayments {
+                payments,
                 n,
-                ending: Ending::Whole,
+                ending: Extent::Whole,
             };
         }
         match read_payment(s, here) {
-            Paid::Unpaid => {
-                return Payments {
-                    lines,
+            ToldPayment::Unpaid => {
+                return ToldPayments {
+                    payments,
                     n,
-                    ending: Ending::Unread(here, Expected::Payment),
+                    ending: Extent::Unread(here, Expected::Payment),
                 };
             }
-            Paid::One(p, next) => {
-                lines[n] = p;
+            ToldPayment::One(p, next) => {
+                payments[n] = p;
                 n += 1;
                 here = next;
             }
         }
     }
     if s.len() <= here {
-        return Payments {
-            lines,
+        return ToldPayments {
+            payments,
             n,
-            ending: Ending::Whole,
+            ending: Extent::Whole,
         };
     }
-    let Paid::One(_, _) = read_payment(s, here) else {
-        return Payments {
-            lines,
+    let ToldPayment::One(_, _) = read_payment(s, here) else {
+        return ToldPayments {
+            payments,
             n,
-            ending: Ending::Unread(here, Expected::Payment),
+            ending: Extent::Unread(here, Expected::Payment),
         };
     };
-    Payments {
-        lines,
+    ToldPayments {
+        payments,
         n: 11,
-        ending: Ending::Whole,
+        ending: Extent::Whole,
     }
 }
 
 fn read_head(s: &[u8], at: usize) -> Heading
     ensures { λ r. ⌜ r ≡ headAt (now (s .entry)) at ⌝ }
 {
-    let Told::Number(subtype, a) = read_line(s, at, b"accepted ", Kind::Digits(3)) else {
+    let Told::Number(subtype, a) = read_line(s, at, b"accepted ", Spelling::Digits(3)) else {
         return Heading::Unheaded(at, Expected::SubType);
     };
-    let Named::Name(reference, b) = read_name(s, a, b"reference ", 16) else {
+    let ToldName::Name(reference, b) = read_name(s, a, b"reference ", 16) else {
         return Heading::Unheaded(a, Expected::Reference);
     };
-    let Told::Number(stream, c) = read_line(s, b, b"stream ", Kind::Four) else {
+    let Told::Number(stream, c) = read_line(s, b, b"stream ", Spelling::Four) else {
         return Heading::Unheaded(b, Expected::Stream);
     };
-    let Named::Name(bin, d) = read_name(s, c, b"bin ", 8) else {
+    let ToldName::Name(bin, d) = read_name(s, c, b"bin ", 8) else {
         return Heading::Unheaded(c, Expected::Bin);
     };
     Heading::Headed(
-        Head {
+        ToldHead {
             subtype,
             reference,
             stream,
@@ -459,14 +459,14 @@ fn read_terms(s: &[u8], at: usize) -> Termed
     let Paired::Numbers(number, count, a) = read_numbers(s, at) else {
         return Termed::Unstated(at, Expected::Message);
     };
-    let Told::Number(date, b) = read_line(s, a, b"date ", Kind::Digits(6)) else {
+    let Told::Number(date, b) = read_line(s, a, b"date ", Spelling::Digits(6)) else {
         return Termed::Unstated(a, Expected::Date);
     };
     let Timed::From(activation, c) = read_activation(s, b) else {
         return Termed::Unstated(b, Expected::Activation);
     };
     Termed::Stated(
-        Terms {
+        ToldTerms {
             number,
             count,
             date,
@@ -500,13 +500,13 @@ fn first_line(s: &[u8]) -> usize
     line_after(s, a)
 }
 
-fn asked(h: Head, t: Terms, p: Payments) -> Account
+fn asked(h: ToldHead, t: ToldTerms, p: ToldPayments) -> Account
     ensures { λ r. ⌜ r ≡ asked h t p ⌝ }
 {
     let reference = h.reference;
     let bin = h.bin;
     let activation = t.activation;
-    let lines = p.lines;
+    let payments = p.payments;
     let ending = p.ending;
     Account {
         order: Order {
@@ -518,7 +518,7 @@ fn asked(h: Head, t: Terms, p: Payments) -> Account
             count: t.count,
             date: t.date,
             activation,
-            lines,
+            payments,
             n: p.n,
         },
         ending,
@@ -526,15 +526,15 @@ fn asked(h: Head, t: Terms, p: Payments) -> Account
 }
 
 // The head alone.
-fn headed(h: Head, ending: Ending) -> Account
+fn headed(h: ToldHead, ending: Extent) -> Account
     ensures { λ r. ⌜ r ≡ headed h ending ⌝ }
 {
-    let none = Line {
+    let none = Payable {
         side: Side::Credit,
         cents: 0,
         bank: 0,
     };
-    let terms = Terms {
+    let terms = ToldTerms {
         number: 0,
         count: 0,
         date: 0,
@@ -543,8 +543,8 @@ fn headed(h: Head, ending: Ending) -> Account
     asked(
         h,
         terms,
-        Payments {
-            lines: [none; 10],
+        ToldPayments {
+            payments: [none; 10],
             n: 0,
             ending,
         },
@@ -555,39 +555,39 @@ fn unread(at: usize, expected: Expected) -> Account
     ensures { λ r. ⌜ r ≡ unread at expected ⌝ }
 {
     let none = Code { high: 0, low: 0 };
-    let head = Head {
+    let head = ToldHead {
         subtype: 0,
         reference: none,
         stream: 0,
         bin: none,
     };
-    headed(head, Ending::Unread(at, expected))
+    headed(head, Extent::Unread(at, expected))
 }
 
 // What follows the head of a 131.
-fn read_message(s: &[u8], at: usize, head: Head) -> Account
+fn read_message(s: &[u8], at: usize, head: ToldHead) -> Account
     ensures { λ r. ⌜ r ≡ messageAt (now (s .entry)) at head ⌝ }
 {
     match read_terms(s, at) {
-        Termed::Unstated(here, expected) => headed(head, Ending::Unread(here, expected)),
+        Termed::Unstated(here, expected) => headed(head, Extent::Unread(here, expected)),
         Termed::Stated(terms, next) => asked(head, terms, read_payments(s, next)),
     }
 }
 
 // A recall ends after its head; what follows another sub type is not read, since the writer refuses it.
-fn read_body(s: &[u8], at: usize, head: Head) -> Account
+fn read_body(s: &[u8], at: usize, head: ToldHead) -> Account
     ensures { λ r. ⌜ r ≡ bodyAt (now (s .entry)) at head ⌝ }
 {
     if head.subtype == 131 {
         return read_message(s, at, head);
     }
     if head.subtype != 133 {
-        return headed(head, Ending::Whole);
+        return headed(head, Extent::Whole);
     }
     if at < s.len() {
-        return headed(head, Ending::Unread(at, Expected::Nothing));
+        return headed(head, Extent::Unread(at, Expected::Nothing));
     }
-    headed(head, Ending::Whole)
+    headed(head, Extent::Whole)
 }
 
 // The order that an account asks for.

@@ -17,7 +17,8 @@ use Rattle.terms.specs.declared.Activation.{Activation}
 use Rattle.terms.specs.declared.Activation.the-variants.{AtOnce, Minute}
 use Rattle.request.specs.Request.{requestAt}
 use Rattle.request.specs.declared.Reading.{Reading}
-use Rattle.grammar.specs.Values.{noPayment, GivenReference, GivenBin, GivenSide, GivesSettlement, InDay}
+use Rattle.payments.specs.Payments.{noPayment}
+use Rattle.grammar.specs.Values.{GivenReference, GivenBin, GivenSide, GivesSettlement, InDay}
 use Rattle.grammar.proofs.Values.{settlement-gives, recall-gives}
 use Rattle.book.specs.Book.{bookCheck}
 use Rattle.book.specs.Accounts.{Bank, column, streamsIn, banksIn}

@@ -22,10 +22,11 @@ use Rattle.fields.specs.declared.Item.{Item}
 use Rattle.fields.specs.declared.Field.{Field}
 use Rattle.fields.specs.declared.Field.the-variants.{Good, Bad}
 use Rattle.fields.specs.declared.Kind.{Kind}
-use Rattle.fields.specs.declared.Kind.the-variants.{Reference, Numeral, Word, Bin, Numbers, Date, Time, Side, Amount, Letters, Count}
+use Rattle.fields.specs.declared.Kind.the-variants.{Empty, Reference, Numeral, Word, Bin, Numbers, Date, Time, Side, Amount, Letters, Count}
 
 -- a kind of at most 16 characters; the stream of a BIN stands before it
 abbrev pub Fine : ℕ → Kind → Type 0
+Fine at Empty = Unit {0}
 Fine at Reference = Unit {0}
 Fine at (Numeral n) = n ≤ 16
 Fine at (Word n) = n ≤ 16
@@ -39,6 +40,7 @@ Fine at Letters = Unit {0}
 Fine at (Count n) = Unit {0}
 
 fine-on : (at a : ℕ) → at ≤ a → (k : Kind) → Fine at k → Fine a k
+fine-on at a h Empty f = tt
 fine-on at a h Reference f = tt
 fine-on at a h (Numeral n) f = f
 fine-on at a h (Word n) f = f
@@ -56,6 +58,7 @@ widen at w m (Read v e) h i = (i .0, omega (arith, i .1))
 widen at w m (Unread r) h i = tt
 
 value-ends : (s : List ℕ) (at : ℕ) (k : Kind) → Fine at k → EndsIn at 20 (valueAt s at k)
+value-ends s at Empty f = (omega arith, omega arith)
 value-ends s at Reference f = widen at 16 20 (valueAt s at Reference) (omega arith) (reference-ends s at)
 value-ends s at (Numeral n) f = widen at n 20 (valueAt s at (Numeral n)) (omega arith) (numeral-ends s at n)
 value-ends s at (Word n) f = widen at n 20 (valueAt s at (Word n)) (omega arith) (word-ends s at n)
@@ -69,6 +72,7 @@ value-ends s at Letters f = widen at 4 20 (valueAt s at Letters) (omega arith) (
 value-ends s at (Count n) f = widen at 2 20 (valueAt s at (Count n)) (omega arith) (count-ends s at n)
 
 value-alike : {n : ℕ} {s t : List ℕ} → Alike n s t → (at : ℕ) → at + 24 ≤ n → (k : Kind) → Fine at k → valueAt s at k ≡ valueAt t at k
+value-alike a at h Empty f = refl
 value-alike a at h Reference f = reference-alike a at h
 value-alike a at h (Numeral n) f = numeral-alike a at h n f
 value-alike a at h (Word n) f = word-alike a at h n f

@@ -1,7 +1,7 @@
 -- A line as a grammar: a tag, a value of its kind and CR LF; that such a line is read, and that nothing else is.
 use Prim.Native.Nat.{ℕ, _+_, _-_}
 use mathlib.Core.Path.{_≡_, refl, ap, _∙_}
-use mathlib.Core.List.{List, _++_}
+use mathlib.Core.List.{List, [], _++_}
 use native.Mathlib.Omega.{arith}
 use lib.ListN.{length, drop}
 use Rattle.scan.specs.Scan.{onNext, crlf, litAt}
@@ -17,11 +17,12 @@ use Rattle.fields.specs.declared.Break.{Break}
 use Rattle.fields.specs.declared.Item.{Item}
 use Rattle.fields.specs.declared.Field.the-variants.{Good, Bad}
 use Rattle.fields.specs.declared.Kind.{Kind}
-use Rattle.fields.specs.declared.Kind.the-variants.{Reference, Numeral, Word, Bin, Numbers, Date, Time, Side, Amount, Letters, Count}
+use Rattle.fields.specs.declared.Kind.the-variants.{Empty, Reference, Numeral, Word, Bin, Numbers, Date, Time, Side, Amount, Letters, Count}
 use Rattle.fields.proofs.Alike.{Fine}
 use Rattle.fields.specs.Grammar.{Spelt, Line}
 
 value-complete : (s : List ℕ) (at : ℕ) (v r : List ℕ) → drop at s ≡ v ++ (crlf ++ r) → (b : ℕ) (k : Kind) → Fine b k → Spelt s k v → ReadsAs (valueAt s at k) (at + length v)
+value-complete s at v r h b Empty f g = record { number = 0; is = ap (Read 0) (simp g (omega arith)) }
 value-complete s at v r h b Reference f g = reference-complete s at v r h g
 value-complete s at v r h b (Numeral n) f g = numeral-complete s at v r h n (omega arith) g
 value-complete s at v r h b (Word n) f g = word-complete s at v r h n g
@@ -35,6 +36,7 @@ value-complete s at v r h b Letters f g = letters-complete s at v r h g
 value-complete s at v r h b (Count n) f g = count-complete s at v r h n g
 
 value-sound : (s : List ℕ) (at : ℕ) (k : Kind) {x e : ℕ} → valueAt s at k ≡ Read x e → SpeltAs (Spelt s k) s at e
+value-sound s at Empty {x} {e} h = let z : at ≡ e = cc in record { value = []; text = ap (λ (n : ℕ). drop n s) z; ends = omega (arith, z); is = refl }
 value-sound s at Reference h = reference-sound s at h
 value-sound s at (Numeral n) h = numeral-sound s at n h
 value-sound s at (Word n) h = word-sound s at n h

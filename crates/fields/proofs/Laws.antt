@@ -7,15 +7,24 @@ use Rattle.chars.specs.declared.Refusal.the-variants.{Malformed}
 use Rattle.scan.specs.Scan.{litAt, crlf}
 use Rattle.scan.specs.declared.At.{At}
 use Rattle.scan.specs.declared.At.the-variants.{Next, No}
+use Rattle.values.specs.Values.{noPart}
+use Rattle.values.specs.declared.Part.{Part}
 use Rattle.values.specs.declared.Value.{Value}
 use Rattle.values.specs.declared.Value.the-variants.{Read, Unread}
-use Rattle.fields.specs.Fields.{absent, broken, item, place, valueAt, fieldAt}
+use Rattle.fields.specs.Fields.{absent, broken, nothing, item, place, valueAt, fieldAt}
 use Rattle.fields.specs.declared.Break.{Break}
 use Rattle.fields.specs.declared.Field.the-variants.{Good, Bad}
 use Rattle.fields.specs.declared.Kind.{Kind}
+use Rattle.fields.specs.declared.Kind.the-variants.{Empty}
+
+pub nothing-is : {p : Part} → p ≡ noPart → record { part = p; number = 0 } ≡ nothing
+nothing-is e = simp e
 
 pub by-kind : (s : List ℕ) (at : ℕ) {k k′ : Kind} {r : Value} → k ≡ k′ → r ≡ valueAt s at k′ → r ≡ valueAt s at k
 by-kind s at p q = rw p q
+
+pub by-empty : (s : List ℕ) (at : ℕ) {k : Kind} → k ≡ Empty → Read 0 at ≡ valueAt s at k
+by-empty s at p = rw p
 
 module _ (s : List ℕ) (at : ℕ) (tag : List ℕ) (kind : Kind) where
   pub field-1 : {r : At} {b : Break} → r ≡ litAt s at tag → r ≡ No → b ≡ absent at → Bad b ≡ fieldAt s at tag kind

@@ -6,7 +6,7 @@ use Rattle.chars.specs.declared.Refusal.{Refusal}
 use Rattle.chars.specs.declared.Refusal.the-variants.{Malformed}
 use Rattle.scan.specs.Scan.{onNext, litAt, crlf}
 use Rattle.scan.specs.declared.Cursor.{Cursor}
-use Rattle.values.specs.Values.{referenceAt, numeralAt, wordAt, binAt, numbersAt, dateAt, timeAt, sideAt, amountAt, countAt}
+use Rattle.values.specs.Values.{noPart, referenceAt, numeralAt, wordAt, binAt, numbersAt, dateAt, timeAt, sideAt, amountAt, countAt}
 use Rattle.values.specs.Letters.{lettersAt}
 use Rattle.values.specs.declared.Value.{Value}
 use Rattle.values.specs.declared.Value.the-variants.{Read, Unread}
@@ -15,7 +15,7 @@ use Rattle.fields.specs.declared.Item.{Item}
 use Rattle.fields.specs.declared.Field.{Field}
 use Rattle.fields.specs.declared.Field.the-variants.{Good, Bad}
 use Rattle.fields.specs.declared.Kind.{Kind}
-use Rattle.fields.specs.declared.Kind.the-variants.{Reference, Numeral, Word, Bin, Numbers, Date, Time, Side, Amount, Letters, Count}
+use Rattle.fields.specs.declared.Kind.the-variants.{Empty, Reference, Numeral, Word, Bin, Numbers, Date, Time, Side, Amount, Letters, Count}
 
 -- no tag that is expected stands where a line begins
 abbrev pub absent : ℕ → Break
@@ -30,6 +30,10 @@ wrong at = broken at Malformed
 
 abbrev pub item : ℕ → ℕ → ℕ → Item
 item a e v = record { part = record { start = a; end = e }; number = v }
+
+-- of a field that the text does not have
+abbrev pub nothing : Item
+nothing = record { part = noPart; number = 0 }
 
 abbrev pub place : ℕ → Cursor
 place n = record { at = n }
@@ -46,8 +50,9 @@ abbrev pub whyNot : Field → Break
 whyNot (Good i c) = absent 0
 whyNot (Bad b) = b
 
--- what a line's value is
+-- what a line's value is; 77E: "empty"
 abbrev pub valueAt : List ℕ → ℕ → Kind → Value
+valueAt s at Empty = Read 0 at
 valueAt s at Reference = referenceAt s at
 valueAt s at (Numeral n) = numeralAt s at n
 valueAt s at (Word n) = wordAt s at n

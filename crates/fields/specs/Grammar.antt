@@ -4,12 +4,13 @@ use mathlib.Core.Path.{_≡_}
 use mathlib.Core.List.{List, _++_}
 use Rattle.scan.specs.Scan.{crlf}
 use Rattle.values.specs.Values.{textOf}
-use Rattle.values.specs.Grammar.{IsReference, IsNumeral, IsWord, IsBin, IsNumbers, IsDate, IsTime, IsSide, IsAmount, IsLetters, IsCount}
+use Rattle.values.specs.Grammar.{IsEmpty, IsReference, IsNumeral, IsWord, IsBin, IsNumbers, IsDate, IsTime, IsSide, IsAmount, IsLetters, IsCount}
 use Rattle.fields.specs.declared.Kind.{Kind}
-use Rattle.fields.specs.declared.Kind.the-variants.{Reference, Numeral, Word, Bin, Numbers, Date, Time, Side, Amount, Letters, Count}
+use Rattle.fields.specs.declared.Kind.the-variants.{Empty, Reference, Numeral, Word, Bin, Numbers, Date, Time, Side, Amount, Letters, Count}
 
 -- the bytes are a value of the kind; a BIN's stream stands in the text s
 abbrev pub Spelt : List ℕ → Kind → List ℕ → Type 0
+Spelt s Empty v = IsEmpty v
 Spelt s Reference v = IsReference v
 Spelt s (Numeral n) v = IsNumeral n v
 Spelt s (Word n) v = IsWord n v

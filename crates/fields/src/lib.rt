@@ -5,7 +5,7 @@ use scan::Cursor;
 use values::Part;
 use values::Value;
 ghost use mathlib.Core.Path.{_≡_};
-ghost use Rattle.fields.specs.Fields.{absent, wrong, broken, valueAt, fieldAt, whyNot};
+ghost use Rattle.fields.specs.Fields.{absent, wrong, nothing, broken, valueAt, fieldAt, whyNot};
 
 // Why a text is refused: the number, where the line begins that breaks it, and whether a mandatory
 // field is missing there (the text ends, or something else than a tag that is expected stands there).
@@ -45,6 +45,18 @@ pub struct Item {
     pub number: u64,
 }
 
+impl Item {
+    // Of a field that the text does not have.
+    pub fn nothing() -> Item
+        ensures { λ r. ⌜ r ≡ nothing ⌝ }
+    {
+        Item {
+            part: Part::nowhere(),
+            number: 0,
+        }
+    }
+}
+
 // What a step finds: the field and the cursor past its line, or the break.
 pub enum Field {
     Good(Item, Cursor),
@@ -65,6 +77,7 @@ impl Field {
 
 // What a line's value is.
 pub enum Kind {
+    Empty,
     Reference,
     Numeral(usize),
     Word(usize),
@@ -83,6 +96,7 @@ fn read_value(s: &[u8], at: usize, kind: Kind) -> Value
     ensures { λ r. ⌜ r ≡ valueAt (now (s .entry)) at kind ⌝ }
 {
     match kind {
+        Kind::Empty => Value::Read(0, at),
         Kind::Reference => values::read_reference(s, at),
         Kind::Numeral(n) => values::read_numeral(s, at, n),
         Kind::Word(n) => values::read_word(s, at, n),

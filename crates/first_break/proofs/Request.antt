@@ -17,26 +17,26 @@ use Rattle.scan.specs.declared.At.the-variants.{Next, No}
 use Rattle.scan.specs.declared.Cursor.{Cursor}
 use Rattle.scan.proofs.Laws.{lit-yes, lit-not}
 use Rattle.scan.specs.Spelling.{valueOf}
-use Rattle.values.specs.Values.{stands}
+use Rattle.values.specs.Values.{noPart, stands}
 use Rattle.values.specs.Grammar.{IsNumeral}
-use Rattle.fields.specs.Fields.{absent, broken, wrong as wrongAt, place, onGood, fieldAt}
+use Rattle.fields.specs.Fields.{absent, broken, wrong as wrongAt, nothing, place, onGood, fieldAt}
 use Rattle.fields.specs.declared.Break.{Break}
 use Rattle.fields.specs.declared.Item.{Item}
-use Rattle.fields.specs.declared.Kind.the-variants.{Reference, Numeral, Word, Bin, Numbers, Date, Time, Side, Amount, Letters, Count}
-use Rattle.terms.specs.Terms.{noPart, activationAt, onGiven, onWhole, terms, termsAt}
+use Rattle.fields.specs.declared.Kind.the-variants.{Empty, Reference, Numeral, Word, Bin, Numbers, Date, Time, Side, Amount, Letters, Count}
+use Rattle.terms.specs.Terms.{activationAt, onGiven, onWhole, terms, termsAt}
 use Rattle.terms.specs.declared.Terms.{Terms}
 use Rattle.terms.specs.declared.Activation.the-variants.{AtOnce, Minute}
 use Rattle.terms.specs.declared.Activated.{Activated}
 use Rattle.terms.specs.declared.Activated.the-variants.{Given, Ungiven}
 use Rattle.terms.specs.declared.Stated.{Stated}
 use Rattle.terms.specs.declared.Stated.the-variants.{Whole, Partial}
-use Rattle.payments.specs.Payments.{nothing, none as no-payments, payment as paid, bankAt, creditAt, debitAt, paymentAt, moreAt, onPaid, ended, paymentsOn, paymentsAt}
+use Rattle.payments.specs.Payments.{none as no-payments, payment as paid, bankAt, creditAt, debitAt, paymentAt, moreAt, onPaid, ended, paymentsOn, paymentsAt}
 use Rattle.payments.specs.declared.Payment.{Payment}
 use Rattle.payments.specs.declared.Paid.{Paid}
 use Rattle.payments.specs.declared.Paid.the-variants.{One, Unpaid}
 use Rattle.payments.specs.declared.Ending.the-variants.{Done, Cut}
 use Rattle.payments.specs.declared.Payments.{Payments}
-use Rattle.request.specs.Request.{refusal, settlement, bare, head, namedAt, address, nowhere, toStream, addressAt, onTo, onDone, ending, settlementAt, recallAt, messageAt, requestAt}
+use Rattle.request.specs.Request.{refusal, unread, settlement, bare, head, namedAt, address, nowhere, toStream, addressAt, onTo, onDone, ending, settlementAt, recallAt, messageAt, requestAt}
 use Rattle.request.specs.declared.Address.{Address}
 use Rattle.request.specs.declared.Addressed.{Addressed}
 use Rattle.request.specs.declared.Addressed.the-variants.{To, Lost}
@@ -143,7 +143,7 @@ module _ (s : List ℕ) where
   module _ (h : Head) where
     -- what the payments are read for
     abbrev paid-for : Terms → Payments → Option Break
-    paid-for t x = broken-in (onDone (x .ending) (λ b. refusal b (h .address)) (λ d. onGood (fieldAt s (d .at) (bytes ":203:") (Count (x .n))) (λ b. refusal b (h .address)) (λ n e. ending s (e .at) (h .address) (settlement h t x n))))
+    paid-for t x = broken-in (onDone (x .ending) (λ b. refusal (h .subtype) b (h .address)) (λ d. onGood (fieldAt s (d .at) (bytes ":203:") (Count (x .n))) (λ b. refusal (h .subtype) b (h .address)) (λ n e. ending s (e .at) h (settlement h t x n))))
 
     -- 203 stands behind the payments where no further one does
     counted : (k p : ℕ) → (ltb k 10 ≡ true → begins (bytes ":127:") (drop p s) ≡ false) → Ask p (at203 k) (count k)
@@ -155,8 +155,8 @@ module _ (s : List ℕ) where
 
     count-walk : (t : Terms) (k p : ℕ) (items : List Payment) → (ltb k 10 ≡ true → begins (bytes ":127:") (drop p s) ≡ false) → Walk (paid-for t (ended (Done (place p)) k items)) p (at203 k)
     count-walk t k p items f =
-        on-line broken-in (λ b. refusal b (h .address)) (λ b. refl) (λ n e. ending s (e .at) (h .address) (settlement h t (ended (Done (place p)) k items) n)) (count k) (Count k) (fits203 s k) (counted k p f) (λ v. refl) (λ n d q g.
-        end-walk broken-in (refusal (absent (d .at)) (h .address)) (settlement h t (ended (Done (place p)) k items) n) (d .at) refl refl)
+        on-line broken-in (λ b. refusal (h .subtype) b (h .address)) (λ b. refl) (λ n e. ending s (e .at) h (settlement h t (ended (Done (place p)) k items) n)) (count k) (Count k) (fits203 s k) (counted k p f) (λ v. refl) (λ n d q g.
+        end-walk broken-in (refusal (h .subtype) (absent (d .at)) (h .address)) (settlement h t (ended (Done (place p)) k items) n) (d .at) refl refl)
 
     abbrev paid-on : Terms → ℕ → ℕ → List Payment → Paid → Option Break
     paid-on t room k items x = paid-for t (onPaid x (λ b. ended (Cut b) k items) (λ y c. cond (moreAt s (c .at)) (paymentsOn room s (c .at) (k + 1) (set items k y)) (ended (Done (place (c .at))) (k + 1) (set items k y))))
@@ -187,18 +187,18 @@ module _ (s : List ℕ) where
     all-paid-walk t p e ask = payments-walk t 9 0 p no-payments e refl ask
 
     abbrev stated-for : Stated → Option Break
-    stated-for x = broken-in (onWhole x (λ b. refusal b (h .address)) (λ t c. onDone (paymentsAt s (c .at) .ending) (λ b. refusal b (h .address)) (λ d. onGood (fieldAt s (d .at) (bytes ":203:") (Count (paymentsAt s (c .at) .n))) (λ b. refusal b (h .address)) (λ n e. ending s (e .at) (h .address) (settlement h t (paymentsAt s (c .at)) n)))))
+    stated-for x = broken-in (onWhole x (λ b. refusal (h .subtype) b (h .address)) (λ t c. onDone (paymentsAt s (c .at) .ending) (λ b. refusal (h .subtype) b (h .address)) (λ d. onGood (fieldAt s (d .at) (bytes ":203:") (Count (paymentsAt s (c .at) .n))) (λ b. refusal (h .subtype) b (h .address)) (λ n e. ending s (e .at) h (settlement h t (paymentsAt s (c .at)) n)))))
 
     -- "the line may be missing"
-    activation-walk : (i date : Item) (p : ℕ) → Walk (stated-for (onGiven (activationAt s p) Partial (λ m q e. Whole (terms i date m q) e))) p at175
+    activation-walk : (i date : Item) (p : ℕ) → Walk (stated-for (onGiven (activationAt s p) Partial (λ m q e. Whole (terms s i date m q) e))) p at175
     unfolding activationAt
     activation-walk i date p = go (litAt s p (bytes ":175:")) refl
       where
-        go : (r : At) → litAt s p (bytes ":175:") ≡ r → Walk (stated-for (onGiven (onNext r (Given AtOnce noPart (place p)) (λ a. onGood (fieldAt s p (bytes ":175:") Time) Ungiven (λ j c. Given (Minute (j .number)) (j .part) c))) Partial (λ m q e. Whole (terms i date m q) e))) p at175
-        go No l = all-paid-walk (terms i date AtOnce noPart) p at175 (second p at175 (choice f175 (λ v. at127)) (payment 0) refl refl (lit-not s p (bytes ":175:") l))
+        go : (r : At) → litAt s p (bytes ":175:") ≡ r → Walk (stated-for (onGiven (onNext r (Given AtOnce noPart (place p)) (λ a. onGood (fieldAt s p (bytes ":175:") Time) Ungiven (λ j c. Given (Minute (j .number)) (j .part) c))) Partial (λ m q e. Whole (terms s i date m q) e))) p at175
+        go No l = all-paid-walk (terms s i date AtOnce noPart) p at175 (second p at175 (choice f175 (λ v. at127)) (payment 0) refl refl (lit-not s p (bytes ":175:") l))
         go (Next a) l =
-            on-line (λ (x : Activated). stated-for (onGiven x Partial (λ m q e. Whole (terms i date m q) e))) Ungiven (λ b. refl) (λ j c. Given (Minute (j .number)) (j .part) c) (choice f175 (λ v. at127)) Time (fits175 s) (leading p at175 (choice f175 (λ v. at127)) (payment 0) refl refl (lit-yes s p (bytes ":175:") l)) (λ v. refl) (λ j c q g.
-            all-paid-walk (terms i date (Minute (j .number)) (j .part)) (c .at) at127 (alone (c .at) at127 (payment 0) refl refl))
+            on-line (λ (x : Activated). stated-for (onGiven x Partial (λ m q e. Whole (terms s i date m q) e))) Ungiven (λ b. refl) (λ j c. Given (Minute (j .number)) (j .part) c) (choice f175 (λ v. at127)) Time (fits175 s) (leading p at175 (choice f175 (λ v. at127)) (payment 0) refl refl (lit-yes s p (bytes ":175:") l)) (λ v. refl) (λ j c q g.
+            all-paid-walk (terms s i date (Minute (j .number)) (j .part)) (c .at) at127 (alone (c .at) at127 (payment 0) refl refl))
 
     settlement-walk : (p : ℕ) → Walk (broken-in (settlementAt s p h)) p at16A
     unfolding settlementAt termsAt
@@ -210,13 +210,13 @@ module _ (s : List ℕ) where
     -- "A recall ends after 119."
     recall-walk : (p : ℕ) → Walk (broken-in (recallAt s p h)) p at-end
     unfolding recallAt
-    recall-walk p = end-walk broken-in (refusal (absent p) (h .address)) (bare Recall h) p refl refl
+    recall-walk p = end-walk broken-in (refusal (h .subtype) (absent p) (h .address)) (bare Recall h) p refl refl
 
   -- 12 to 119
   address-walk : (settles : Bool) (answer : Addressed → Option Break) → ((b : Break) (a : Address) → answer (Lost b a) ≡ some b) → ((a : Address) (c : Cursor) → Walk (answer (To a c)) (c .at) (cond settles at16A at-end)) → (p : ℕ) → Walk (answer (addressAt s p)) p (at77E settles)
   unfolding addressAt
   address-walk settles answer ok on p =
-      on-line answer (λ b. Lost b nowhere) (λ b. ok b nowhere) _ (choice f77E (λ v. at22A settles)) (Word 0) (fits77E s) (alone p (at77E settles) (choice f77E (λ v. at22A settles)) refl refl) (λ v. refl) (λ empty c q g.
+      on-line answer (λ b. Lost b nowhere) (λ b. ok b nowhere) _ (choice f77E (λ v. at22A settles)) Empty (fits77E s) (alone p (at77E settles) (choice f77E (λ v. at22A settles)) refl refl) (λ v. refl) (λ empty c q g.
       on-line answer (λ b. Lost b nowhere) (λ b. ok b nowhere) _ (choice f22A (λ v. at119 settles v)) (Word 4) (fits22A s) (alone (c .at) (at22A settles) (choice f22A (λ v. at119 settles v)) refl refl) (λ v. refl) (λ stream d r k.
       let w = k .line .value in
       let z : stream .part .end ≡ stream .part .start + 4 = rw (k .span) (omega (arith, k .line .is .size)) in
@@ -225,7 +225,7 @@ module _ (s : List ℕ) where
 
   message-walk : (p : ℕ) (reference : Named) (t : Item) → Walk (broken-in (messageAt s p reference t)) p (at77E (eqb (t .number) 131))
   unfolding messageAt
-  message-walk p reference t = address-walk (eqb (t .number) 131) (λ (x : Addressed). broken-in (onTo x refusal (λ a c. cond (eqb (t .number) 131) (settlementAt s (c .at) (head reference t a)) (recallAt s (c .at) (head reference t a))))) (λ b a. refl) (λ a c. go a c (eqb (t .number) 131)) p
+  message-walk p reference t = address-walk (eqb (t .number) 131) (λ (x : Addressed). broken-in (onTo x (refusal t) (λ a c. cond (eqb (t .number) 131) (settlementAt s (c .at) (head reference t a)) (recallAt s (c .at) (head reference t a))))) (λ b a. refl) (λ a c. go a c (eqb (t .number) 131)) p
     where
       go : (a : Address) (c : Cursor) (b : Bool) → Walk (broken-in (cond b (settlementAt s (c .at) (head reference t a)) (recallAt s (c .at) (head reference t a)))) (c .at) (cond b at16A at-end)
       go a c true = settlement-walk (head reference t a) (c .at)
@@ -235,18 +235,18 @@ module _ (s : List ℕ) where
   sub-type = choice (f12 (131 ∷ 133 ∷ [])) (λ v. at77E (eqb (valueOf 0 v) 131))
 
   -- "a well-formed sub type other than 131 or 133 gives 88 at that line"
-  sub-type-walk : (p : ℕ) (reference : Named) (t : Item) (d : Cursor) (g : LineRead s p (bytes ":12:") (Numeral 3) t d) → standing (choices at12) (drop p s) ≡ some sub-type → ((o : Option Break) → IsNumeral 3 (g .line .value) → member (valueOf 0 (g .line .value)) (131 ∷ 133 ∷ []) ≡ true → Walk o (d .at) (at77E (eqb (valueOf 0 (g .line .value)) 131)) → Walk o p at12) → Walk (broken-in (cond (member (t .number) (131 ∷ 133 ∷ [])) (messageAt s (d .at) reference t) (refusal (broken p OtherSubType) nowhere))) p at12
+  sub-type-walk : (p : ℕ) (reference : Named) (t : Item) (d : Cursor) (g : LineRead s p (bytes ":12:") (Numeral 3) t d) → standing (choices at12) (drop p s) ≡ some sub-type → ((o : Option Break) → IsNumeral 3 (g .line .value) → member (valueOf 0 (g .line .value)) (131 ∷ 133 ∷ []) ≡ true → Walk o (d .at) (at77E (eqb (valueOf 0 (g .line .value)) 131)) → Walk o p at12) → Walk (broken-in (cond (member (t .number) (131 ∷ 133 ∷ [])) (messageAt s (d .at) reference t) (unread (broken p OtherSubType)))) p at12
   sub-type-walk p reference t d g st on = go (member (t .number) (131 ∷ 133 ∷ [])) refl
     where
-      go : (b : Bool) → member (t .number) (131 ∷ 133 ∷ []) ≡ b → Walk (broken-in (cond b (messageAt s (d .at) reference t) (refusal (broken p OtherSubType) nowhere))) p at12
+      go : (b : Bool) → member (t .number) (131 ∷ 133 ∷ []) ≡ b → Walk (broken-in (cond b (messageAt s (d .at) reference t) (unread (broken p OtherSubType)))) p at12
       go true m = on (broken-in (messageAt s (d .at) reference t)) (g .line .is) (ap (λ (n : ℕ). member n (131 ∷ 133 ∷ [])) (sym (g .means)) ∙ m) (subst (λ (n : ℕ). Walk (broken-in (messageAt s (d .at) reference t)) (d .at) (at77E (eqb n 131))) (g .means) (message-walk (d .at) reference t))
       go false m = stop {e = at12} (broken p OtherSubType) refl (other sub-type refl st (g .line) (ap (λ (n : ℕ). member n (131 ∷ 133 ∷ [])) (sym (g .means)) ∙ m))
 
   request-walk : Walk (broken-in (requestAt s)) 0 at20
   unfolding requestAt
   request-walk =
-      on-line broken-in (λ b. refusal b nowhere) (λ b. refl) _ (choice f20 (λ v. at12)) Reference (fits20 s) (alone 0 at20 (choice f20 (λ v. at12)) refl refl) (λ v. refl) (λ i c q g.
-      on-field broken-in (λ b. refusal b nowhere) (λ b. refl) _ sub-type (Numeral 3) (fits12 s (131 ∷ 133 ∷ []) .covers) (alone (c .at) at12 sub-type refl refl) (λ t d r k st on.
+      on-line broken-in unread (λ b. refl) _ (choice f20 (λ v. at12)) Reference (fits20 s) (alone 0 at20 (choice f20 (λ v. at12)) refl refl) (λ v. refl) (λ i c q g.
+      on-field broken-in unread (λ b. refl) _ sub-type (Numeral 3) (fits12 s (131 ∷ 133 ∷ []) .covers) (alone (c .at) at12 sub-type refl refl) (λ t d r k st on.
       sub-type-walk (c .at) (namedAt s (i .part)) t d k st on))
 
 refused-by : (o : Outcome) (b : Break) → brokenBy o ≡ some b → o ≡ Refused b

@@ -26,7 +26,7 @@ use Rattle.scan.specs.declared.Cursor.{Cursor}
 use Rattle.scan.proofs.Laws.{lit-yes, lit-not}
 use Rattle.scan.specs.Spelling.{valueOf}
 use Rattle.scan.proofs.Standing.{past, lit-next, lit-sound}
-use Rattle.values.specs.Values.{onDay}
+use Rattle.values.specs.Values.{noPart, onDay}
 use Rattle.values.specs.declared.Part.{Part}
 use Rattle.values.specs.Grammar.{IsNumeral}
 use Rattle.fields.specs.Fields.{absent, broken, wrong as wrongAt, item, place, onGood, fieldAt}
@@ -34,12 +34,12 @@ use Rattle.fields.specs.declared.Break.{Break}
 use Rattle.fields.specs.declared.Item.{Item}
 use Rattle.fields.specs.declared.Field.{Field}
 use Rattle.fields.specs.declared.Field.the-variants.{Good, Bad}
-use Rattle.fields.specs.declared.Kind.the-variants.{Reference, Numeral, Word, Bin}
+use Rattle.fields.specs.declared.Kind.the-variants.{Empty, Reference, Numeral, Word, Bin}
 use Rattle.fields.specs.Grammar.{Line}
 use Rattle.fields.proofs.Grammar.{line-complete}
 use Rattle.response.specs.declared.Outcome.the-variants.{Settled, Rejected}
 use Rattle.response.specs.declared.Answer.the-variants.{Recalled, Kept}
-use Rattle.reply.specs.Reply.{byStatus, onSecond, onOf, onHow, onWith, ending, noPart, refused, responseNumberAt, requestReferenceAt, batchAt, settledAt, rejectedAt, endedAt, answerAt, settlementOf, recallOf, settlementAt, recallAt, head, responseAt}
+use Rattle.reply.specs.Reply.{byStatus, onSecond, onOf, onHow, onWith, ending, refused, responseNumberAt, requestReferenceAt, batchAt, settledAt, rejectedAt, endedAt, answerAt, settlementOf, recallOf, settlementAt, recallAt, head, responseAt}
 use Rattle.reply.specs.declared.Batch.{Batch}
 use Rattle.reply.specs.declared.Batched.{Batched}
 use Rattle.reply.specs.declared.Batched.the-variants.{Of, Lost}
@@ -120,7 +120,7 @@ module _ (s : List ℕ) where
   reference-walk : (settles : Bool) (k : Item → Cursor → ReadResponse) → ((i : Item) (c : Cursor) → Walk (broken-in (k i c)) (c .at) (cond settles on22A (on451 settles))) → (p : ℕ) → Walk (broken-in (onGood (requestReferenceAt s p) refused k)) p (on77E settles)
   unfolding requestReferenceAt
   reference-walk settles k on p =
-      on-line (λ (x : Field). broken-in (onGood x refused k)) Bad (λ b. refl) (λ i c. fieldAt s (c .at) (bytes ":21:") Reference) (choice f77E (λ v. on21 settles)) (Word 0) (fits77E s) (alone p (on77E settles) (choice f77E (λ v. on21 settles)) refl refl) (λ v. refl) (λ i c q g.
+      on-line (λ (x : Field). broken-in (onGood x refused k)) Bad (λ b. refl) (λ i c. fieldAt s (c .at) (bytes ":21:") Reference) (choice f77E (λ v. on21 settles)) Empty (fits77E s) (alone p (on77E settles) (choice f77E (λ v. on21 settles)) refl refl) (λ v. refl) (λ i c q g.
       on-line broken-in refused (λ b. refl) k (choice f21 (λ v. cond settles on22A (on451 settles))) Reference (fits21 s) (alone (c .at) (on21 settles) (choice f21 (λ v. cond settles on22A (on451 settles))) refl refl) (λ v. refl) (λ j d r h.
       on j d))
 

@@ -23,7 +23,7 @@ use Rattle.fields.specs.declared.Item.{Item}
 use Rattle.fields.specs.declared.Field.{Field}
 use Rattle.fields.specs.declared.Field.the-variants.{Good, Bad}
 use Rattle.fields.specs.declared.Kind.{Kind}
-use Rattle.fields.specs.declared.Kind.the-variants.{Reference, Numeral, Word, Bin, Numbers, Date, Time, Side, Amount, Letters, Count}
+use Rattle.fields.specs.declared.Kind.the-variants.{Empty, Reference, Numeral, Word, Bin, Numbers, Date, Time, Side, Amount, Letters, Count}
 use Rattle.fields.proofs.Alike.{Fine}
 use Rattle.fields.specs.Grammar.{Spelt}
 use Rattle.fields.proofs.Grammar.{line-complete}
@@ -53,8 +53,8 @@ module _ (s : List ℕ) where
   pub fits12 : (kinds : List ℕ) → Fits s (f12 kinds) (Numeral 3)
   fits12 kinds = record { covers = record { bound = 0; fine = omega arith; from = λ v h. h; told = λ a. told (numeral-plain s a 3) }; to = λ v h. h }
 
-  pub fits77E : Fits s f77E (Word 0)
-  fits77E = record { covers = record { bound = 0; fine = omega arith; from = λ v h. h; told = λ a. told (word-plain s a 0) }; to = λ v h. h }
+  pub fits77E : Fits s f77E Empty
+  fits77E = record { covers = record { bound = 0; fine = tt; from = λ v h. h; told = λ a. refl }; to = λ v h. h }
 
   pub fits22A : Fits s f22A (Word 4)
   fits22A = record { covers = record { bound = 0; fine = omega arith; from = λ v h. h; told = λ a. told (word-plain s a 4) }; to = λ v h. h }

@@ -80,7 +80,7 @@ outcome-size (inr e) = ap length e
 one-value : (f : Row) (v w a b : List ℕ) → Is f v → Is f w → v ++ (crlf ++ a) ≡ w ++ (crlf ++ b) → v ≡ w
 one-value f20 v w a b p q h = until v w (10 ∷ a) (10 ∷ b) (codes-in-line v (p .all)) (codes-in-line w (q .all)) h
 one-value (f12 kinds) v w a b p q h = alike v w (crlf ++ a) (crlf ++ b) (p .size ∙ sym (q .size)) h
-one-value f77E v w a b p q h = alike v w (crlf ++ a) (crlf ++ b) (p .size ∙ sym (q .size)) h
+one-value f77E v w a b p q h = p ∙ sym q
 one-value f22A v w a b p q h = alike v w (crlf ++ a) (crlf ++ b) (p .size ∙ sym (q .size)) h
 one-value (f119 stream) v w a b p q h = alike v w (crlf ++ a) (crlf ++ b) (bin-size stream p ∙ sym (bin-size stream q)) h
 one-value f16A v w a b p q h = alike v w (crlf ++ a) (crlf ++ b) (numbers-size p ∙ sym (numbers-size q)) h

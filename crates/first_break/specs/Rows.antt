@@ -16,7 +16,7 @@ use Rattle.dates.specs.declared.Day.the-variants.{Number}
 use Rattle.scan.specs.Scan.{onNext, lineEnd}
 use Rattle.scan.specs.Spelling.{valueOf}
 use Rattle.values.specs.Letters.{isStatus}
-use Rattle.values.specs.Grammar.{IsReference, IsNumeral, IsWord, IsBin, IsNumbers, IsDate, IsTime, IsSide, IsAmount, IsLetters, IsCount}
+use Rattle.values.specs.Grammar.{IsEmpty, IsReference, IsNumeral, IsWord, IsBin, IsNumbers, IsDate, IsTime, IsSide, IsAmount, IsLetters, IsCount}
 
 -- "`B` and seven digits"
 pub record IsResponseNumber (v : List ℕ) : Type 0 where
@@ -84,7 +84,7 @@ tagOf f432 = bytes ":432:"
 abbrev pub Is : Row → List ℕ → Type 0
 Is f20 v = IsReference v
 Is (f12 kinds) v = IsNumeral 3 v
-Is f77E v = IsWord 0 v
+Is f77E v = IsEmpty v
 Is f22A v = IsWord 4 v
 Is (f119 stream) v = IsBin stream v
 Is f16A v = IsNumbers v

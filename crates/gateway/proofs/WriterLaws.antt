@@ -24,11 +24,11 @@ use Rattle.response.specs.declared.Recall.{Recall}
 use Rattle.response.specs.declared.Written.{Written}
 use Rattle.response.specs.declared.Written.the-variants.{End, Unfit}
 use Rattle.administrator.specs.Orders.{Wrote}
-use Rattle.administrator.specs.declared.Line.{Line}
+use Rattle.administrator.specs.declared.Payable.{Payable}
 use Rattle.administrator.specs.declared.Order.{Order}
 use Rattle.administrator.specs.declared.Side.{Side}
 use Rattle.administrator.specs.declared.Side.the-variants.{Credit, Debit}
-use Rattle.gateway.specs.Writers.{valueIn, secondIn, codeIn, activationIn, sideIn, lineIn, linesIn, orderIn, outcomeIn, answerIn, settlementIn, recallIn, numberBy, toldBy, orderWritten, orderLeft, kindWritten, kindLeft, responseWritten, responseLeft, isReady, numberFor, leftFor, toldFor}
+use Rattle.gateway.specs.Writers.{valueIn, secondIn, codeIn, activationIn, sideIn, payableIn, payablesIn, orderIn, outcomeIn, answerIn, settlementIn, recallIn, numberBy, toldBy, orderWritten, orderLeft, kindWritten, kindLeft, responseWritten, responseLeft, isReady, numberFor, leftFor, toldFor}
 
 -- ---- the values of a row
 
@@ -55,16 +55,16 @@ module _ (row : List ℕ) where
   unfolding sideIn
   debit-side at p n q = simp (← (simp add-zero at p), ne-eqb _ _ n, ← q)
 
-  pub line-made : (k : ℕ) {s : Side} {c b : ℕ} → s ≡ sideIn row (32 + 16 * k) → c ≡ valueIn row (32 + 16 * k + 4) → b ≡ valueIn row (32 + 16 * k + 12) → record { side = s; cents = c; bank = b } ≡ lineIn row k
-  unfolding lineIn
-  line-made k p q r = simp (p, q, r)
+  pub payable-made : (k : ℕ) {s : Side} {c b : ℕ} → s ≡ sideIn row (32 + 16 * k) → c ≡ valueIn row (32 + 16 * k + 4) → b ≡ valueIn row (32 + 16 * k + 12) → record { side = s; cents = c; bank = b } ≡ payableIn row k
+  unfolding payableIn
+  payable-made k p q r = simp (p, q, r)
 
-  pub lines-made : {a b c d e f g h i j : Line} → a ≡ lineIn row 0 → b ≡ lineIn row 1 → c ≡ lineIn row 2 → d ≡ lineIn row 3 → e ≡ lineIn row 4 → f ≡ lineIn row 5 → g ≡ lineIn row 6 → h ≡ lineIn row 7 → i ≡ lineIn row 8 → j ≡ lineIn row 9
-      → (a ∷ b ∷ c ∷ d ∷ e ∷ f ∷ g ∷ h ∷ i ∷ j ∷ []) ≡ linesIn row
-  lines-made p₀ p₁ p₂ p₃ p₄ p₅ p₆ p₇ p₈ p₉ = simp (p₀, p₁, p₂, p₃, p₄, p₅, p₆, p₇, p₈, p₉)
+  pub payables-made : {a b c d e f g h i j : Payable} → a ≡ payableIn row 0 → b ≡ payableIn row 1 → c ≡ payableIn row 2 → d ≡ payableIn row 3 → e ≡ payableIn row 4 → f ≡ payableIn row 5 → g ≡ payableIn row 6 → h ≡ payableIn row 7 → i ≡ payableIn row 8 → j ≡ payableIn row 9
+      → (a ∷ b ∷ c ∷ d ∷ e ∷ f ∷ g ∷ h ∷ i ∷ j ∷ []) ≡ payablesIn row
+  payables-made p₀ p₁ p₂ p₃ p₄ p₅ p₆ p₇ p₈ p₉ = simp (p₀, p₁, p₂, p₃, p₄, p₅, p₆, p₇, p₈, p₉)
 
-  pub order-made : {t s n m d y k : ℕ} {r b : Code} {a : Activation} {l : List Line} → t ≡ valueIn row 4 → r ≡ codeIn row 0 → s ≡ valueIn row 8 → b ≡ codeIn row 12 → n ≡ valueIn row 16 → m ≡ secondIn row 16 → y ≡ valueIn row 20 → d ≡ dateOf y
-      → a ≡ activationIn row → l ≡ linesIn row → k ≡ valueIn row 28 → record { subtype = t; reference = r; stream = s; bin = b; number = n; count = m; date = d; activation = a; lines = l; n = k } ≡ orderIn row
+  pub order-made : {t s n m d y k : ℕ} {r b : Code} {a : Activation} {l : List Payable} → t ≡ valueIn row 4 → r ≡ codeIn row 0 → s ≡ valueIn row 8 → b ≡ codeIn row 12 → n ≡ valueIn row 16 → m ≡ secondIn row 16 → y ≡ valueIn row 20 → d ≡ dateOf y
+      → a ≡ activationIn row → l ≡ payablesIn row → k ≡ valueIn row 28 → record { subtype = t; reference = r; stream = s; bin = b; number = n; count = m; date = d; activation = a; payments = l; n = k } ≡ orderIn row
   unfolding orderIn
   order-made p₀ p₁ p₂ p₃ p₄ p₅ p₆ p₇ p₈ p₉ p = simp (p₀, p₁, p₂, p₃, p₄, p₅, p₇, p₆, p₈, p₉, p)
 

@@ -62,7 +62,7 @@ reachedNumber Nothing = 0
 reachedNumber Stream = 1
 reachedNumber Bin = 2
 
--- the break, and the stream and the BIN where they were read
+-- the break, and the sub type, the stream and the BIN where they were read
 unfoldable pub refusedWords : Break → Head → List ℕ
 refusedWords b h = breakWords b (reachedNumber (h .address .reached)) ++ (itemWords (h .subtype) ++ addressWords (h .address))
 

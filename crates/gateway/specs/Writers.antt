@@ -22,7 +22,7 @@ use Rattle.response.specs.declared.Recall.{Recall}
 use Rattle.response.specs.declared.Written.{Written}
 use Rattle.response.specs.declared.Written.the-variants.{End, Unfit}
 use Rattle.administrator.specs.Orders.{orderText, answerOf, leftOf}
-use Rattle.administrator.specs.declared.Line.{Line}
+use Rattle.administrator.specs.declared.Payable.{Payable}
 use Rattle.administrator.specs.declared.Order.{Order}
 use Rattle.administrator.specs.declared.Side.{Side}
 use Rattle.administrator.specs.declared.Side.the-variants.{Credit, Debit}
@@ -46,11 +46,11 @@ unfoldable pub sideIn : List ℕ → ℕ → Side
 sideIn row at = cond (eqb (valueIn row at) 0) Credit (Debit (valueIn row (at + 8)))
 
 -- 127, 32B, 113 and 102 of payment k
-unfoldable pub lineIn : List ℕ → ℕ → Line
-lineIn row k = record { side = sideIn row (32 + 16 * k); cents = valueIn row (32 + 16 * k + 4); bank = valueIn row (32 + 16 * k + 12) }
+unfoldable pub payableIn : List ℕ → ℕ → Payable
+payableIn row k = record { side = sideIn row (32 + 16 * k); cents = valueIn row (32 + 16 * k + 4); bank = valueIn row (32 + 16 * k + 12) }
 
-abbrev pub linesIn : List ℕ → List Line
-linesIn row = lineIn row 0 ∷ lineIn row 1 ∷ lineIn row 2 ∷ lineIn row 3 ∷ lineIn row 4 ∷ lineIn row 5 ∷ lineIn row 6 ∷ lineIn row 7 ∷ lineIn row 8 ∷ lineIn row 9 ∷ []
+abbrev pub payablesIn : List ℕ → List Payable
+payablesIn row = payableIn row 0 ∷ payableIn row 1 ∷ payableIn row 2 ∷ payableIn row 3 ∷ payableIn row 4 ∷ payableIn row 5 ∷ payableIn row 6 ∷ payableIn row 7 ∷ payableIn row 8 ∷ payableIn row 9 ∷ []
 
 -- what a row of a request asks for
 unfoldable pub orderIn : List ℕ → Order
@@ -63,7 +63,7 @@ orderIn row = record {
   count = secondIn row 16;
   date = dateOf (valueIn row 20);
   activation = activationIn row;
-  lines = linesIn row;
+  payments = payablesIn row;
   n = valueIn row 28;
 }
 

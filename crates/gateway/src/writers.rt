@@ -1,6 +1,6 @@
 // The writers, from rows of words as the readers fill them: of each field the value alone counts, in a number or two; where it stood does not.
-use administrator::Line;
 use administrator::Order;
+use administrator::Payable;
 use administrator::Side;
 use chars::Refusal;
 use codes::Code;
@@ -13,7 +13,7 @@ use terms::Activation;
 ghost use mathlib.Core.Path.{_≡_};
 ghost use Prim.Native.Nat.{_+_, _≤_};
 ghost use lib.ListN.{length, getD};
-ghost use Rattle.gateway.specs.Writers.{valueIn, secondIn, codeIn, activationIn, sideIn, lineIn, linesIn, orderIn, outcomeIn, answerIn, settlementIn, recallIn, numberBy, toldBy, orderWritten, orderLeft, kindWritten, kindLeft, responseWritten, responseLeft, isReady, numberFor, leftFor, toldFor};
+ghost use Rattle.gateway.specs.Writers.{valueIn, secondIn, codeIn, activationIn, sideIn, payableIn, payablesIn, orderIn, outcomeIn, answerIn, settlementIn, recallIn, numberBy, toldBy, orderWritten, orderLeft, kindWritten, kindLeft, responseWritten, responseLeft, isReady, numberFor, leftFor, toldFor};
 
 // Words of what is told of a text that was written: its length.
 pub const TOLD_WORDS: usize = 1;
@@ -75,32 +75,32 @@ fn side(row: &[u64], at: usize) -> Side
 }
 
 // Payment k.
-fn line(row: &[u64], k: usize) -> Line
+fn payable(row: &[u64], k: usize) -> Payable
     requires { ⌜ k ≤ 9 ⌝ }
-    ensures { λ r. ⌜ r ≡ lineIn (now (row .entry)) k ⌝ }
+    ensures { λ r. ⌜ r ≡ payableIn (now (row .entry)) k ⌝ }
 {
     let at = crate::REQUEST_PAYMENTS + crate::PAYMENT_WORDS * k;
-    Line {
+    Payable {
         side: side(row, at),
         cents: value(row, at + crate::PAYMENT_AMOUNT),
         bank: value(row, at + crate::PAYMENT_BANK),
     }
 }
 
-fn lines(row: &[u64]) -> [Line; 10]
-    ensures { λ r. ⌜ r ≡ linesIn (now (row .entry)) ⌝ }
+fn payables(row: &[u64]) -> [Payable; 10]
+    ensures { λ r. ⌜ r ≡ payablesIn (now (row .entry)) ⌝ }
 {
     [
-        line(row, 0),
-        line(row, 1),
-        line(row, 2),
-        line(row, 3),
-        line(row, 4),
-        line(row, 5),
-        line(row, 6),
-        line(row, 7),
-        line(row, 8),
-        line(row, 9),
+        payable(row, 0),
+        payable(row, 1),
+        payable(row, 2),
+        payable(row, 3),
+        payable(row, 4),
+        payable(row, 5),
+        payable(row, 6),
+        payable(row, 7),
+        payable(row, 8),
+        payable(row, 9),
     ]
 }
 
@@ -117,7 +117,7 @@ fn order(row: &[u64]) -> Order
         count: second(row, crate::REQUEST_NUMBERS),
         date: dates::date_of(value(row, crate::REQUEST_DATE)),
         activation: activation(row),
-        lines: lines(row),
+        payments: payables(row),
         n: value(row, crate::REQUEST_COUNT) as usize,
     }
 }

@@ -1,5 +1,5 @@
 -- The number that is read of a value, by the bytes of the value; and a line that was read, with what it says.
-use Prim.Native.Nat.{ℕ, _+_, _*_, _-_, _≤_}
+use Prim.Native.Nat.{ℕ, _+_, _-_, _≤_}
 use mathlib.Core.Path.{_≡_, refl, ap, sym, subst, _∙_}
 use mathlib.Core.List.{List, _++_}
 use mathlib.Core.Bool.{Bool, true, false, cond, _&&_}
@@ -28,7 +28,7 @@ use Rattle.fields.specs.Fields.{item, valueAt, fieldAt}
 use Rattle.fields.specs.declared.Item.{Item}
 use Rattle.fields.specs.declared.Field.the-variants.{Good}
 use Rattle.fields.specs.declared.Kind.{Kind}
-use Rattle.fields.specs.declared.Kind.the-variants.{Reference, Numeral, Word, Bin, Numbers, Date, Time, Side, Amount, Letters, Count}
+use Rattle.fields.specs.declared.Kind.the-variants.{Empty, Reference, Numeral, Word, Bin, Numbers, Date, Time, Side, Amount, Letters, Count}
 use Rattle.fields.proofs.Alike.{Fine}
 use Rattle.fields.specs.Grammar.{Line, Spelt}
 use Rattle.fields.proofs.Grammar.{line-complete, line-sound}
@@ -94,11 +94,12 @@ module _ (s : List ℕ) (at : ℕ) {x e : ℕ} where
 
 -- what the number beside a value is; a name's code is read of its part, a side's number is told by the side
 abbrev pub Means : (s : List ℕ) (k : Kind) (v : List ℕ) → Spelt s k v → ℕ → Type 0
+Means s Empty v g x = x ≡ 0
 Means s Reference v g x = Unit {0}
 Means s (Numeral n) v g x = x ≡ valueOf 0 v
 Means s (Word n) v g x = n ≡ 4 → x ≡ packed 4 v
 Means s (Bin p) v g x = Unit {0}
-Means s Numbers v g x = x ≡ valueOf 0 (g .number) * 100 + valueOf 0 (g .count)
+Means s Numbers v g x = x ≡ valueOf 0 (g .number)
 Means s Date v g x = x ≡ g .day
 Means s Time v g x = x ≡ g .minute
 Means s Side v g x = Unit {0}
@@ -107,6 +108,7 @@ Means s Letters v g x = x ≡ packed 4 v
 Means s (Count n) v g x = x ≡ n
 
 value-means : (s : List ℕ) (at : ℕ) (v r : List ℕ) → drop at s ≡ v ++ (crlf ++ r) → (b : ℕ) (k : Kind) → Fine b k → (g : Spelt s k v) {x e : ℕ} → valueAt s at k ≡ Read x e → Means s k v g x
+value-means s at v r h b Empty f g q = cc
 value-means s at v r h b Reference f g q = tt
 value-means s at v r h b (Numeral n) f g q = number-is q (numeral-reads s at v r h n (omega arith) g)
 value-means s at v r h b (Word n) f g q = λ e. word-number s at n q ∙ four-are s at v (crlf ++ r) h (g .size ∙ e)

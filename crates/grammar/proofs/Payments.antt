@@ -20,7 +20,7 @@ use Rattle.values.specs.Values.{textOf, sideAt}
 use Rattle.values.specs.declared.Value.{Value}
 use Rattle.values.specs.declared.Value.the-variants.{Read, Unread}
 use Rattle.values.specs.Grammar.{IsSide, IsWord, centsIn}
-use Rattle.fields.specs.Fields.{absent, broken, wrong, item, place, onRead, onGood, valueAt, fieldAt}
+use Rattle.fields.specs.Fields.{absent, broken, wrong, nothing, item, place, onRead, onGood, valueAt, fieldAt}
 use Rattle.fields.specs.declared.Break.{Break}
 use Rattle.fields.specs.declared.Item.{Item}
 use Rattle.fields.specs.declared.Field.{Field}
@@ -29,14 +29,13 @@ use Rattle.fields.specs.declared.Kind.{Kind}
 use Rattle.fields.specs.declared.Kind.the-variants.{Word, Side, Amount, Letters}
 use Rattle.fields.specs.Grammar.{Line}
 use Rattle.fields.proofs.Grammar.{line-complete}
-use Rattle.payments.specs.Payments.{nothing, none, payment, bankAt, creditAt, debitAt, paymentAt, moreAt, onPaid, ended, paymentsOn, paymentsAt}
+use Rattle.payments.specs.Payments.{none, noPayment, payment, bankAt, creditAt, debitAt, paymentAt, moreAt, onPaid, ended, paymentsOn, paymentsAt}
 use Rattle.payments.specs.declared.Payment.{Payment}
 use Rattle.payments.specs.declared.Paid.{Paid}
 use Rattle.payments.specs.declared.Paid.the-variants.{One, Unpaid}
 use Rattle.payments.specs.declared.Ending.the-variants.{Done, Cut}
 use Rattle.payments.specs.declared.Payments.{Payments}
 use Rattle.grammar.proofs.Meanings.{number-is, LineRead, line-read}
-use Rattle.grammar.specs.Values.{noPayment}
 use Rattle.grammar.specs.Text.{PaymentText, credit, debit, PaymentsText, none-left, one-more, PaymentIs, PartsAre, PaymentSays, PaymentParts, PaymentsSay, PaymentsParts}
 
 -- what a fixed string is not, from its first bytes

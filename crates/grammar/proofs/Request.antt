@@ -1,5 +1,5 @@
 -- A text of the grammar is accepted, what is accepted is such a text, and what the reading then says of it.
-use Prim.Native.Nat.{ℕ, zero, suc, _+_, _*_, _/_, _%_, _≤_}
+use Prim.Native.Nat.{ℕ, zero, suc, _+_, _≤_}
 use mathlib.Core.Path.{_≡_, refl, ap, sym, subst, _∙_}
 use mathlib.Core.List.{List, [], _∷_, _++_}
 use mathlib.Core.Bool.{Bool, true, false, cond, _||_, false≢true}
@@ -10,27 +10,27 @@ use lib.Dec.{eqb, ltb}
 use lib.ListN.{length, drop, length-drop, drop-of-length-le}
 use Rattle.chars.specs.Words.{bytes, member}
 use Rattle.chars.specs.declared.Refusal.the-variants.{OtherSubType}
-use Rattle.codes.specs.Codes.{packed, longOf, longAt}
+use Rattle.codes.specs.Codes.{packed, longOf}
 use Rattle.scan.specs.Scan.{onNext, crlf, begins, litAt}
 use Rattle.scan.specs.declared.At.{At}
 use Rattle.scan.specs.declared.At.the-variants.{Next, No}
 use Rattle.scan.specs.declared.Cursor.{Cursor}
 use Rattle.scan.specs.Spelling.{valueOf}
 use Rattle.scan.proofs.Standing.{lit-reads}
-use Rattle.values.specs.Values.{textOf}
+use Rattle.values.specs.Values.{noPart, textOf, codeOf, countIn}
 use Rattle.values.specs.declared.Part.{Part}
-use Rattle.values.specs.Grammar.{IsNumeral, IsWord, IsBin, IsNumbers, IsDate, IsTime, IsCount}
-use Rattle.values.proofs.Grammar.{numeral-reads}
-use Rattle.fields.specs.Fields.{absent, broken, item, place, onGood, fieldAt}
+use Rattle.values.specs.Grammar.{IsEmpty, IsNumeral, IsWord, IsBin, IsNumbers, IsDate, IsTime, IsCount}
+use Rattle.values.proofs.Grammar.{numeral-reads, count-in}
+use Rattle.fields.specs.Fields.{absent, broken, nothing, item, place, onGood, fieldAt}
 use Rattle.fields.specs.declared.Break.{Break}
 use Rattle.fields.specs.declared.Item.{Item}
 use Rattle.fields.specs.declared.Field.{Field}
 use Rattle.fields.specs.declared.Field.the-variants.{Good, Bad}
 use Rattle.fields.specs.declared.Kind.{Kind}
-use Rattle.fields.specs.declared.Kind.the-variants.{Reference, Numeral, Word, Bin, Numbers, Date, Time, Count}
+use Rattle.fields.specs.declared.Kind.the-variants.{Empty, Reference, Numeral, Word, Bin, Numbers, Date, Time, Count}
 use Rattle.fields.specs.Grammar.{Line, Spelt}
 use Rattle.fields.proofs.Grammar.{line-complete, line-sound}
-use Rattle.terms.specs.Terms.{noPart, activationAt, onGiven, onWhole, terms, termsAt}
+use Rattle.terms.specs.Terms.{activationAt, onGiven, onWhole, terms, termsAt}
 use Rattle.terms.specs.declared.Terms.{Terms}
 use Rattle.terms.specs.declared.Activation.{Activation}
 use Rattle.terms.specs.declared.Activation.the-variants.{AtOnce, Minute}
@@ -41,7 +41,7 @@ use Rattle.terms.specs.declared.Stated.the-variants.{Whole, Partial}
 use Rattle.payments.specs.Payments.{paymentsAt}
 use Rattle.payments.specs.declared.Ending.{Ending}
 use Rattle.payments.specs.declared.Ending.the-variants.{Done, Cut}
-use Rattle.request.specs.Request.{namedAt, address, nowhere, toStream, head, bare, refusal, settlement, addressAt, onTo, onDone, ending, settlementAt, recallAt, messageAt, requestAt}
+use Rattle.request.specs.Request.{namedAt, address, nowhere, toStream, head, bare, refusal, unread, settlement, addressAt, onTo, onDone, ending, settlementAt, recallAt, messageAt, requestAt}
 use Rattle.request.specs.declared.Reached.the-variants.{Bin as Both}
 use Rattle.request.specs.declared.Address.{Address}
 use Rattle.request.specs.declared.Addressed.{Addressed}
@@ -50,7 +50,7 @@ use Rattle.request.specs.declared.Head.{Head}
 use Rattle.request.specs.declared.Outcome.{Outcome}
 use Rattle.request.specs.declared.Outcome.the-variants.{Settlement, Recall, Refused}
 use Rattle.request.specs.declared.Reading.{Reading}
-use Rattle.grammar.proofs.Meanings.{number-is, part-is, numbered-range, line-read}
+use Rattle.grammar.proofs.Meanings.{number-is, part-is, line-read}
 use Rattle.grammar.proofs.Payments.{payments-complete, no-text, payments-sound}
 use Rattle.grammar.specs.Text.{HeadText, RecallText, PaymentText, credit, debit, PaymentsText, none-left, one-more, BodyText, SettlementText, HeadSays, ActivationSays, ActivationPart, BodySays, BodyParts, SettlementSays, RecallSays}
 
@@ -61,10 +61,10 @@ pub record HeadRead (kind : ℕ) (s r : List ℕ) : Type 0 where
   pub is : requestAt s ≡ cond (eqb kind 131) (settlementAt s next of) (recallAt s next of)
   pub rest : drop next s ≡ r
 
-address-complete : (s : List ℕ) (at : ℕ) {l m n r : List ℕ} → drop at s ≡ l → Line (bytes ":77E:") (IsWord 0) l m → (g : Line (bytes ":22A:") (IsWord 4) m n) → Line (bytes ":119:") (IsBin (g .value)) n r → (a : Address) × ((k : ℕ) × ((addressAt s at ≡ To a (place k)) × (drop k s ≡ r)))
+address-complete : (s : List ℕ) (at : ℕ) {l m n r : List ℕ} → drop at s ≡ l → Line (bytes ":77E:") IsEmpty l m → (g : Line (bytes ":22A:") (IsWord 4) m n) → Line (bytes ":119:") (IsBin (g .value)) n r → (a : Address) × ((k : ℕ) × ((addressAt s at ≡ To a (place k)) × (drop k s ≡ r)))
 unfolding addressAt
 address-complete s at {n = n} h g₁ g₂ g₃ =
-    let a = line-complete s at (bytes ":77E:") (Word 0) 0 (omega arith) h g₁ in
+    let a = line-complete s at (bytes ":77E:") Empty 0 tt h g₁ in
     let p = at + 5 + length (g₁ .value) + 2 in
     let b = line-complete s p (bytes ":22A:") (Word 4) 0 (omega arith) (a .rest) g₂ in
     let q : Part = record { start = p + 5; end = p + 5 + length (g₂ .value) } in
@@ -162,7 +162,7 @@ unaddressed h = let z : _≡_ {A = ℕ} 0 1 = cc in absurd (omega arith)
 record AddressStands (s l r : List ℕ) (a : Address) : Type 0 where
   r₃ : List ℕ
   r₄ : List ℕ
-  empty : Line (bytes ":77E:") (IsWord 0) l r₃
+  empty : Line (bytes ":77E:") IsEmpty l r₃
   stream : Line (bytes ":22A:") (IsWord 4) r₃ r₄
   bin : Line (bytes ":119:") (IsBin (stream .value)) r₄ r
   stream-is : a .stream .number ≡ packed 4 (stream .value)
@@ -172,7 +172,7 @@ record AddressStands (s l r : List ℕ) (a : Address) : Type 0 where
 
 -- the code of a name is that of its value
 code-is : (s : List ℕ) (p : Part) (v : List ℕ) → textOf s p ≡ v → namedAt s p .code ≡ longOf v
-unfolding namedAt longAt textOf
+unfolding namedAt codeOf
 code-is s p v h = ap longOf h
 
 named-part : (s : List ℕ) (p : Part) (v : List ℕ) → textOf s p ≡ v → textOf s (namedAt s p .part) ≡ v
@@ -188,7 +188,7 @@ on-address {A} s at tag k x f {a} {c} h g = go (fieldAt s at tag k) refl h
 
 address-sound : (s : List ℕ) (at : ℕ) {a : Address} {c : Cursor} → addressAt s at ≡ To a c → AddressStands s (drop at s) (drop (c .at) s) a
 unfolding addressAt
-address-sound s at {a} {c} h = on-address s at (bytes ":77E:") (Word 0) nowhere _ h (λ i d q₁ r₁.
+address-sound s at {a} {c} h = on-address s at (bytes ":77E:") Empty nowhere _ h (λ i d q₁ r₁.
     on-address s (d .at) (bytes ":22A:") (Word 4) nowhere _ r₁ (λ j e q₂ r₂.
     on-address s (e .at) (bytes ":119:") (Bin (j .part)) (toStream j) _ r₂ (λ k f q₃ r₃.
     let z : f ≡ c = cc in
@@ -199,7 +199,7 @@ address-sound s at {a} {c} h = on-address s at (bytes ":77E:") (Word 0) nowhere 
     record {
       r₃ = drop (d .at) s;
       r₄ = drop (e .at) s;
-      empty = line-sound s at (bytes ":77E:") (Word 0) q₁;
+      empty = line-sound s at (bytes ":77E:") Empty q₁;
       stream = g₂ .line;
       bin = record { value = g₃ .line .value; text = g₃ .line .text; is = subst (λ (w : List ℕ). IsBin w (g₃ .line .value)) (g₂ .text) (g₃ .line .is) };
       stream-is = ap (λ (x : Address). x .stream .number) y ∙ g₂ .means refl;
@@ -253,30 +253,25 @@ record TermsStand (s l r : List ℕ) (t : Terms) : Type 0 where
 partial : {A : Type 0} {b : Break} {t : Terms} {c : Cursor} → Partial b ≡ Whole t c → A
 partial h = let z : _≡_ {A = ℕ} 0 1 = cc in absurd (omega arith)
 
--- the number and the count of one number
-parts : (x n m : ℕ) → x ≡ n * 100 + m → m ≤ 10 → (x / 100 ≡ n) × (x % 100 ≡ m)
-parts x n m h k = (omega arith, omega arith)
-
 terms-sound : (s : List ℕ) (at : ℕ) {t : Terms} {c : Cursor} → termsAt s at ≡ Whole t c → TermsStand s (drop at s) (drop (c .at) s) t
 unfolding termsAt
 terms-sound s at {t} {c} h = go₁ (fieldAt s at (bytes ":16A:") Numbers) refl h
   where
-    go₃ : (i j : Item) (d e : Cursor) → fieldAt s at (bytes ":16A:") Numbers ≡ Good i d → fieldAt s (d .at) (bytes ":171:") Date ≡ Good j e → (x : Activated) → activationAt s (e .at) ≡ x → onGiven x Partial (λ m p f. Whole (terms i j m p) f) ≡ Whole t c → TermsStand s (drop at s) (drop (c .at) s) t
+    go₃ : (i j : Item) (d e : Cursor) → fieldAt s at (bytes ":16A:") Numbers ≡ Good i d → fieldAt s (d .at) (bytes ":171:") Date ≡ Good j e → (x : Activated) → activationAt s (e .at) ≡ x → onGiven x Partial (λ m p f. Whole (terms s i j m p) f) ≡ Whole t c → TermsStand s (drop at s) (drop (c .at) s) t
     go₃ i j d e q₁ q₂ (Given m p f) q₃ h =
         let z : f ≡ c = cc in
-        let y : t ≡ terms i j m p = cc in
+        let y : t ≡ terms s i j m p = cc in
         let a = line-read s at (bytes ":16A:") Numbers 0 tt q₁ in
         let b = line-read s (d .at) (bytes ":171:") Date 0 tt q₂ in
         let k = activation-sound s (e .at) (q₃ ∙ ap (Given m p) z) in
-        let w = parts (i .number) (valueOf 0 (a .line .is .number)) (valueOf 0 (a .line .is .count)) (a .means) (numbered-range (valueOf 0 (a .line .is .number)) (valueOf 0 (a .line .is .count)) (a .line .is .range) .2) in
         record {
           r₂ = drop (d .at) s;
           r₃ = drop (e .at) s;
           numbers = a .line;
           date = b .line;
           activation = k .text;
-          number-is = ap (λ (u : Terms). u .number) y ∙ w .0;
-          count-is = ap (λ (u : Terms). u .count) y ∙ w .1;
+          number-is = ap (λ (u : Terms). u .number) y ∙ a .means;
+          count-is = ap (λ (u : Terms). u .count) y ∙ ap countIn (a .text) ∙ count-in (a .line .is);
           date-is = ap (λ (u : Terms). u .date .number) y ∙ b .means;
           activation-is = subst (λ (u : Terms). ActivationSays (k .text) (u .activation)) (sym y) (k .says);
           numbers-part = ap (λ (u : Terms). textOf s (u .numbers)) y ∙ a .text;
@@ -285,27 +280,27 @@ terms-sound s at {t} {c} h = go₁ (fieldAt s at (bytes ":16A:") Numbers) refl h
         }
     go₃ i j d e q₁ q₂ (Ungiven b) q₃ h = partial h
 
-    go₂ : (i : Item) (d : Cursor) → fieldAt s at (bytes ":16A:") Numbers ≡ Good i d → (x : Field) → fieldAt s (d .at) (bytes ":171:") Date ≡ x → onGood x Partial (λ j e. onGiven (activationAt s (e .at)) Partial (λ m p f. Whole (terms i j m p) f)) ≡ Whole t c → TermsStand s (drop at s) (drop (c .at) s) t
+    go₂ : (i : Item) (d : Cursor) → fieldAt s at (bytes ":16A:") Numbers ≡ Good i d → (x : Field) → fieldAt s (d .at) (bytes ":171:") Date ≡ x → onGood x Partial (λ j e. onGiven (activationAt s (e .at)) Partial (λ m p f. Whole (terms s i j m p) f)) ≡ Whole t c → TermsStand s (drop at s) (drop (c .at) s) t
     go₂ i d q₁ (Good j e) q₂ h = go₃ i j d e q₁ q₂ (activationAt s (e .at)) refl h
     go₂ i d q₁ (Bad b) q₂ h = partial h
 
-    go₁ : (x : Field) → fieldAt s at (bytes ":16A:") Numbers ≡ x → onGood x Partial (λ i d. onGood (fieldAt s (d .at) (bytes ":171:") Date) Partial (λ j e. onGiven (activationAt s (e .at)) Partial (λ m p f. Whole (terms i j m p) f))) ≡ Whole t c → TermsStand s (drop at s) (drop (c .at) s) t
+    go₁ : (x : Field) → fieldAt s at (bytes ":16A:") Numbers ≡ x → onGood x Partial (λ i d. onGood (fieldAt s (d .at) (bytes ":171:") Date) Partial (λ j e. onGiven (activationAt s (e .at)) Partial (λ m p f. Whole (terms s i j m p) f))) ≡ Whole t c → TermsStand s (drop at s) (drop (c .at) s) t
     go₁ (Good i d) q₁ h = go₂ i d q₁ (fieldAt s (d .at) (bytes ":171:") Date) refl h
     go₁ (Bad b) q₁ h = partial h
 
 -- an outcome that is no refusal
 module _ (o : Outcome) (ok : (b : Break) → Refused b ≡ o → ⊥) where
-  on-reading : {A : Type 0} (s : List ℕ) (at : ℕ) (tag : List ℕ) (k : Kind) (x : Address) (f : Item → Cursor → Reading) → onGood (fieldAt s at tag k) (λ b. refusal b x) f .outcome ≡ o → ((i : Item) (d : Cursor) → fieldAt s at tag k ≡ Good i d → f i d .outcome ≡ o → A) → A
-  on-reading {A} s at tag k x f h g = go (fieldAt s at tag k) refl h
+  on-reading : {A : Type 0} (s : List ℕ) (at : ℕ) (tag : List ℕ) (k : Kind) (u : Item) (x : Address) (f : Item → Cursor → Reading) → onGood (fieldAt s at tag k) (λ b. refusal u b x) f .outcome ≡ o → ((i : Item) (d : Cursor) → fieldAt s at tag k ≡ Good i d → f i d .outcome ≡ o → A) → A
+  on-reading {A} s at tag k u x f h g = go (fieldAt s at tag k) refl h
     where
-      go : (y : Field) → fieldAt s at tag k ≡ y → onGood y (λ b. refusal b x) f .outcome ≡ o → A
+      go : (y : Field) → fieldAt s at tag k ≡ y → onGood y (λ b. refusal u b x) f .outcome ≡ o → A
       go (Good i d) q h = g i d q h
       go (Bad b) q h = absurd (ok b h)
 
-  on-ending : {A : Type 0} (s : List ℕ) (at : ℕ) (x : Address) (r : Reading) → ending s at x r .outcome ≡ o → (ltb at (length s) ≡ false → r .outcome ≡ o → A) → A
+  on-ending : {A : Type 0} (s : List ℕ) (at : ℕ) (x : Head) (r : Reading) → ending s at x r .outcome ≡ o → (ltb at (length s) ≡ false → r .outcome ≡ o → A) → A
   on-ending {A} s at x r h f = go (ltb at (length s)) refl h
     where
-      go : (b : Bool) → ltb at (length s) ≡ b → cond b (refusal (absent at) x) r .outcome ≡ o → A
+      go : (b : Bool) → ltb at (length s) ≡ b → cond b (refusal (x .subtype) (absent at) (x .address)) r .outcome ≡ o → A
       go true q h = absurd (ok (absent at) h)
       go false q h = f q h
 
@@ -321,10 +316,10 @@ module _ (o : Outcome) (ok : (b : Break) → Refused b ≡ o → ⊥) where
 
   head-sound : (s : List ℕ) → requestAt s .outcome ≡ o → HeadStands s
   unfolding requestAt messageAt
-  head-sound s h = on-reading s 0 (bytes ":20:") Reference nowhere _ h (λ i c q₁ r₁.
-      on-reading s (c .at) (bytes ":12:") (Numeral 3) nowhere _ r₁ (λ t d q₂ r₂. typed i c t d q₁ q₂ (member (t .number) (131 ∷ 133 ∷ [])) refl r₂))
+  head-sound s h = on-reading s 0 (bytes ":20:") Reference nothing nowhere _ h (λ i c q₁ r₁.
+      on-reading s (c .at) (bytes ":12:") (Numeral 3) nothing nowhere _ r₁ (λ t d q₂ r₂. typed i c t d q₁ q₂ (member (t .number) (131 ∷ 133 ∷ [])) refl r₂))
     where
-      addressed : (i : Item) (c : Cursor) (t : Item) (d : Cursor) → fieldAt s 0 (bytes ":20:") Reference ≡ Good i c → fieldAt s (c .at) (bytes ":12:") (Numeral 3) ≡ Good t d → member (t .number) (131 ∷ 133 ∷ []) ≡ true → (x : Addressed) → addressAt s (d .at) ≡ x → onTo x refusal (λ a e. cond (eqb (t .number) 131) (settlementAt s (e .at) (head (namedAt s (i .part)) t a)) (recallAt s (e .at) (head (namedAt s (i .part)) t a))) .outcome ≡ o → HeadStands s
+      addressed : (i : Item) (c : Cursor) (t : Item) (d : Cursor) → fieldAt s 0 (bytes ":20:") Reference ≡ Good i c → fieldAt s (c .at) (bytes ":12:") (Numeral 3) ≡ Good t d → member (t .number) (131 ∷ 133 ∷ []) ≡ true → (x : Addressed) → addressAt s (d .at) ≡ x → onTo x (refusal t) (λ a e. cond (eqb (t .number) 131) (settlementAt s (e .at) (head (namedAt s (i .part)) t a)) (recallAt s (e .at) (head (namedAt s (i .part)) t a))) .outcome ≡ o → HeadStands s
       addressed i c t d q₁ q₂ m (Lost b a) q₃ h = absurd (ok b h)
       addressed i c t d q₁ q₂ m (To a e) q₃ h =
           let g₁ = line-read s 0 (bytes ":20:") Reference 0 tt q₁ in
@@ -360,7 +355,7 @@ module _ (o : Outcome) (ok : (b : Break) → Refused b ≡ o → ⊥) where
             is = h;
           }
 
-      typed : (i : Item) (c : Cursor) (t : Item) (d : Cursor) → fieldAt s 0 (bytes ":20:") Reference ≡ Good i c → fieldAt s (c .at) (bytes ":12:") (Numeral 3) ≡ Good t d → (b : Bool) → member (t .number) (131 ∷ 133 ∷ []) ≡ b → cond b (onTo (addressAt s (d .at)) refusal (λ a e. cond (eqb (t .number) 131) (settlementAt s (e .at) (head (namedAt s (i .part)) t a)) (recallAt s (e .at) (head (namedAt s (i .part)) t a)))) (refusal (broken (c .at) OtherSubType) nowhere) .outcome ≡ o → HeadStands s
+      typed : (i : Item) (c : Cursor) (t : Item) (d : Cursor) → fieldAt s 0 (bytes ":20:") Reference ≡ Good i c → fieldAt s (c .at) (bytes ":12:") (Numeral 3) ≡ Good t d → (b : Bool) → member (t .number) (131 ∷ 133 ∷ []) ≡ b → cond b (onTo (addressAt s (d .at)) (refusal t) (λ a e. cond (eqb (t .number) 131) (settlementAt s (e .at) (head (namedAt s (i .part)) t a)) (recallAt s (e .at) (head (namedAt s (i .part)) t a)))) (unread (broken (c .at) OtherSubType)) .outcome ≡ o → HeadStands s
       typed i c t d q₁ q₂ true m h = addressed i c t d q₁ q₂ m (addressAt s (d .at)) refl h
       typed i c t d q₁ q₂ false m h = absurd (ok (broken (c .at) OtherSubType) h)
 
@@ -375,10 +370,10 @@ module _ (o : Outcome) (ok : (b : Break) → Refused b ≡ o → ⊥) where
   unfolding settlementAt
   body-sound s at x h = go₁ (termsAt s at) refl h
     where
-      go₂ : (u : Terms) (c : Cursor) → termsAt s at ≡ Whole u c → (e : Ending) → paymentsAt s (c .at) .ending ≡ e → onDone e (λ b. refusal b (x .address)) (λ d. onGood (fieldAt s (d .at) (bytes ":203:") (Count (paymentsAt s (c .at) .n))) (λ b. refusal b (x .address)) (λ count f. ending s (f .at) (x .address) (settlement x u (paymentsAt s (c .at)) count))) .outcome ≡ o → BodyStands s (drop at s) x (settlementAt s at x)
+      go₂ : (u : Terms) (c : Cursor) → termsAt s at ≡ Whole u c → (e : Ending) → paymentsAt s (c .at) .ending ≡ e → onDone e (λ b. refusal (x .subtype) b (x .address)) (λ d. onGood (fieldAt s (d .at) (bytes ":203:") (Count (paymentsAt s (c .at) .n))) (λ b. refusal (x .subtype) b (x .address)) (λ count f. ending s (f .at) x (settlement x u (paymentsAt s (c .at)) count))) .outcome ≡ o → BodyStands s (drop at s) x (settlementAt s at x)
       go₂ u c q (Cut b) p h = absurd (ok b h)
-      go₂ u c q (Done d) p h = on-reading s (d .at) (bytes ":203:") (Count (paymentsAt s (c .at) .n)) (x .address) _ h (λ i f q₃ r.
-          on-ending s (f .at) (x .address) (settlement x u (paymentsAt s (c .at)) i) r (λ at-end last.
+      go₂ u c q (Done d) p h = on-reading s (d .at) (bytes ":203:") (Count (paymentsAt s (c .at) .n)) (x .subtype) (x .address) _ h (λ i f q₃ r.
+          on-ending s (f .at) x (settlement x u (paymentsAt s (c .at)) i) r (λ at-end last.
           let nil = drop-of-length-le s (ltb-false (f .at) (length s) at-end) in
           let same : settlementAt s at x ≡ settlement x u (paymentsAt s (c .at)) i = simp (q, p, q₃, at-end) in
           let g = terms-sound s at q in
@@ -415,7 +410,7 @@ module _ (o : Outcome) (ok : (b : Break) → Refused b ≡ o → ⊥) where
             parts = record { numbers = g .numbers-part; date = g .date-part; activation = g .activation-part; payments = w .parts; count = v .text };
           })))
 
-      go₁ : (t : Stated) → termsAt s at ≡ t → onWhole t (λ b. refusal b (x .address)) (λ u c. onDone (paymentsAt s (c .at) .ending) (λ b. refusal b (x .address)) (λ d. onGood (fieldAt s (d .at) (bytes ":203:") (Count (paymentsAt s (c .at) .n))) (λ b. refusal b (x .address)) (λ count f. ending s (f .at) (x .address) (settlement x u (paymentsAt s (c .at)) count)))) .outcome ≡ o → BodyStands s (drop at s) x (settlementAt s at x)
+      go₁ : (t : Stated) → termsAt s at ≡ t → onWhole t (λ b. refusal (x .subtype) b (x .address)) (λ u c. onDone (paymentsAt s (c .at) .ending) (λ b. refusal (x .subtype) b (x .address)) (λ d. onGood (fieldAt s (d .at) (bytes ":203:") (Count (paymentsAt s (c .at) .n))) (λ b. refusal (x .subtype) b (x .address)) (λ count f. ending s (f .at) x (settlement x u (paymentsAt s (c .at)) count)))) .outcome ≡ o → BodyStands s (drop at s) x (settlementAt s at x)
       go₁ (Whole u c) q h = go₂ u c q (paymentsAt s (c .at) .ending) refl h
       go₁ (Partial b) q h = absurd (ok b h)
 
@@ -426,7 +421,7 @@ module _ (o : Outcome) (ok : (b : Break) → Refused b ≡ o → ⊥) where
 
   recall-ends : (s : List ℕ) (at : ℕ) (x : Head) → recallAt s at x .outcome ≡ o → RecallStands (drop at s) x (recallAt s at x)
   unfolding recallAt
-  recall-ends s at x h = on-ending s at (x .address) (bare Recall x) h (λ at-end last.
+  recall-ends s at x h = on-ending s at x (bare Recall x) h (λ at-end last.
       let same : recallAt s at x ≡ bare Recall x = simp at-end in
       record { recalls = last; of = ap (λ (y : Reading). y .head) same; nil = drop-of-length-le s (ltb-false at (length s) at-end) })
 

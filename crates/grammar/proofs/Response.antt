@@ -24,7 +24,7 @@ use Rattle.scan.specs.declared.At.{At}
 use Rattle.scan.specs.declared.At.the-variants.{Next, No}
 use Rattle.scan.specs.declared.Cursor.{Cursor}
 use Rattle.scan.specs.Spelling.{valueOf}
-use Rattle.values.specs.Values.{textOf, onDay}
+use Rattle.values.specs.Values.{noPart, textOf, codeOf, onDay}
 use Rattle.values.specs.declared.Part.{Part}
 use Rattle.values.proofs.Alike.{by-cond}
 use Rattle.values.specs.Grammar.{IsBin}
@@ -32,8 +32,8 @@ use Rattle.fields.specs.Fields.{absent, broken, wrong, item, onGood, fieldAt}
 use Rattle.fields.specs.declared.Item.{Item}
 use Rattle.fields.specs.declared.Field.{Field}
 use Rattle.fields.specs.declared.Field.the-variants.{Good, Bad}
-use Rattle.fields.specs.declared.Kind.the-variants.{Reference, Numeral, Word, Bin}
-use Rattle.reply.specs.Reply.{codeOf, onSecond, onOf, onHow, onWith, ending, noPart, refused, responseNumberAt, requestReferenceAt, batchAt, settledAt, rejectedAt, endedAt, answerAt, settlementOf, recallOf, settlementAt, recallAt, head, responseAt}
+use Rattle.fields.specs.declared.Kind.the-variants.{Empty, Reference, Numeral, Word, Bin}
+use Rattle.reply.specs.Reply.{onSecond, onOf, onHow, onWith, ending, refused, responseNumberAt, requestReferenceAt, batchAt, settledAt, rejectedAt, endedAt, answerAt, settlementOf, recallOf, settlementAt, recallAt, head, responseAt}
 use Rattle.reply.specs.declared.Head.{Head}
 use Rattle.reply.specs.declared.Batch.{Batch}
 use Rattle.reply.specs.declared.Batched.{Batched}
@@ -87,7 +87,7 @@ module _ (s : List ℕ) where
 
   name-part : (at : ℕ) → NamePart (requestReferenceAt s at)
   unfolding requestReferenceAt codeOf
-  name-part at = go (fieldAt s at (bytes ":77E:") (Word 0))
+  name-part at = go (fieldAt s at (bytes ":77E:") Empty)
     where
       read : (p : ℕ) (x : Field) → fieldAt s p (bytes ":21:") Reference ≡ x → NamePart x
       read p (Good i c) q =

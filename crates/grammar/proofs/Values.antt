@@ -25,12 +25,13 @@ use Rattle.values.specs.Letters.{isStatus, isFourth}
 use Rattle.values.specs.Grammar.{IsWord, IsBin, IsTime, IsAmount, IsLetters, hundredthsIn, centsIn}
 use Rattle.fields.specs.Grammar.{Line}
 use Rattle.terms.specs.declared.Activation.{Activation}
+use Rattle.payments.specs.Payments.{noPayment}
 use Rattle.payments.specs.declared.Payment.{Payment}
 use Rattle.request.specs.Request.{requestAt}
 use Rattle.request.specs.declared.Head.{Head}
 use Rattle.request.specs.declared.Outcome.the-variants.{Settlement, Recall}
 use Rattle.request.specs.declared.Reading.{Reading}
-use Rattle.grammar.specs.Values.{noPayment, Spells, SpellsFour, GivenFour, GivesHead, GivesPayment, InDay, GivesSettlement, GivesRecall}
+use Rattle.grammar.specs.Values.{Spells, SpellsFour, GivenFour, GivesHead, GivesPayment, InDay, GivesSettlement, GivesRecall}
 use Rattle.grammar.proofs.Meanings.{numbered-range}
 use Rattle.grammar.specs.Text.{PaymentText, credit, debit, PaymentsText, none-left, one-more, ActivationSays, PaymentSays, PaymentsSay, HeadSays, SettlementSays}
 use Rattle.grammar.proofs.Request.{settlement-says, recall-says}

@@ -10,14 +10,14 @@ use Rattle.codes.specs.Codes.{packed, longOf}
 use Rattle.scan.specs.Spelling.{valueOf}
 use Rattle.values.specs.Values.{textOf}
 use Rattle.values.specs.declared.Part.{Part}
-use Rattle.values.specs.Grammar.{IsReference, IsNumeral, IsWord, IsBin, IsNumbers, IsDate, IsTime, IsAmount, IsLetters, IsCount, centsIn}
+use Rattle.values.specs.Grammar.{IsEmpty, IsReference, IsNumeral, IsWord, IsBin, IsNumbers, IsDate, IsTime, IsAmount, IsLetters, IsCount, centsIn}
 use Rattle.fields.specs.Grammar.{Line}
 use Rattle.terms.specs.declared.Activation.{Activation}
 use Rattle.terms.specs.declared.Activation.the-variants.{AtOnce, Minute}
 use Rattle.payments.specs.declared.Payment.{Payment}
 use Rattle.request.specs.declared.Head.{Head}
 use Rattle.request.specs.declared.Reading.{Reading}
-use Rattle.grammar.specs.Values.{noPayment}
+use Rattle.payments.specs.Payments.{noPayment}
 
 -- ---- the text
 
@@ -29,7 +29,7 @@ pub record HeadText (kind : ℕ) (s r : List ℕ) : Type 0 where
   pub r₄ : List ℕ
   pub reference : Line (bytes ":20:") IsReference s r₁
   pub three-digits : Line (bytes ":12:") (λ (v : List ℕ). IsNumeral 3 v × (valueOf 0 v ≡ kind)) r₁ r₂
-  pub empty : Line (bytes ":77E:") (IsWord 0) r₂ r₃
+  pub empty : Line (bytes ":77E:") IsEmpty r₂ r₃
   pub stream : Line (bytes ":22A:") (IsWord 4) r₃ r₄
   pub bin : Line (bytes ":119:") (IsBin (stream .value)) r₄ r
 

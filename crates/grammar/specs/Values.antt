@@ -11,14 +11,11 @@ use Rattle.clock.specs.Clock.{minutesOfDay}
 use Rattle.values.specs.Grammar.{IsReference, IsWord, IsBin, IsLetters}
 use Rattle.terms.specs.declared.Activation.{Activation}
 use Rattle.terms.specs.declared.Activation.the-variants.{AtOnce, Minute}
+use Rattle.payments.specs.Payments.{noPayment}
 use Rattle.payments.specs.declared.Payment.{Payment}
-use Rattle.payments.specs.Payments.{nothing, payment}
 use Rattle.request.specs.declared.Head.{Head}
 use Rattle.request.specs.declared.Reading.{Reading}
 use Rattle.settle.specs.Rules.{mostCents}
-
-abbrev pub noPayment : Payment
-noPayment = payment nothing nothing nothing nothing
 
 -- the characters of a reference's or a BIN's code
 pub record Spells (v : List ℕ) (c : Code) : Type 0 where

@@ -4,8 +4,8 @@
 // An order: sub type, 18 digits; reference, 16 bytes filled up with zeros; stream; BIN, 16 bytes; number; count;
 // date; activation, 0 or the minute and 1; payments; the buffer's length; ten times the side, 0 for a credit or
 // the letters and 1, the cents and the bank; a line feed. Numbers have 18 digits.
-use administrator::Line;
 use administrator::Order;
+use administrator::Payable;
 use administrator::Side;
 use codes::Code;
 use response::Written;
@@ -36,19 +36,19 @@ fn side(v: u64) -> Side {
     Side::Debit(v - 1)
 }
 
-fn line(s: &[u8], at: usize) -> Line
+fn line(s: &[u8], at: usize) -> Payable
     requires { ⌜ at ≤ 717 ⌝ }
 {
     let side = side(number(s, at));
-    Line {
+    Payable {
         side,
         cents: number(s, at + 18),
         bank: number(s, at + 36),
     }
 }
 
-fn lines(s: &[u8]) -> [Line; 10] {
-    let none = Line {
+fn lines(s: &[u8]) -> [Payable; 10] {
+    let none = Payable {
         side: Side::Credit,
         cents: 0,
         bank: 0,
@@ -66,7 +66,7 @@ fn order(s: &[u8]) -> Order {
     let reference = codes::long_code(s, 18, Code::LONGEST);
     let bin = codes::long_code(s, 52, Code::LONGEST);
     let activation = activation(number(s, 122));
-    let lines = lines(s);
+    let payments = lines(s);
     Order {
         subtype: number(s, 0),
         reference,
@@ -76,7 +76,7 @@ fn order(s: &[u8]) -> Order {
         count: number(s, 86),
         date: number(s, 104),
         activation,
-        lines,
+        payments,
         n: number(s, 140) as usize,
     }
 }

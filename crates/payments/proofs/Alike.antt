@@ -14,11 +14,11 @@ use Rattle.scan.specs.declared.At.the-variants.{Next, No}
 use Rattle.scan.specs.declared.Cursor.{Cursor}
 use Rattle.scan.proofs.Alike.{Alike, by-next}
 use Rattle.values.specs.Values.{stands}
-use Rattle.fields.specs.Fields.{wrong, place, fieldAt}
+use Rattle.fields.specs.Fields.{wrong, nothing, place, fieldAt}
 use Rattle.fields.specs.declared.Item.{Item}
 use Rattle.fields.specs.declared.Kind.the-variants.{Word, Side, Amount, Letters}
 use Rattle.fields.proofs.Alike.{Reaches, here, Or, field-in, field-alike, in-then, alike-then, look-alike}
-use Rattle.payments.specs.Payments.{nothing, payment, bankAt, creditAt, debitAt, paymentAt, moreAt, onPaid, ended, paymentsOn, paymentsAt, none}
+use Rattle.payments.specs.Payments.{payment, bankAt, creditAt, debitAt, paymentAt, moreAt, onPaid, ended, paymentsOn, paymentsAt, none}
 use Rattle.payments.specs.declared.Payment.{Payment}
 use Rattle.payments.specs.declared.Paid.{Paid}
 use Rattle.payments.specs.declared.Paid.the-variants.{One, Unpaid}

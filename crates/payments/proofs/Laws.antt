@@ -1,27 +1,30 @@
 -- The steps over a payment, and a turn of the loop over the payments.
 use Prim.Native.Nat.{ℕ, suc, _+_, _-_, _≤_, _<_}
-use mathlib.Core.Path.{_≡_}
+use mathlib.Core.Path.{_≡_, refl, _∙_}
 use mathlib.Core.List.{List}
 use mathlib.Core.Bool.{Bool, true, false, not}
 use native.Mathlib.Omega.{arith}
 use borrow.Author.Tests.{eq-eqb, ne-eqb, not-true, not-false}
-use lib.ListN.{length, set, length-set}
+use lib.ListN.{length, set, replicate, length-set}
 use Rattle.chars.specs.Words.{bytes}
 use Rattle.scan.specs.Scan.{litAt}
 use Rattle.scan.specs.declared.Cursor.{Cursor}
 use Rattle.scan.specs.declared.At.{At}
 use Rattle.scan.specs.declared.At.the-variants.{Next, No}
-use Rattle.fields.specs.Fields.{wrong, place, fieldAt, whyNot}
+use Rattle.fields.specs.Fields.{wrong, nothing, place, fieldAt, whyNot}
 use Rattle.fields.specs.declared.Break.{Break}
 use Rattle.fields.specs.declared.Item.{Item}
 use Rattle.fields.specs.declared.Field.{Field}
 use Rattle.fields.specs.declared.Field.the-variants.{Good, Bad}
 use Rattle.fields.specs.declared.Kind.the-variants.{Word, Side, Amount, Letters}
-use Rattle.payments.specs.Payments.{nothing, payment, bankAt, creditAt, debitAt, paymentAt, moreAt, ended, paymentsOn, paymentsAt}
+use Rattle.payments.specs.Payments.{payment, noPayment, bankAt, creditAt, debitAt, paymentAt, moreAt, ended, paymentsOn, paymentsAt}
 use Rattle.payments.specs.declared.Payment.{Payment}
 use Rattle.payments.specs.declared.Paid.{Paid}
 use Rattle.payments.specs.declared.Paid.the-variants.{One, Unpaid}
 use Rattle.payments.specs.declared.Ending.the-variants.{Done, Cut}
+
+pub no-payment : {i : Item} → i ≡ nothing → payment i i i i ≡ noPayment
+no-payment e = simp e
 
 module _ (s : List ℕ) (at : ℕ) where
   module _ (side amount : Item) where
@@ -37,9 +40,9 @@ module _ (s : List ℕ) (at : ℕ) where
     unfolding creditAt
     credit-1 p p′ b = simp (← p, p′, b)
 
-    pub credit-2 : {r : At} {o : Paid} → r ≡ litAt s at (bytes ":113:") → r ≡ No → o ≡ bankAt s at side amount nothing → o ≡ creditAt s at side amount
+    pub credit-2 : {r : At} {i : Item} {o : Paid} → r ≡ litAt s at (bytes ":113:") → r ≡ No → i ≡ nothing → o ≡ bankAt s at side amount i → o ≡ creditAt s at side amount
     unfolding creditAt
-    credit-2 p p′ q = simp (← p, p′, ← q)
+    credit-2 p p′ e q = q ∙ simp (← p, p′, e)
 
     pub debit-1 : {f : Field} {b w : Break} → f ≡ fieldAt s at (bytes ":113:") Letters → f ≡ Bad b → w ≡ whyNot f → Unpaid w ≡ debitAt s at side amount
     unfolding debitAt
@@ -78,6 +81,10 @@ pub record Going (s : List ℕ) (at : ℕ) (items : List Payment) (n j : ℕ) : 
   pub room : n ≤ 10
   pub size : length items ≡ 10
   pub same : paymentsOn (10 - n) s j n items ≡ paymentsAt s at
+
+pub going-from : (s : List ℕ) (at : ℕ) {p : Payment} → p ≡ noPayment → Going s at (replicate 10 p) 0 at
+unfolding paymentsAt
+going-from s at e = record { room = omega arith; size = refl; same = rw e }
 
 module _ {s : List ℕ} {at n j : ℕ} {items : List Payment} (g : Going s at items n j) where
   pub going-full : 10 ≤ n → ended (Done (place j)) n items ≡ paymentsAt s at

@@ -8,7 +8,7 @@ use Rattle.chars.specs.Words.{bytes}
 use Rattle.scan.specs.Scan.{onNext, litAt}
 use Rattle.scan.specs.declared.Cursor.{Cursor}
 use Rattle.values.specs.Values.{stands}
-use Rattle.fields.specs.Fields.{wrong, item, place, onGood, fieldAt}
+use Rattle.fields.specs.Fields.{wrong, nothing, place, onGood, fieldAt}
 use Rattle.fields.specs.declared.Break.{Break}
 use Rattle.fields.specs.declared.Item.{Item}
 use Rattle.fields.specs.declared.Kind.the-variants.{Word, Side, Amount, Letters}
@@ -19,11 +19,12 @@ use Rattle.payments.specs.declared.Ending.{Ending}
 use Rattle.payments.specs.declared.Ending.the-variants.{Done, Cut}
 use Rattle.payments.specs.declared.Payments.{Payments}
 
-abbrev pub nothing : Item
-nothing = item 0 0 0
-
 abbrev pub payment : Item → Item → Item → Item → Payment
 payment side amount letters bank = record { side = side; amount = amount; letters = letters; bank = bank }
+
+-- at a place that holds none
+abbrev pub noPayment : Payment
+noPayment = payment nothing nothing nothing nothing
 
 -- "102 is a bank, 4 of A-Z 0-9."
 unfoldable pub bankAt : List ℕ → ℕ → Item → Item → Item → Paid
@@ -56,7 +57,7 @@ onPaid (One p c) d k = k p c
 onPaid (Unpaid b) d k = d b
 
 abbrev pub none : List Payment
-none = replicate 10 (payment nothing nothing nothing nothing)
+none = replicate 10 noPayment
 
 abbrev pub ended : Ending → ℕ → List Payment → Payments
 ended e n items = record { ending = e; n = n; items = items }

@@ -6,9 +6,8 @@ use fields::Item;
 use fields::Kind;
 use scan::At;
 use scan::Cursor;
-use values::Part;
 ghost use mathlib.Core.Path.{_≡_};
-ghost use Rattle.payments.specs.Payments.{bankAt, creditAt, debitAt, paymentAt, moreAt, paymentsAt};
+ghost use Rattle.payments.specs.Payments.{noPayment, bankAt, creditAt, debitAt, paymentAt, moreAt, paymentsAt};
 
 // A payment's fields. Its side is 0 for CR and 1 for DR; a credit's letters are 0.
 pub struct Payment {
@@ -16,6 +15,21 @@ pub struct Payment {
     pub amount: Item,
     pub letters: Item,
     pub bank: Item,
+}
+
+impl Payment {
+    // At a place that holds none.
+    pub fn nothing() -> Payment
+        ensures { λ r. ⌜ r ≡ noPayment ⌝ }
+    {
+        let item = Item::nothing();
+        Payment {
+            side: item,
+            amount: item,
+            letters: item,
+            bank: item,
+        }
+    }
 }
 
 // A payment and the cursor past it, or the break.
@@ -51,11 +65,7 @@ fn read_credit(s: &[u8], c: Cursor, side: Item, amount: Item) -> Paid
     if let At::Next(_) = scan::lit(s, at, b":113:") {
         return Paid::Unpaid(Break::wrong(at, Refusal::Malformed));
     }
-    let none = Item {
-        part: Part { start: 0, end: 0 },
-        number: 0,
-    };
-    read_bank(s, c, side, amount, none)
+    read_bank(s, c, side, amount, Item::nothing())
 }
 
 // After 32B of a debit: 113.
@@ -114,17 +124,7 @@ fn more(s: &[u8], c: Cursor) -> bool
 pub fn read_payments(s: &[u8], c: Cursor) -> Payments
     ensures { λ r. ⌜ r ≡ paymentsAt (now (s .entry)) (c .at) ⌝ }
 {
-    let nothing = Item {
-        part: Part { start: 0, end: 0 },
-        number: 0,
-    };
-    let none = Payment {
-        side: nothing,
-        amount: nothing,
-        letters: nothing,
-        bank: nothing,
-    };
-    let mut items = [none; 10];
+    let mut items = [Payment::nothing(); 10];
     let mut n = 0;
     let mut at = c.at;
     while n < 10 {

@@ -19,7 +19,7 @@ use Rattle.response.specs.Values.{isNumber, isOutcome, isAnswer, isSettlement, 
 use Rattle.response.specs.declared.Settlement.{Settlement}
 use Rattle.response.specs.declared.Recall.{Recall}
 use Rattle.reply.proofs.Digits.{all-append, digits-codes, code-bytes, code-no-zero}
-use Rattle.reply.proofs.Sound.{Referred, Named, Sound, SoundRecall}
+use Rattle.reply.specs.Sound.{Referred, Named, Sound, SoundRecall}
 
 -- ---- the characters of codes
 

@@ -4,14 +4,11 @@ use mathlib.Core.Path.{_≡_, _∙_}
 use mathlib.Core.List.{List}
 use borrow.Author.Tests.{eq-eqb, ne-eqb, lt-ltb, le-ltb}
 use lib.ListN.{length}
-use lib.Seq.{take-length}
 use Rattle.chars.specs.Words.{bytes}
 use Rattle.chars.specs.declared.Refusal.the-variants.{Malformed, OtherSubType}
 use Rattle.clock.specs.Clock.{secondOf}
 use Rattle.clock.specs.declared.Second.{Second}
 use Rattle.clock.specs.declared.Second.the-variants.{Number as Clocked, Untrue as Unclocked}
-use Rattle.codes.specs.Codes.{longAt}
-use Rattle.codes.specs.declared.Code.{Code}
 use Rattle.dates.specs.Dates.{dayOf}
 use Rattle.dates.specs.declared.Day.{Day}
 use Rattle.dates.specs.declared.Day.the-variants.{Number, Untrue}
@@ -19,19 +16,19 @@ use Rattle.scan.specs.Scan.{litAt}
 use Rattle.scan.specs.declared.At.{At}
 use Rattle.scan.specs.declared.At.the-variants.{Next, No}
 use Rattle.scan.specs.declared.Cursor.{Cursor}
-use Rattle.values.specs.Values.{textOf}
+use Rattle.values.specs.Values.{noPart, codeOf}
 use Rattle.values.specs.declared.Part.{Part}
 use Rattle.fields.specs.Fields.{absent, broken, item, fieldAt, whyNot}
 use Rattle.fields.specs.declared.Break.{Break}
 use Rattle.fields.specs.declared.Item.{Item}
 use Rattle.fields.specs.declared.Field.{Field}
 use Rattle.fields.specs.declared.Field.the-variants.{Good, Bad}
-use Rattle.fields.specs.declared.Kind.the-variants.{Reference, Numeral, Word, Bin}
+use Rattle.fields.specs.declared.Kind.the-variants.{Empty, Reference, Numeral, Word, Bin}
 use Rattle.response.specs.declared.Outcome.{Outcome}
 use Rattle.response.specs.declared.Outcome.the-variants.{Settled, Rejected}
 use Rattle.response.specs.declared.Answer.{Answer}
 use Rattle.response.specs.declared.Answer.the-variants.{Recalled, Kept}
-use Rattle.reply.specs.Reply.{codeOf, noPart, refused, responseNumberAt, requestReferenceAt, batchAt, settledAt, rejectedAt, endedAt, answerAt, whyLost, whyUnclear, whyWithout, settlementOf, recallOf, settlementAt, recallAt, head, responseAt}
+use Rattle.reply.specs.Reply.{refused, responseNumberAt, requestReferenceAt, batchAt, settledAt, rejectedAt, endedAt, answerAt, whyLost, whyUnclear, whyWithout, settlementOf, recallOf, settlementAt, recallAt, head, responseAt}
 use Rattle.reply.specs.declared.Head.{Head}
 use Rattle.reply.specs.declared.Batch.{Batch}
 use Rattle.reply.specs.declared.Batched.{Batched}
@@ -40,11 +37,11 @@ use Rattle.reply.specs.declared.Ended.{Ended}
 use Rattle.reply.specs.declared.Ended.the-variants.{How, Unclear}
 use Rattle.reply.specs.declared.Answered.{Answered}
 use Rattle.reply.specs.declared.Answered.the-variants.{With, Without}
+use Rattle.reply.specs.declared.Reply.the-variants.{Refused}
 use Rattle.reply.specs.declared.ReadResponse.{ReadResponse}
 
-pub code-is : (s : List ℕ) (p : Part) {t : List ℕ} {c : Code} → t ≡ textOf s p → c ≡ longAt t 0 (length t) → c ≡ codeOf s p
-unfolding codeOf longAt
-code-is s p {t} e q = q ∙ simp (take-length {A = ℕ}, e)
+pub refused-is : (b : Break) {p : Part} → p ≡ noPart → record { reply = Refused b; parts = record { number = p; subtype = p; reference = p; stream = p; bin = p; status = p; detail = p } } ≡ refused b
+refused-is b e = simp e
 
 module _ (s : List ℕ) where
   pub number-1 : {r : At} {b : Break} → r ≡ litAt s 0 (bytes ":20:") → r ≡ No → b ≡ absent 0 → Bad b ≡ responseNumberAt s
@@ -60,11 +57,11 @@ module _ (s : List ℕ) where
   number-3 p p′ q q′ = simp (← p, p′, ← q, q′)
 
 module _ (s : List ℕ) (at : ℕ) where
-  pub reference-1 : {f : Field} {b w : Break} → f ≡ fieldAt s at (bytes ":77E:") (Word 0) → f ≡ Bad b → w ≡ whyNot f → Bad w ≡ requestReferenceAt s at
+  pub reference-1 : {f : Field} {b w : Break} → f ≡ fieldAt s at (bytes ":77E:") Empty → f ≡ Bad b → w ≡ whyNot f → Bad w ≡ requestReferenceAt s at
   unfolding requestReferenceAt
   reference-1 p p′ w = simp (← p, w, p′)
 
-  pub reference-2 : {f g : Field} {i : Item} {c : Cursor} → f ≡ fieldAt s at (bytes ":77E:") (Word 0) → f ≡ Good i c → g ≡ fieldAt s (c .at) (bytes ":21:") Reference → g ≡ requestReferenceAt s at
+  pub reference-2 : {f g : Field} {i : Item} {c : Cursor} → f ≡ fieldAt s at (bytes ":77E:") Empty → f ≡ Good i c → g ≡ fieldAt s (c .at) (bytes ":21:") Reference → g ≡ requestReferenceAt s at
   unfolding requestReferenceAt
   reference-2 p p′ q = q ∙ simp (← p, p′)
 
@@ -124,9 +121,9 @@ module _ (s : List ℕ) (at : ℕ) where
   unfolding answerAt
   answer-1 p p′ w = simp (← p, w, p′)
 
-  pub answer-2 : {f : Field} {i : Item} {c : Cursor} → f ≡ fieldAt s at (bytes ":451:") (Numeral 1) → f ≡ Good i c → i .number ≡ 0 → With Recalled (i .part) noPart c ≡ answerAt s at
+  pub answer-2 : {f : Field} {i : Item} {c : Cursor} {d : Part} → f ≡ fieldAt s at (bytes ":451:") (Numeral 1) → f ≡ Good i c → i .number ≡ 0 → d ≡ noPart → With Recalled (i .part) d c ≡ answerAt s at
   unfolding answerAt
-  answer-2 p p′ z = simp (← p, p′, eq-eqb _ _ z)
+  answer-2 p p′ z d = simp (← p, p′, eq-eqb _ _ z, d)
 
   pub answer-3 : {f g : Field} {i : Item} {c : Cursor} {b w : Break} → f ≡ fieldAt s at (bytes ":451:") (Numeral 1) → f ≡ Good i c → i .number ≡ 1 → g ≡ fieldAt s (c .at) (bytes ":432:") (Numeral 2) → g ≡ Bad b → w ≡ whyNot g → Without w ≡ answerAt s at
   unfolding answerAt

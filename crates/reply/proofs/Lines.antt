@@ -26,7 +26,7 @@ use Rattle.fields.specs.Fields.{item, place, valueAt, fieldAt}
 use Rattle.fields.specs.declared.Field.{Field}
 use Rattle.fields.specs.declared.Field.the-variants.{Good}
 use Rattle.fields.specs.declared.Kind.{Kind}
-use Rattle.fields.specs.declared.Kind.the-variants.{Reference, Numeral, Word, Bin}
+use Rattle.fields.specs.declared.Kind.the-variants.{Empty, Reference, Numeral, Word, Bin}
 use Rattle.reply.proofs.Digits.{digits-all, value-back, cr-no-code, begins-before}
 
 -- a step found the text v, its number w, and the rest after its line
@@ -89,8 +89,8 @@ module _ (s : List ℕ) where
   unfolding wordAt
   word-value n v a r all e h = rw (← e) (simp (code-reads s a v r h all))
 
-  pub empty-found : (at : ℕ) (tag rest : List ℕ) → drop at s ≡ lined tag [] ++ rest → Found s (fieldAt s at tag (Word 0)) [] (shortAt s (at + length tag)) rest
-  empty-found at tag rest h = found at tag [] rest (Word 0) (shortAt s (at + length tag)) h (word-value 0 [] (at + length tag) (crlf ++ rest) tt refl)
+  pub empty-found : (at : ℕ) (tag rest : List ℕ) → drop at s ≡ lined tag [] ++ rest → Found s (fieldAt s at tag Empty) [] 0 rest
+  empty-found at tag rest h = found at tag [] rest Empty 0 h (λ g. ap (Read 0) (omega arith))
 
   pub word-found : (at : ℕ) (tag v rest : List ℕ) → length v ≡ 4 → All isCode v → drop at s ≡ lined tag v ++ rest → Found s (fieldAt s at tag (Word 4)) v (packed 4 v) rest
   word-found at tag v rest e all h =

@@ -22,7 +22,7 @@ use Rattle.scan.specs.declared.Fixed.{Fixed}
 use Rattle.scan.specs.declared.Fixed.the-variants.{Value as Digits, No as Unfit}
 use Rattle.scan.specs.Spelling.{All, valueOf}
 use Rattle.scan.proofs.Standing.{lit-next, lit-sound, cut, codes-sound, code-sound, number-sound}
-use Rattle.values.specs.Values.{malformed, textOf, onDigits, onDay, forbiddenAt, referenceAt, numeralAt, wordAt, binAt}
+use Rattle.values.specs.Values.{malformed, noPart, textOf, codeOf, onDigits, onDay, forbiddenAt, referenceAt, numeralAt, wordAt, binAt}
 use Rattle.values.specs.declared.Part.{Part}
 use Rattle.values.specs.declared.Value.{Value}
 use Rattle.values.specs.declared.Value.the-variants.{Read, Unread}
@@ -32,7 +32,7 @@ use Rattle.fields.specs.declared.Item.{Item}
 use Rattle.fields.specs.declared.Field.{Field}
 use Rattle.fields.specs.declared.Field.the-variants.{Good, Bad}
 use Rattle.fields.specs.declared.Kind.{Kind}
-use Rattle.fields.specs.declared.Kind.the-variants.{Reference, Numeral, Word, Bin}
+use Rattle.fields.specs.declared.Kind.the-variants.{Empty, Reference, Numeral, Word, Bin}
 use Rattle.response.specs.Values.{isOutcome, isAnswer, isSettlement, isRecall}
 use Rattle.response.specs.Texts.{line, headText, batchText, settledText, rejectedText, outcomeText, settlementText, answerText, recallText}
 use Rattle.clock.specs.Clock.{secondOf, hhmmssOf}
@@ -60,9 +60,9 @@ use Rattle.reply.specs.declared.Answered.the-variants.{With, Without}
 use Rattle.reply.specs.declared.Reply.{Reply}
 use Rattle.reply.specs.declared.Reply.the-variants.{Settlement, Recall, Refused}
 use Rattle.reply.specs.declared.ReadResponse.{ReadResponse}
-use Rattle.reply.specs.Reply.{onSecond, onOf, onHow, onWith, ending, codeOf, noPart, refused, responseNumberAt, requestReferenceAt, batchAt, settledAt, rejectedAt, endedAt, answerAt, settlementOf, recallOf, settlementAt, recallAt, head, responseAt}
+use Rattle.reply.specs.Reply.{onSecond, onOf, onHow, onWith, ending, refused, responseNumberAt, requestReferenceAt, batchAt, settledAt, rejectedAt, endedAt, answerAt, settlementOf, recallOf, settlementAt, recallAt, head, responseAt}
 use Rattle.reply.proofs.Digits.{value-small, digits-back, moment-digits}
-use Rattle.reply.proofs.Sound.{Referred, Named, Sound, SoundRecall}
+use Rattle.reply.specs.Sound.{Referred, Named, Sound, SoundRecall}
 use Rattle.reply.proofs.Allowed.{referred-text, stream-text, bin-text, sound-settlement, sound-recall}
 use Rattle.reply.proofs.RoundTrip.{zero-status, one-status, settlement-lines, recall-lines, settlement-short, recall-short}
 use Rattle.reply.proofs.Lines.{lined, line-apart, forbidden-there}
@@ -156,11 +156,20 @@ module _ (s : List ℕ) where
   word-order : (n a v e : ℕ) → wordAt s a n ≡ Read v e → a ≤ e
   word-order n a v e h = omega (arith, code-sound s a n (word-inside n a v e h .0) .1)
 
-  pub empty-stood : (at : ℕ) (tag : List ℕ) {i : Item} {c : Cursor} → fieldAt s at tag (Word 0) ≡ Good i c → drop at s ≡ lined tag [] ++ drop (c .at) s
+  empty-place : (a v e : ℕ) → Read 0 a ≡ Read v e → a ≡ e
+  empty-place a v e h = cc
+
+  empty-order : (a v e : ℕ) → Read 0 a ≡ Read v e → a ≤ e
+  empty-order a v e h = omega (arith, empty-place a v e h)
+
+  no-text : (a e : ℕ) → a ≡ e → textOf s (between a e) ≡ []
+  unfolding textOf
+  no-text a e h = let z : e - a ≡ 0 = omega arith in rw z
+
+  pub empty-stood : (at : ℕ) (tag : List ℕ) {i : Item} {c : Cursor} → fieldAt s at tag Empty ≡ Good i c → drop at s ≡ lined tag [] ++ drop (c .at) s
   empty-stood at tag {i} {c} h =
-      let g = stood at tag (Word 0) (word-order 0) h in
-      let w = word-inside 0 (i .part .start) (i .number) (i .part .end) (g .value) in
-      g .line ∙ ap (λ (l : List ℕ). lined tag l ++ drop (c .at) s) (text-is (i .part .start) (i .part .end) 0 (code-sound s (i .part .start) 0 (w .0) .1))
+      let g = stood at tag Empty empty-order h in
+      g .line ∙ ap (λ (l : List ℕ). lined tag l ++ drop (c .at) s) (no-text (i .part .start) (i .part .end) (empty-place (i .part .start) (i .number) (i .part .end) (g .value)))
 
   -- four characters of a code and their number
   pub record Four (v : List ℕ) (w : ℕ) : Type 0 where
@@ -306,7 +315,7 @@ module _ (s : List ℕ) where
 
   pub reference-back : (at : ℕ) {i : Item} {c : Cursor} → requestReferenceAt s at ≡ Good i c → (drop at s ≡ line ":77E:" [] ++ (line ":21:" (longText (codeOf s (i .part))) ++ drop (c .at) s)) × Referred (codeOf s (i .part))
   unfolding requestReferenceAt codeOf
-  reference-back at {i} {c} h = taken no-good (fieldAt s at (bytes ":77E:") (Word 0)) h (λ j d g e.
+  reference-back at {i} {c} h = taken no-good (fieldAt s at (bytes ":77E:") Empty) h (λ j d g e.
       let w = reference-stood s (d .at) (bytes ":21:") e in
       (empty-stood s at (bytes ":77E:") g ∙ ap (λ (m : List ℕ). line ":77E:" [] ++ m) (w .0), w .1))
 

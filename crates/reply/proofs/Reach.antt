@@ -14,7 +14,6 @@ use Rattle.chars.specs.declared.Refusal.the-variants.{OtherSubType}
 use Rattle.clock.specs.Clock.{secondOf}
 use Rattle.clock.specs.declared.Second.{Second}
 use Rattle.clock.specs.declared.Second.the-variants.{Number as Clocked, Untrue as Unclocked}
-use Rattle.codes.specs.Codes.{longOf}
 use Rattle.dates.specs.Dates.{dayOf}
 use Rattle.dates.specs.declared.Day.{Day}
 use Rattle.dates.specs.declared.Day.the-variants.{Number, Untrue}
@@ -26,18 +25,18 @@ use Rattle.values.specs.Values.{onDay, numeralAt}
 use Rattle.values.specs.declared.Part.{Part}
 use Rattle.values.specs.declared.Value.{Value}
 use Rattle.values.specs.declared.Value.the-variants.{Read, Unread}
-use Rattle.values.proofs.Alike.{EndsIn, text-alike, numeral-alike, numeral-ends, word-ends}
+use Rattle.values.proofs.Alike.{EndsIn, code-of-alike, numeral-alike, numeral-ends, word-ends}
 use Rattle.fields.specs.Fields.{absent, broken, wrong, item, place, onRead, onGood, fieldAt}
 use Rattle.fields.specs.declared.Break.{Break}
 use Rattle.fields.specs.declared.Item.{Item}
 use Rattle.fields.specs.declared.Field.{Field}
 use Rattle.fields.specs.declared.Field.the-variants.{Good, Bad}
 use Rattle.fields.specs.declared.Kind.{Kind}
-use Rattle.fields.specs.declared.Kind.the-variants.{Reference, Numeral, Word, Bin}
+use Rattle.fields.specs.declared.Kind.the-variants.{Empty, Reference, Numeral, Word, Bin}
 use Rattle.fields.proofs.Alike.{Or, In, Fine, PartIn, field-in, field-near, part-in}
 use Rattle.response.specs.declared.Outcome.{Outcome}
 use Rattle.response.specs.declared.Answer.{Answer}
-use Rattle.reply.specs.Reply.{codeOf, refused, responseNumberAt, requestReferenceAt, batchAt, onSecond, settledAt, rejectedAt, endedAt, answerAt, onOf, onHow, onWith, ending, settlementOf, recallOf, settlementAt, recallAt, head, responseAt}
+use Rattle.reply.specs.Reply.{refused, responseNumberAt, requestReferenceAt, batchAt, onSecond, settledAt, rejectedAt, endedAt, answerAt, onOf, onHow, onWith, ending, settlementOf, recallOf, settlementAt, recallAt, head, responseAt}
 use Rattle.reply.specs.declared.Head.{Head}
 use Rattle.reply.specs.declared.Batch.{Batch}
 use Rattle.reply.specs.declared.Batched.{Batched}
@@ -164,23 +163,19 @@ module _ {n : ℕ} {s t : List ℕ} (a : Alike n s t) where
       go true q = rw (more-alike a at (ltb-true at n q)) (near (ltb-true at n q) (ltb at (length t)))
       go false q = past (ltb-false at n q) (ltb at (length s))
 
-  code-alike : (p : Part) → p .end ≤ n → codeOf s p ≡ codeOf t p
-  unfolding codeOf
-  code-alike p h = ap longOf (text-alike a p h)
-
   settlement-same : (h : Head) (i : Item) (b : Batch) (o : Outcome) (p q : Part) → i .part .end ≤ n → b .bin .part .end ≤ n → settlementOf s h i b o p q ≡ settlementOf t h i b o p q
   unfolding settlementOf
-  settlement-same h i b o p q u v = rw (code-alike (i .part) u, code-alike (b .bin .part) v)
+  settlement-same h i b o p q u v = rw (code-of-alike a (i .part) u, code-of-alike a (b .bin .part) v)
 
   recall-same : (h : Head) (i : Item) (x : Answer) (p q : Part) → i .part .end ≤ n → recallOf s h i x p q ≡ recallOf t h i x p q
   unfolding recallOf
-  recall-same h i x p q u = rw (code-alike (i .part) u)
+  recall-same h i x p q u = rw (code-of-alike a (i .part) u)
 
   -- 77E and 21
   reference-reads : (at : ℕ) (k k′ : Item → Cursor → ReadResponse) → at ≤ 172 → ((i : Item) (c : Cursor) → at ≤ c .at → c .at ≤ at + 56 → i .part .end ≤ c .at → Reads n (c .at) (k i c) (k′ i c)) → Reads n at (onGood (requestReferenceAt s at) refused k) (onGood (requestReferenceAt t at) refused k′)
   unfolding requestReferenceAt
   reference-reads at k k′ w g =
-      line-reads at (bytes ":77E:") (Word 0) (λ (x : Field). onGood x refused k) (λ (x : Field). onGood x refused k′) Bad _ _ (omega arith) (omega arith) (omega arith) (λ b. refl) (λ b. refl) (λ empty c q i.
+      line-reads at (bytes ":77E:") Empty (λ (x : Field). onGood x refused k) (λ (x : Field). onGood x refused k′) Bad _ _ (omega arith) tt (omega arith) (λ b. refl) (λ b. refl) (λ empty c q i.
       sooner at (c .at) (i .0) (line-reads (c .at) (bytes ":21:") Reference (λ (r : ReadResponse). r) (λ (r : ReadResponse). r) refused k k′ (omega arith) tt (omega (arith, i .1)) (λ b. refl) (λ b. refl) (λ reference d r j.
       sooner (c .at) (d .at) (j .0) (g reference d (omega (arith, i .0, j .0)) (omega (arith, i .1, j .1)) (omega (arith, j .2))))))
 

@@ -20,7 +20,7 @@ use Rattle.put.specs.Digits.{digitsOf}
 use Rattle.put.proofs.Laws.{digits-length}
 use Rattle.scan.specs.Spelling.{valueOf}
 use Rattle.scan.proofs.Standing.{past, lit-reads}
-use Rattle.values.specs.Values.{textOf}
+use Rattle.values.specs.Values.{noPart, textOf, codeOf}
 use Rattle.values.specs.declared.Part.{Part}
 use Rattle.fields.specs.Fields.{place}
 use Rattle.fields.specs.declared.Field.the-variants.{Good}
@@ -35,7 +35,7 @@ use Rattle.response.specs.declared.Answer.the-variants.{Recalled, Kept}
 use Rattle.response.specs.declared.Settlement.{Settlement as Response132}
 use Rattle.response.specs.declared.Recall.{Recall as Response134}
 use Rattle.response.specs.declared.Written.the-variants.{End}
-use Rattle.reply.specs.Reply.{codeOf, noPart, responseNumberAt, requestReferenceAt, batchAt, endedAt, answerAt, settlementOf, recallOf, responseAt}
+use Rattle.reply.specs.Reply.{responseNumberAt, requestReferenceAt, batchAt, endedAt, answerAt, settlementOf, recallOf, responseAt}
 use Rattle.reply.specs.declared.Batched.the-variants.{Of}
 use Rattle.reply.specs.declared.Ended.the-variants.{How}
 use Rattle.reply.specs.declared.Answered.the-variants.{With}
@@ -43,7 +43,7 @@ use Rattle.reply.specs.declared.Reply.the-variants.{Settlement, Recall}
 use Rattle.reply.specs.declared.ReadResponse.{ReadResponse}
 use Rattle.reply.proofs.Laws.{number-3, reference-2, batch-3, settled-4, rejected-2, ended-2, ended-3, answer-2, answer-4, settlement-5, recall-4, response-3, response-4}
 use Rattle.reply.proofs.Digits.{all-append, value-append, value-digits, value-back, digits-all}
-use Rattle.reply.proofs.Sound.{Referred, Named, Sound, SoundRecall}
+use Rattle.reply.specs.Sound.{Referred, Named, Sound, SoundRecall}
 use Rattle.reply.proofs.Allowed.{referred-text, stream-text, bin-text, settlement-sound, recall-sound}
 use Rattle.reply.proofs.Lines.{Found, lined, digits-found, numeral-found, empty-found, word-found, bin-found, reference-found}
 
@@ -187,7 +187,7 @@ module _ (s : List ℕ) where
         status = record { start = f .start; end = f .stop };
         detail = noPart;
         next = f .next;
-        good = sym (answer-2 s at refl (f .good) refl);
+        good = sym (answer-2 s at refl (f .good) refl refl);
         left = f .left;
       }
   replied at (Kept n) b h =

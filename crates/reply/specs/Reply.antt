@@ -10,19 +10,17 @@ use Rattle.chars.specs.declared.Refusal.the-variants.{OtherSubType}
 use Rattle.clock.specs.Clock.{secondOf}
 use Rattle.clock.specs.declared.Second.{Second}
 use Rattle.clock.specs.declared.Second.the-variants.{Number as Clocked, Untrue as Unclocked}
-use Rattle.codes.specs.Codes.{longOf}
-use Rattle.codes.specs.declared.Code.{Code}
 use Rattle.dates.specs.Dates.{dayOf}
 use Rattle.scan.specs.Scan.{onNext, litAt}
 use Rattle.scan.specs.declared.Cursor.{Cursor}
-use Rattle.values.specs.Values.{textOf, onDay}
+use Rattle.values.specs.Values.{noPart, codeOf, onDay}
 use Rattle.values.specs.declared.Part.{Part}
 use Rattle.fields.specs.Fields.{absent, broken, wrong, item, onGood, fieldAt}
 use Rattle.fields.specs.declared.Break.{Break}
 use Rattle.fields.specs.declared.Item.{Item}
 use Rattle.fields.specs.declared.Field.{Field}
 use Rattle.fields.specs.declared.Field.the-variants.{Good, Bad}
-use Rattle.fields.specs.declared.Kind.the-variants.{Reference, Numeral, Word, Bin}
+use Rattle.fields.specs.declared.Kind.the-variants.{Empty, Reference, Numeral, Word, Bin}
 use Rattle.response.specs.declared.Outcome.{Outcome}
 use Rattle.response.specs.declared.Outcome.the-variants.{Settled, Rejected}
 use Rattle.response.specs.declared.Answer.{Answer}
@@ -38,13 +36,6 @@ use Rattle.reply.specs.declared.Answered.the-variants.{With, Without}
 use Rattle.reply.specs.declared.Reply.the-variants.{Settlement, Recall, Refused}
 use Rattle.reply.specs.declared.Parts.{Parts}
 use Rattle.reply.specs.declared.ReadResponse.{ReadResponse}
-
--- the code of a reference or a BIN that stands in a part of the text
-unfoldable pub codeOf : List ℕ → Part → Code
-codeOf s p = longOf (textOf s p)
-
-abbrev pub noPart : Part
-noPart = record { start = 0; end = 0 }
 
 abbrev pub noParts : Parts
 noParts = record { number = noPart; subtype = noPart; reference = noPart; stream = noPart; bin = noPart; status = noPart; detail = noPart }
@@ -63,7 +54,7 @@ responseNumberAt s =
 -- "77E, 21 (the request's reference)"
 unfoldable pub requestReferenceAt : List ℕ → ℕ → Field
 requestReferenceAt s at =
-    onGood (fieldAt s at (bytes ":77E:") (Word 0)) Bad (λ empty c.
+    onGood (fieldAt s at (bytes ":77E:") Empty) Bad (λ empty c.
     fieldAt s (c .at) (bytes ":21:") Reference)
 
 -- "22A, 119"

@@ -1,6 +1,5 @@
 // The reading of a response: 132, which tells how a batch ended, and 134, which answers a recall.
 use chars::Refusal;
-use codes::Code;
 use fields::Break;
 use fields::Field;
 use fields::Item;
@@ -12,7 +11,10 @@ use scan::Cursor;
 use values::Part;
 ghost use mathlib.Core.Path.{_≡_};
 ghost use Rattle.values.specs.Values.{textOf};
-ghost use Rattle.reply.specs.Reply.{codeOf, refused, responseNumberAt, requestReferenceAt, batchAt, settledAt, rejectedAt, endedAt, answerAt, whyLost, whyUnclear, whyWithout, settlementOf, recallOf, settlementAt, recallAt, responseAt};
+ghost use Rattle.reply.specs.Reply.{refused, responseNumberAt, requestReferenceAt, batchAt, settledAt, rejectedAt, endedAt, answerAt, whyLost, whyUnclear, whyWithout, settlementOf, recallOf, settlementAt, recallAt, responseAt};
+
+// The number after the last of six digits: 13E has a date before its time.
+const TIMES: u64 = 1_000_000;
 
 // 20 and 12.
 pub struct Head {
@@ -106,7 +108,7 @@ impl ReadResponse {
     fn refused(b: Break) -> ReadResponse
         ensures { λ r. ⌜ r ≡ refused b ⌝ }
     {
-        let part = Part { start: 0, end: 0 };
+        let part = Part::nowhere();
         ReadResponse {
             reply: Reply::Refused(b),
             parts: Parts {
@@ -120,14 +122,6 @@ impl ReadResponse {
             },
         }
     }
-}
-
-// The code of a part.
-fn code_of(s: &[u8], part: Part) -> Code
-    ensures { λ r. ⌜ r ≡ codeOf (now (s .entry)) part ⌝ }
-{
-    let t = values::text_of(s, part);
-    codes::long_code(t, 0, t.len())
 }
 
 // 20: B and seven digits.
@@ -159,7 +153,7 @@ fn read_number(s: &[u8]) -> Field
 fn read_reference(s: &[u8], c: Cursor) -> Field
     ensures { λ r. ⌜ r ≡ requestReferenceAt (now (s .entry)) (c .at) ⌝ }
 {
-    let f = fields::read_field(s, c, b":77E:", Kind::Word(0));
+    let f = fields::read_field(s, c, b":77E:", Kind::Empty);
     let Field::Good(_, next) = f else {
         return Field::Bad(f.why());
     };
@@ -191,10 +185,10 @@ fn read_settled(s: &[u8], c: Cursor, status: Part) -> Ended
         return Ended::Unclear(f.why());
     };
     let n = i.number;
-    let dates::Day::Number(day) = dates::day_of(n / 1_000_000) else {
+    let dates::Day::Number(day) = dates::day_of(n / TIMES) else {
         return Ended::Unclear(Break::wrong(c.at, Refusal::Malformed));
     };
-    let clock::Second::Number(second) = clock::second_of(n % 1_000_000) else {
+    let clock::Second::Number(second) = clock::second_of(n % TIMES) else {
         return Ended::Unclear(Break::wrong(c.at, Refusal::Malformed));
     };
     let detail = i.part;
@@ -241,7 +235,7 @@ fn read_answer(s: &[u8], c: Cursor) -> Answered
     let status = i.part;
     let n = i.number;
     match n {
-        0 => Answered::With(Answer::Recalled, status, Part { start: 0, end: 0 }, past),
+        0 => Answered::With(Answer::Recalled, status, Part::nowhere(), past),
         1 => {
             let g = fields::read_field(s, past, b":432:", Kind::Numeral(2));
             let Field::Good(j, next) = g else {
@@ -278,9 +272,9 @@ fn settlement_of(
     ReadResponse {
         reply: Reply::Settlement(response::Settlement {
             number: number.number,
-            reference: code_of(s, reference_part),
+            reference: values::code_of(s, reference_part),
             stream: stream.number,
-            bin: code_of(s, bin_part),
+            bin: values::code_of(s, bin_part),
             outcome,
         }),
         parts: Parts {
@@ -311,11 +305,11 @@ fn recall_of(
     let number_part = number.part;
     let subtype_part = subtype.part;
     let reference_part = reference.part;
-    let none = Part { start: 0, end: 0 };
+    let none = Part::nowhere();
     ReadResponse {
         reply: Reply::Recall(response::Recall {
             number: number.number,
-            reference: code_of(s, reference_part),
+            reference: values::code_of(s, reference_part),
             answer,
         }),
         parts: Parts {

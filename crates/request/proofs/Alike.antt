@@ -10,19 +10,18 @@ use lib.Dec.{eqb, ltb}
 use lib.ListN.{length}
 use Rattle.chars.specs.Words.{bytes, member}
 use Rattle.chars.specs.declared.Refusal.the-variants.{OtherSubType}
-use Rattle.codes.specs.Codes.{longOf, longAt}
+use Rattle.codes.specs.declared.Code.{Code}
 use Rattle.scan.specs.declared.Cursor.{Cursor}
 use Rattle.scan.proofs.Alike.{Alike, more-alike}
-use Rattle.values.specs.Values.{textOf}
 use Rattle.values.specs.declared.Part.{Part}
-use Rattle.values.proofs.Alike.{text-alike, word-ends}
+use Rattle.values.proofs.Alike.{code-of-alike, word-ends}
 use Rattle.fields.specs.Fields.{absent, broken, onGood, fieldAt}
 use Rattle.fields.specs.declared.Break.{Break}
 use Rattle.fields.specs.declared.Item.{Item}
 use Rattle.fields.specs.declared.Field.{Field}
 use Rattle.fields.specs.declared.Field.the-variants.{Good, Bad}
 use Rattle.fields.specs.declared.Kind.{Kind}
-use Rattle.fields.specs.declared.Kind.the-variants.{Reference, Numeral, Word, Bin, Count}
+use Rattle.fields.specs.declared.Kind.the-variants.{Empty, Reference, Numeral, Word, Bin, Count}
 use Rattle.fields.proofs.Alike.{Reaches, Or, In, Fine, PartIn, field-in, field-near, part-in}
 use Rattle.terms.specs.Terms.{onWhole, termsAt}
 use Rattle.terms.specs.declared.Terms.{Terms}
@@ -34,7 +33,7 @@ use Rattle.payments.specs.declared.Payments.{Payments}
 use Rattle.payments.specs.declared.Ending.{Ending}
 use Rattle.payments.specs.declared.Ending.the-variants.{Done, Cut}
 use Rattle.payments.proofs.Alike.{endStop, listStop, payments-in, payments-alike}
-use Rattle.request.specs.Request.{namedAt, address, nowhere, toStream, head, bare, refusal, settlement, addressAt, onTo, onDone, ending, settlementAt, recallAt, messageAt, requestAt}
+use Rattle.request.specs.Request.{namedAt, address, nowhere, toStream, head, bare, refusal, unread, settlement, addressAt, onTo, onDone, ending, settlementAt, recallAt, messageAt, requestAt}
 use Rattle.request.specs.declared.Named.{Named}
 use Rattle.request.specs.declared.Reached.the-variants.{Bin as Both}
 use Rattle.request.specs.declared.Address.{Address}
@@ -55,17 +54,17 @@ abbrev pub readingStop : Reading → ℕ
 readingStop r = outStop (r .outcome) (r .count .part .end + 2) (r .head .address .bin .part .end + 2)
 
 -- the end of a text, after what was read up to a place
-ending-stop : (s : List ℕ) (at : ℕ) (a : Address) (r : Reading) → readingStop r ≡ at → readingStop (ending s at a r) ≡ at
-ending-stop s at a r h = go (ltb at (length s))
+ending-stop : (s : List ℕ) (at : ℕ) (h : Head) (r : Reading) → readingStop r ≡ at → readingStop (ending s at h r) ≡ at
+ending-stop s at h r e = go (ltb at (length s))
   where
-    go : (b : Bool) → readingStop (cond b (refusal (absent at) a) r) ≡ at
+    go : (b : Bool) → readingStop (cond b (refusal (h .subtype) (absent at) (h .address)) r) ≡ at
     go true = refl
-    go false = h
+    go false = e
 
-ending-alike : {n : ℕ} {s t : List ℕ} → Alike n s t → (at : ℕ) (a : Address) (r : Reading) → Or n (ending s at a r) (ending t at a r) at
-ending-alike {n} {s} {t} e at a r = go (ltb at n) refl
+ending-alike : {n : ℕ} {s t : List ℕ} → Alike n s t → (at : ℕ) (h : Head) (r : Reading) → Or n (ending s at h r) (ending t at h r) at
+ending-alike {n} {s} {t} e at h r = go (ltb at n) refl
   where
-    go : (b : Bool) → ltb at n ≡ b → Or n (ending s at a r) (ending t at a r) at
+    go : (b : Bool) → ltb at n ≡ b → Or n (ending s at h r) (ending t at h r) at
     go true q = inl (rw (more-alike e at (ltb-true at n q)))
     go false q = inr (omega (arith, ltb-false at n q))
 
@@ -127,9 +126,9 @@ second-in s c = by-good (AddressIn (c .at) 56) (fieldAt s (c .at) (bytes ":22A:"
 
 address-in : (s : List ℕ) (at : ℕ) → AddressIn at 84 (addressAt s at)
 unfolding addressAt
-address-in s at = by-good (AddressIn at 84) (fieldAt s at (bytes ":77E:") (Word 0))
-    (λ b q. let g = bad-at s at (bytes ":77E:") (Word 0) (omega arith) (omega arith) b q in (omega (arith, g), omega (arith, g)))
-    (λ i c q. let g = good-at s at (bytes ":77E:") (Word 0) (omega arith) (omega arith) i c q in
+address-in s at = by-good (AddressIn at 84) (fieldAt s at (bytes ":77E:") Empty)
+    (λ b q. let g = bad-at s at (bytes ":77E:") Empty (omega arith) tt b q in (omega (arith, g), omega (arith, g)))
+    (λ i c q. let g = good-at s at (bytes ":77E:") Empty (omega arith) tt i c q in
     widen-in at 84 (c .at) 56 (second s c) (g .0) (omega (arith, g .1)) (second-in s c))
 
 address-reach : (at w : ℕ) (x : Addressed) → AddressIn at w x → Reaches at w (addressStop x)
@@ -138,8 +137,8 @@ address-reach at w (Lost b a) i = i
 
 module _ {n : ℕ} {s t : List ℕ} (a : Alike n s t) where
   named-alike : (p : Part) → p .end ≤ n → namedAt s p ≡ namedAt t p
-  unfolding namedAt longAt textOf
-  named-alike p h = ap (λ (l : List ℕ). record { part = p; code = longOf l }) (text-alike a p h)
+  unfolding namedAt
+  named-alike p h = ap (λ (c : Code). record { part = p; code = c }) (code-of-alike a p h)
 
   to-alike : (stream bin : Item) (e : Cursor) → e .at ≡ bin .part .end + 2 → Or n (To (address Both stream (namedAt s (bin .part))) e) (To (address Both stream (namedAt t (bin .part))) e) (e .at)
   to-alike stream bin e h = go (ltb n (bin .part .end)) refl
@@ -162,38 +161,38 @@ module _ {n : ℕ} {s t : List ℕ} (a : Alike n s t) where
 
   address-alike : (at : ℕ) → Or n (addressAt s at) (addressAt t at) (addressStop (addressAt s at))
   unfolding addressAt
-  address-alike at = alike-good addressStop n at (fieldAt s at (bytes ":77E:") (Word 0)) (fieldAt t at (bytes ":77E:") (Word 0)) _ _ _
-      (field-near a at (bytes ":77E:") (Word 0) (omega arith) (omega arith))
+  address-alike at = alike-good addressStop n at (fieldAt s at (bytes ":77E:") Empty) (fieldAt t at (bytes ":77E:") Empty) _ _ _
+      (field-near a at (bytes ":77E:") Empty (omega arith) tt)
       (address-reach at 84 (addressAt s at) (address-in s at) .0)
       (λ i c q. second-alike c)
 
 -- 203 and the end
 module _ (h : Head) (u : Terms) (p : Payments) where
   abbrev last : List ℕ → Cursor → Reading
-  last s d = onGood (fieldAt s (d .at) (bytes ":203:") (Count (p .n))) (λ b. refusal b (h .address)) (λ count e. ending s (e .at) (h .address) (settlement h u p count))
+  last s d = onGood (fieldAt s (d .at) (bytes ":203:") (Count (p .n))) (λ b. refusal (h .subtype) b (h .address)) (λ count e. ending s (e .at) h (settlement h u p count))
 
   last-in : (s : List ℕ) (d : Cursor) → Reaches (d .at) 28 (readingStop (last s d))
   last-in s d = by-good (λ (r : Reading). Reaches (d .at) 28 (readingStop r)) (fieldAt s (d .at) (bytes ":203:") (Count (p .n)))
       (λ b q. let g = bad-at s (d .at) (bytes ":203:") (Count (p .n)) (omega arith) tt b q in (omega (arith, g), omega (arith, g)))
       (λ i e q. let g = good-at s (d .at) (bytes ":203:") (Count (p .n)) (omega arith) tt i e q in
-      rw (ending-stop s (e .at) (h .address) (settlement h u p i) (sym (g .2))) (g .0, g .1))
+      rw (ending-stop s (e .at) h (settlement h u p i) (sym (g .2))) (g .0, g .1))
 
   last-alike : {n : ℕ} {s t : List ℕ} → Alike n s t → (d : Cursor) → Or n (last s d) (last t d) (readingStop (last s d))
   last-alike {n} {s} {t} a d = alike-good readingStop n (d .at) (fieldAt s (d .at) (bytes ":203:") (Count (p .n))) (fieldAt t (d .at) (bytes ":203:") (Count (p .n))) _ _ _
       (field-near a (d .at) (bytes ":203:") (Count (p .n)) (omega arith) tt)
       (last-in s d .0)
       (λ i e q. let g = good-at s (d .at) (bytes ":203:") (Count (p .n)) (omega arith) tt i e q in
-      rw (ending-stop s (e .at) (h .address) (settlement h u p i) (sym (g .2))) (ending-alike a (e .at) (h .address) (settlement h u p i)))
+      rw (ending-stop s (e .at) h (settlement h u p i) (sym (g .2))) (ending-alike a (e .at) h (settlement h u p i)))
 
 -- the payments and what follows them
 abbrev paid : Head → Terms → List ℕ → Payments → Reading
-paid h u s p = onDone (p .ending) (λ b. refusal b (h .address)) (last h u p s)
+paid h u s p = onDone (p .ending) (λ b. refusal (h .subtype) b (h .address)) (last h u p s)
 
 module _ (h : Head) (u : Terms) where
   paid-from : (s : List ℕ) (p : Payments) → Reaches (listStop p) 28 (readingStop (paid h u s p))
   paid-from s p = go (p .ending)
     where
-      go : (e : Ending) → Reaches (endStop e) 28 (readingStop (onDone e (λ b. refusal b (h .address)) (last h u p s)))
+      go : (e : Ending) → Reaches (endStop e) 28 (readingStop (onDone e (λ b. refusal (h .subtype) b (h .address)) (last h u p s)))
       go (Done d) = last-in h u p s d
       go (Cut b) = (omega arith, omega arith)
 
@@ -203,7 +202,7 @@ module _ (h : Head) (u : Terms) where
   paid-same : {n : ℕ} {s t : List ℕ} → Alike n s t → (p : Payments) → Or n (paid h u s p) (paid h u t p) (readingStop (paid h u s p))
   paid-same {n} {s} {t} a p = go (p .ending)
     where
-      go : (e : Ending) → Or n (onDone e (λ b. refusal b (h .address)) (last h u p s)) (onDone e (λ b. refusal b (h .address)) (last h u p t)) (readingStop (onDone e (λ b. refusal b (h .address)) (last h u p s)))
+      go : (e : Ending) → Or n (onDone e (λ b. refusal (h .subtype) b (h .address)) (last h u p s)) (onDone e (λ b. refusal (h .subtype) b (h .address)) (last h u p t)) (readingStop (onDone e (λ b. refusal (h .subtype) b (h .address)) (last h u p s)))
       go (Done d) = last-alike h u p a d
       go (Cut b) = inl refl
 
@@ -215,7 +214,7 @@ module _ (h : Head) (u : Terms) where
       go p (inr q) = inr (omega (arith, q, paid-from s p .0))
 
 module _ (h : Head) where
-  settled-in : (s : List ℕ) (at : ℕ) (x : Stated) → Reaches at 84 (statedStop x) → Reaches at 1232 (readingStop (onWhole x (λ b. refusal b (h .address)) (λ u c. paid h u s (paymentsAt s (c .at)))))
+  settled-in : (s : List ℕ) (at : ℕ) (x : Stated) → Reaches at 84 (statedStop x) → Reaches at 1232 (readingStop (onWhole x (λ b. refusal (h .subtype) b (h .address)) (λ u c. paid h u s (paymentsAt s (c .at)))))
   settled-in s at (Whole u c) i = let j = paid-in h u s c in (omega (arith, i .0, j .0), omega (arith, i .1, j .1))
   settled-in s at (Partial b) i = (i .0, omega (arith, i .1))
 
@@ -227,7 +226,7 @@ module _ (h : Head) where
   unfolding settlementAt
   settlement-alike {n} {s} {t} a at = go (termsAt s at) (terms-alike a at)
     where
-      go : (x : Stated) → Or n x (termsAt t at) (statedStop x) → Or n (onWhole x (λ b. refusal b (h .address)) (λ u c. paid h u s (paymentsAt s (c .at)))) (onWhole (termsAt t at) (λ b. refusal b (h .address)) (λ u c. paid h u t (paymentsAt t (c .at)))) (readingStop (onWhole x (λ b. refusal b (h .address)) (λ u c. paid h u s (paymentsAt s (c .at)))))
+      go : (x : Stated) → Or n x (termsAt t at) (statedStop x) → Or n (onWhole x (λ b. refusal (h .subtype) b (h .address)) (λ u c. paid h u s (paymentsAt s (c .at)))) (onWhole (termsAt t at) (λ b. refusal (h .subtype) b (h .address)) (λ u c. paid h u t (paymentsAt t (c .at)))) (readingStop (onWhole x (λ b. refusal (h .subtype) b (h .address)) (λ u c. paid h u s (paymentsAt s (c .at)))))
       go (Whole u c) (inl q) = rw (← q) (paid-alike h u a c)
       go (Partial b) (inl q) = inl (rw (← q))
       go (Whole u c) (inr q) = inr (omega (arith, q, paid-in h u s c .0))
@@ -235,11 +234,11 @@ module _ (h : Head) where
 
   recall-stop : (s : List ℕ) (at : ℕ) → at ≡ h .address .bin .part .end + 2 → readingStop (recallAt s at h) ≡ at
   unfolding recallAt
-  recall-stop s at e = ending-stop s at (h .address) (bare Recall h) (sym e)
+  recall-stop s at e = ending-stop s at h (bare Recall h) (sym e)
 
   recall-alike : {n : ℕ} {s t : List ℕ} → Alike n s t → (at : ℕ) → Or n (recallAt s at h) (recallAt t at h) at
   unfolding recallAt
-  recall-alike a at = ending-alike a at (h .address) (bare Recall h)
+  recall-alike a at = ending-alike a at h (bare Recall h)
 
 -- what follows 12
 module _ (reference : Named) (u : Item) where
@@ -264,7 +263,7 @@ module _ (reference : Named) (u : Item) where
       go true = settlement-alike (head reference u x) a (c .at)
       go false = near-end (recall-alike (head reference u x) a (c .at))
 
-  addressed-in : (s : List ℕ) (at : ℕ) (x : Addressed) → AddressIn at 84 x → Reaches at 1316 (readingStop (onTo x refusal (told s)))
+  addressed-in : (s : List ℕ) (at : ℕ) (x : Addressed) → AddressIn at 84 x → Reaches at 1316 (readingStop (onTo x (refusal u) (told s)))
   addressed-in s at (To x c) i = let j = told-in s x c (i .1) in (omega (arith, i .0 .0, j .0), omega (arith, i .0 .1, j .1))
   addressed-in s at (Lost b x) i = (i .0, omega (arith, i .1))
 
@@ -276,7 +275,7 @@ module _ (reference : Named) (u : Item) where
   unfolding messageAt
   message-alike {n} {s} {t} a at = go (addressAt s at) (address-in s at) (address-alike a at)
     where
-      go : (x : Addressed) → AddressIn at 84 x → Or n x (addressAt t at) (addressStop x) → Or n (onTo x refusal (told s)) (onTo (addressAt t at) refusal (told t)) (readingStop (onTo x refusal (told s)))
+      go : (x : Addressed) → AddressIn at 84 x → Or n x (addressAt t at) (addressStop x) → Or n (onTo x (refusal u) (told s)) (onTo (addressAt t at) (refusal u) (told t)) (readingStop (onTo x (refusal u) (told s)))
       go (To x c) i (inl q) = rw (← q) (told-alike a x c (i .1))
       go (Lost b x) i (inl q) = inl (rw (← q))
       go (To x c) i (inr q) = inr (omega (arith, q, told-in s x c (i .1) .0))
@@ -284,15 +283,15 @@ module _ (reference : Named) (u : Item) where
 
 -- what follows 20
 abbrev typed : List ℕ → Item → Cursor → Item → Cursor → Reading
-typed s i c u d = cond (member (u .number) (131 ∷ 133 ∷ [])) (messageAt s (d .at) (namedAt s (i .part)) u) (refusal (broken (c .at) OtherSubType) nowhere)
+typed s i c u d = cond (member (u .number) (131 ∷ 133 ∷ [])) (messageAt s (d .at) (namedAt s (i .part)) u) (unread (broken (c .at) OtherSubType))
 
 abbrev twelve : List ℕ → Item → Cursor → Reading
-twelve s i c = onGood (fieldAt s (c .at) (bytes ":12:") (Numeral 3)) (λ b. refusal b nowhere) (typed s i c)
+twelve s i c = onGood (fieldAt s (c .at) (bytes ":12:") (Numeral 3)) unread (typed s i c)
 
 typed-in : (s : List ℕ) (i : Item) (c : Cursor) (u : Item) (d : Cursor) → Reaches (c .at) 28 (d .at) → Reaches (c .at) 1344 (readingStop (typed s i c u d))
 typed-in s i c u d h = go (member (u .number) (131 ∷ 133 ∷ []))
   where
-    go : (b : Bool) → Reaches (c .at) 1344 (readingStop (cond b (messageAt s (d .at) (namedAt s (i .part)) u) (refusal (broken (c .at) OtherSubType) nowhere)))
+    go : (b : Bool) → Reaches (c .at) 1344 (readingStop (cond b (messageAt s (d .at) (namedAt s (i .part)) u) (unread (broken (c .at) OtherSubType))))
     go true = let j = message-in (namedAt s (i .part)) u s (d .at) in (omega (arith, h .0, j .0), omega (arith, h .1, j .1))
     go false = (omega arith, omega arith)
 
@@ -311,7 +310,7 @@ module _ {n : ℕ} {s t : List ℕ} (a : Alike n s t) where
   typed-alike : (i : Item) (c : Cursor) (u : Item) (d : Cursor) → c .at ≡ i .part .end + 2 → Reaches (c .at) 28 (d .at) → Or n (typed s i c u d) (typed t i c u d) (readingStop (typed s i c u d))
   typed-alike i c u d e h = go (member (u .number) (131 ∷ 133 ∷ [])) (ltb n (i .part .end)) refl
     where
-      go : (b l : Bool) → ltb n (i .part .end) ≡ l → Or n (cond b (messageAt s (d .at) (namedAt s (i .part)) u) (refusal (broken (c .at) OtherSubType) nowhere)) (cond b (messageAt t (d .at) (namedAt t (i .part)) u) (refusal (broken (c .at) OtherSubType) nowhere)) (readingStop (cond b (messageAt s (d .at) (namedAt s (i .part)) u) (refusal (broken (c .at) OtherSubType) nowhere)))
+      go : (b l : Bool) → ltb n (i .part .end) ≡ l → Or n (cond b (messageAt s (d .at) (namedAt s (i .part)) u) (unread (broken (c .at) OtherSubType))) (cond b (messageAt t (d .at) (namedAt t (i .part)) u) (unread (broken (c .at) OtherSubType))) (readingStop (cond b (messageAt s (d .at) (namedAt s (i .part)) u) (unread (broken (c .at) OtherSubType))))
       go false l q = inl refl
       go true true q = inr (omega (arith, ltb-true n (i .part .end) q, h .0, message-in (namedAt s (i .part)) u s (d .at) .0))
       go true false q = rw (named-alike a (i .part) (ltb-false n (i .part .end) q)) (message-alike (namedAt t (i .part)) u a (d .at))

@@ -1,22 +1,21 @@
 -- "The text has every field once, in this order, and nothing else".
-use Prim.Native.Nat.{ℕ, _-_}
+use Prim.Native.Nat.{ℕ}
 use mathlib.Core.List.{List, [], _∷_}
 use mathlib.Core.Bool.{cond}
 use lib.ListN.{length}
 use lib.Dec.{eqb, ltb}
 use Rattle.chars.specs.Words.{bytes, member}
 use Rattle.chars.specs.declared.Refusal.the-variants.{OtherSubType}
-use Rattle.codes.specs.Codes.{longAt}
 use Rattle.scan.specs.declared.Cursor.{Cursor}
+use Rattle.values.specs.Values.{noPart, codeOf}
 use Rattle.values.specs.declared.Part.{Part}
-use Rattle.fields.specs.Fields.{absent, broken, onGood, fieldAt}
+use Rattle.fields.specs.Fields.{absent, broken, nothing, onGood, fieldAt}
 use Rattle.fields.specs.declared.Break.{Break}
 use Rattle.fields.specs.declared.Item.{Item}
-use Rattle.fields.specs.declared.Kind.the-variants.{Reference, Numeral, Word, Bin, Count}
-use Rattle.terms.specs.Terms.{noPart, onWhole, termsAt}
+use Rattle.fields.specs.declared.Kind.the-variants.{Empty, Reference, Numeral, Word, Bin, Count}
+use Rattle.terms.specs.Terms.{noTerms, onWhole, termsAt}
 use Rattle.terms.specs.declared.Terms.{Terms}
-use Rattle.terms.specs.declared.Activation.the-variants.{AtOnce}
-use Rattle.payments.specs.Payments.{nothing, none, paymentsAt}
+use Rattle.payments.specs.Payments.{none, paymentsAt}
 use Rattle.payments.specs.declared.Payments.{Payments}
 use Rattle.payments.specs.declared.Ending.{Ending}
 use Rattle.payments.specs.declared.Ending.the-variants.{Done, Cut}
@@ -33,7 +32,7 @@ use Rattle.request.specs.declared.Reading.{Reading}
 
 -- a reference or a BIN and its code
 unfoldable pub namedAt : List ℕ → Part → Named
-namedAt s p = record { part = p; code = longAt s (p .start) (p .end - p .start) }
+namedAt s p = record { part = p; code = codeOf s p }
 
 abbrev pub noName : Named
 noName = record { part = noPart; code = record { high = 0; low = 0 } }
@@ -50,15 +49,16 @@ toStream stream = address Stream stream noName
 abbrev pub head : Named → Item → Address → Head
 head reference t a = record { reference = reference; subtype = t; address = a }
 
-abbrev pub noTerms : Terms
-noTerms = record { numbers = noPart; number = 0; count = 0; date = nothing; activation = AtOnce; activated = noPart }
-
 abbrev pub bare : Outcome → Head → Reading
 bare o h = record { outcome = o; head = h; terms = noTerms; payments = none; n = 0; count = nothing }
 
--- "the first break" decides; the stream and the BIN are kept where they were read well
-abbrev pub refusal : Break → Address → Reading
-refusal b a = bare (Refused b) (head noName nothing a)
+-- "the first break" decides; the sub type of a request, the stream and the BIN are kept where they were read well
+abbrev pub refusal : Item → Break → Address → Reading
+refusal t b a = bare (Refused b) (head noName t a)
+
+-- and none of them before
+abbrev pub unread : Break → Reading
+unread b = refusal nothing b nowhere
 
 abbrev pub settlement : Head → Terms → Payments → Item → Reading
 settlement h t p count = record { outcome = Settlement; head = h; terms = t; payments = p .items; n = p .n; count = count }
@@ -66,7 +66,7 @@ settlement h t p count = record { outcome = Settlement; head = h; terms = t; pay
 -- 77E, 22A and 119
 unfoldable pub addressAt : List ℕ → ℕ → Addressed
 addressAt s at =
-    onGood (fieldAt s at (bytes ":77E:") (Word 0)) (λ b. Lost b nowhere) (λ empty c.
+    onGood (fieldAt s at (bytes ":77E:") Empty) (λ b. Lost b nowhere) (λ empty c.
     onGood (fieldAt s (c .at) (bytes ":22A:") (Word 4)) (λ b. Lost b nowhere) (λ stream d.
     onGood (fieldAt s (d .at) (bytes ":119:") (Bin (stream .part))) (λ b. Lost b (toStream stream)) (λ bin e.
     To (address Both stream (namedAt s (bin .part))) e)))
@@ -84,32 +84,32 @@ onDone (Done c) d k = k c
 onDone (Cut b) d k = d b
 
 -- "and nothing else": whatever follows the last field breaks the text there
-abbrev pub ending : List ℕ → ℕ → Address → Reading → Reading
-ending s at a r = cond (ltb at (length s)) (refusal (absent at) a) r
+abbrev pub ending : List ℕ → ℕ → Head → Reading → Reading
+ending s at h r = cond (ltb at (length s)) (refusal (h .subtype) (absent at) (h .address)) r
 
 -- 16A, 171, 175, the payments, and 203, which counts them
 unfoldable pub settlementAt : List ℕ → ℕ → Head → Reading
 settlementAt s at h =
-    onWhole (termsAt s at) (λ b. refusal b (h .address)) (λ t c.
-    onDone (paymentsAt s (c .at) .ending) (λ b. refusal b (h .address)) (λ d.
-    onGood (fieldAt s (d .at) (bytes ":203:") (Count (paymentsAt s (c .at) .n))) (λ b. refusal b (h .address)) (λ count e.
-    ending s (e .at) (h .address) (settlement h t (paymentsAt s (c .at)) count))))
+    onWhole (termsAt s at) (λ b. refusal (h .subtype) b (h .address)) (λ t c.
+    onDone (paymentsAt s (c .at) .ending) (λ b. refusal (h .subtype) b (h .address)) (λ d.
+    onGood (fieldAt s (d .at) (bytes ":203:") (Count (paymentsAt s (c .at) .n))) (λ b. refusal (h .subtype) b (h .address)) (λ count e.
+    ending s (e .at) h (settlement h t (paymentsAt s (c .at)) count))))
 
 -- "A recall ends after 119."
 unfoldable pub recallAt : List ℕ → ℕ → Head → Reading
-recallAt s at h = ending s at (h .address) (bare Recall h)
+recallAt s at h = ending s at h (bare Recall h)
 
 -- what follows 12
 unfoldable pub messageAt : List ℕ → ℕ → Named → Item → Reading
 messageAt s at reference t =
-    onTo (addressAt s at) refusal (λ a c.
+    onTo (addressAt s at) (refusal t) (λ a c.
     cond (eqb (t .number) 131) (settlementAt s (c .at) (head reference t a)) (recallAt s (c .at) (head reference t a)))
 
 -- "Tags and values in text order: the first break gives 87; a well-formed sub type other than 131 or 133 gives 88 at that line"
 unfoldable pub requestAt : List ℕ → Reading
 requestAt s =
-    onGood (fieldAt s 0 (bytes ":20:") Reference) (λ b. refusal b nowhere) (λ reference c.
-    onGood (fieldAt s (c .at) (bytes ":12:") (Numeral 3)) (λ b. refusal b nowhere) (λ t d.
+    onGood (fieldAt s 0 (bytes ":20:") Reference) unread (λ reference c.
+    onGood (fieldAt s (c .at) (bytes ":12:") (Numeral 3)) unread (λ t d.
     cond (member (t .number) (131 ∷ 133 ∷ []))
     (messageAt s (d .at) (namedAt s (reference .part)) t)
-    (refusal (broken (c .at) OtherSubType) nowhere)))
+    (unread (broken (c .at) OtherSubType))))

@@ -8,17 +8,28 @@ use fields::Kind;
 use payments::Ending;
 use payments::Payment;
 use scan::Cursor;
-use terms::Activation;
 use terms::Stated;
 use terms::Terms;
 use values::Part;
 ghost use mathlib.Core.Path.{_≡_};
-ghost use Rattle.request.specs.Request.{namedAt, nowhere, toStream, bare, refusal, addressAt, cutBy, settlementAt, recallAt, messageAt, requestAt};
+ghost use Rattle.request.specs.Request.{noName, namedAt, nowhere, toStream, bare, refusal, unread, addressAt, cutBy, settlementAt, recallAt, messageAt, requestAt};
 
 // A reference or a BIN: where it stands, and its code.
 pub struct Named {
     pub part: Part,
     pub code: Code,
+}
+
+impl Named {
+    // Of a field that the text does not have.
+    fn nothing() -> Named
+        ensures { λ r. ⌜ r ≡ noName ⌝ }
+    {
+        Named {
+            part: Part::nowhere(),
+            code: Code { high: 0, low: 0 },
+        }
+    }
 }
 
 // How far the address of a request was read well.
@@ -55,7 +66,7 @@ pub enum Outcome {
 }
 
 // What was read. The first n places hold the payments. Of a recall only the head is there; of a
-// text that is refused only the address; all else is zero.
+// text that is refused only the sub type and the address, as far as they were read; all else is zero.
 pub struct Reading {
     pub outcome: Outcome,
     pub head: Head,
@@ -65,22 +76,13 @@ pub struct Reading {
     pub count: Item,
 }
 
-// The code of a part.
+// The part and its code.
 fn name_at(s: &[u8], part: Part) -> Named
     ensures { λ r. ⌜ r ≡ namedAt (now (s .entry)) part ⌝ }
 {
-    let start = part.start;
-    let end = part.end;
-    if start <= end {
-        Named {
-            part,
-            code: codes::long_code(s, start, end - start),
-        }
-    } else {
-        Named {
-            part,
-            code: codes::long_code(s, start, 0),
-        }
+    Named {
+        part,
+        code: values::code_of(s, part),
     }
 }
 
@@ -88,29 +90,20 @@ impl Address {
     fn nowhere() -> Address
         ensures { λ r. ⌜ r ≡ nowhere ⌝ }
     {
-        let part = Part { start: 0, end: 0 };
         Address {
             reached: Reached::Nothing,
-            stream: Item { part, number: 0 },
-            bin: Named {
-                part,
-                code: Code { high: 0, low: 0 },
-            },
+            stream: Item::nothing(),
+            bin: Named::nothing(),
         }
     }
 
     fn to_stream(stream: Item) -> Address
         ensures { λ r. ⌜ r ≡ toStream stream ⌝ }
     {
-        let part = Part { start: 0, end: 0 };
-        let bin = Named {
-            part,
-            code: Code { high: 0, low: 0 },
-        };
         Address {
             reached: Reached::Stream,
             stream,
-            bin,
+            bin: Named::nothing(),
         }
     }
 }
@@ -120,50 +113,35 @@ impl Reading {
     fn bare(outcome: Outcome, head: Head) -> Reading
         ensures { λ r. ⌜ r ≡ bare outcome head ⌝ }
     {
-        let part = Part { start: 0, end: 0 };
-        let item = Item { part, number: 0 };
-        let payment = Payment {
-            side: item,
-            amount: item,
-            letters: item,
-            bank: item,
-        };
-        let terms = Terms {
-            numbers: part,
-            number: 0,
-            count: 0,
-            date: item,
-            activation: Activation::AtOnce,
-            activated: part,
-        };
         Reading {
             outcome,
             head,
-            terms,
-            payments: [payment; 10],
+            terms: Terms::nothing(),
+            payments: [Payment::nothing(); 10],
             n: 0,
-            count: item,
+            count: Item::nothing(),
         }
     }
 
-    // Nothing but the break and the address so far.
-    fn refused(b: Break, address: Address) -> Reading
-        ensures { λ r. ⌜ r ≡ refusal b address ⌝ }
+    // Nothing but the break, the sub type and the address so far.
+    fn refused(subtype: Item, b: Break, address: Address) -> Reading
+        ensures { λ r. ⌜ r ≡ refusal subtype b address ⌝ }
     {
-        let part = Part { start: 0, end: 0 };
-        let reference = Named {
-            part,
-            code: Code { high: 0, low: 0 },
-        };
-        let subtype = Item { part, number: 0 };
         Reading::bare(
             Outcome::Refused(b),
             Head {
-                reference,
+                reference: Named::nothing(),
                 subtype,
                 address,
             },
         )
+    }
+
+    // Nothing but the break.
+    fn unread(b: Break) -> Reading
+        ensures { λ r. ⌜ r ≡ unread b ⌝ }
+    {
+        Reading::refused(Item::nothing(), b, Address::nowhere())
     }
 }
 
@@ -171,7 +149,7 @@ impl Reading {
 fn read_address(s: &[u8], c: Cursor) -> Addressed
     ensures { λ r. ⌜ r ≡ addressAt (now (s .entry)) (c .at) ⌝ }
 {
-    let f = fields::read_field(s, c, b":77E:", Kind::Word(0));
+    let f = fields::read_field(s, c, b":77E:", Kind::Empty);
     let Field::Good(_, past) = f else {
         return Addressed::Lost(f.why(), Address::nowhere());
     };
@@ -209,23 +187,24 @@ fn cut(e: Ending) -> Break
 fn read_settlement(s: &[u8], c: Cursor, head: Head) -> Reading
     ensures { λ r. ⌜ r ≡ settlementAt (now (s .entry)) (c .at) head ⌝ }
 {
+    let subtype = head.subtype;
     let address = head.address;
     let t = terms::read_terms(s, c);
     let Stated::Whole(terms, past) = t else {
-        return Reading::refused(t.why(), address);
+        return Reading::refused(subtype, t.why(), address);
     };
     let p = payments::read_payments(s, past);
     let ending = p.ending;
     let Ending::Done(then) = ending else {
-        return Reading::refused(cut(ending), address);
+        return Reading::refused(subtype, cut(ending), address);
     };
     let n = p.n;
     let f = fields::read_field(s, then, b":203:", Kind::Count(n as u64));
     let Field::Good(count, next) = f else {
-        return Reading::refused(f.why(), address);
+        return Reading::refused(subtype, f.why(), address);
     };
     if next.at < s.len() {
-        return Reading::refused(Break::absent(next.at), address);
+        return Reading::refused(subtype, Break::absent(next.at), address);
     }
     let payments = p.items;
     Reading {
@@ -243,8 +222,9 @@ fn read_recall(s: &[u8], c: Cursor, head: Head) -> Reading
     ensures { λ r. ⌜ r ≡ recallAt (now (s .entry)) (c .at) head ⌝ }
 {
     if c.at < s.len() {
+        let subtype = head.subtype;
         let address = head.address;
-        return Reading::refused(Break::absent(c.at), address);
+        return Reading::refused(subtype, Break::absent(c.at), address);
     }
     Reading::bare(Outcome::Recall, head)
 }
@@ -254,7 +234,7 @@ fn read_message(s: &[u8], c: Cursor, reference: Named, subtype: Item) -> Reading
     ensures { λ r. ⌜ r ≡ messageAt (now (s .entry)) (c .at) reference subtype ⌝ }
 {
     match read_address(s, c) {
-        Addressed::Lost(b, address) => Reading::refused(b, address),
+        Addressed::Lost(b, address) => Reading::refused(subtype, b, address),
         Addressed::To(address, next) => {
             let head = Head {
                 reference,
@@ -275,19 +255,16 @@ pub fn read_request(s: &[u8]) -> Reading
 {
     let f = fields::read_field(s, Cursor::new(), b":20:", Kind::Reference);
     let Field::Good(reference, past) = f else {
-        return Reading::refused(f.why(), Address::nowhere());
+        return Reading::unread(f.why());
     };
     let g = fields::read_field(s, past, b":12:", Kind::Numeral(3));
     let Field::Good(subtype, next) = g else {
-        return Reading::refused(g.why(), Address::nowhere());
+        return Reading::unread(g.why());
     };
     let part = reference.part;
     let n = subtype.number;
     match n {
         131 | 133 => read_message(s, next, name_at(s, part), subtype),
-        _ => Reading::refused(
-            Break::wrong(past.at, Refusal::OtherSubType),
-            Address::nowhere(),
-        ),
+        _ => Reading::unread(Break::wrong(past.at, Refusal::OtherSubType)),
     }
 }

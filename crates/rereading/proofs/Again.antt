@@ -16,6 +16,7 @@ use Rattle.values.specs.Grammar.{IsTime, IsCount}
 use Rattle.fields.specs.Grammar.{Line}
 use Rattle.terms.specs.declared.Activation.{Activation}
 use Rattle.terms.specs.declared.Activation.the-variants.{AtOnce, Minute}
+use Rattle.payments.specs.Payments.{noPayment}
 use Rattle.payments.specs.declared.Payment.{Payment}
 use Rattle.request.specs.Request.{requestAt}
 use Rattle.request.specs.declared.Head.{Head}
@@ -23,15 +24,15 @@ use Rattle.request.specs.declared.Outcome.the-variants.{Settlement, Recall}
 use Rattle.request.specs.declared.Reading.{Reading}
 use Rattle.grammar.specs.Text.{HeadText, RecallText, PaymentText, credit, debit, PaymentsText, none-left, one-more, BodyText, SettlementText}
 use Rattle.grammar.proofs.Request.{settlement-complete, recall-complete}
-use Rattle.grammar.specs.Values.{noPayment, InDay, GivenSide, GivesHead, GivesPayment, GivesSettlement, GivesRecall}
+use Rattle.grammar.specs.Values.{InDay, GivenSide, GivesHead, GivesPayment, GivesSettlement, GivesRecall}
 use Rattle.grammar.proofs.Values.{bin-codes, settlement-gives, recall-gives}
-use Rattle.administrator.specs.Orders.{held, countText, lineText, headText, activationText, paymentOf, paymentText, noLine, messageText, orderText}
+use Rattle.administrator.specs.Orders.{held, countText, lineText, headText, activationText, paymentOf, paymentText, noPayable, messageText, orderText}
 use Rattle.administrator.specs.declared.Given.the-variants.{Nothing, Name, SubType, Numbers, Date, Time, Four, CreditSide, DebitSide, Amount, Count}
-use Rattle.administrator.specs.declared.Line.{Line as Payable}
+use Rattle.administrator.specs.declared.Payable.{Payable}
 use Rattle.administrator.specs.declared.Order.{Order}
 use Rattle.administrator.specs.declared.Side.{Side}
 use Rattle.administrator.specs.declared.Side.the-variants.{Credit, Debit}
-use Rattle.rereading.specs.Values.{SameSide, SamePayment, SameLine, SameHead, SameValues, Halves, Typed, lineOf, orderOf, SamePaid, SameNames, SameRequest}
+use Rattle.rereading.specs.Values.{SameSide, SamePayment, SamePayable, SameHead, SameValues, Halves, Typed, payableOf, orderOf, SamePaid, SameNames, SameRequest}
 use Rattle.rereading.proofs.Written.{long-halves}
 use Rattle.rereading.proofs.Back.{head-opens, credit-opens, debit-opens}
 use Rattle.rereading.proofs.ReadsBack.{onward, places, message-opens, reads-back, recall-reads-back}
@@ -55,26 +56,26 @@ head-text r kind g e m q =
       r₄ = q₅;
       reference = line (bytes ":20:") (Name (o .reference)) q₂ (reference-text (g .reference));
       three-digits = line (bytes ":12:") (SubType (o .subtype)) q₃ (t .0, t .1 ∙ e);
-      empty = line (bytes ":77E:") Nothing q₄ (record { size = refl; all = tt });
+      empty = line (bytes ":77E:") Nothing q₄ refl;
       stream = line (bytes ":22A:") (Four (o .stream)) q₅ (word-text (g .stream));
       bin = line (bytes ":119:") (Name (o .bin)) q (bin-text (g .stream) (g .bin));
     })
 
 -- ---- the payments
 
-credit-line : (p : Payment) → p .side .number ≡ 0 → lineOf p .side ≡ Credit
-unfolding lineOf
+credit-line : (p : Payment) → p .side .number ≡ 0 → payableOf p .side ≡ Credit
+unfolding payableOf
 credit-line p e = simp (eq-eqb (p .side .number) 0 e)
 
-debit-line : (p : Payment) → p .side .number ≡ 1 → lineOf p .side ≡ Debit (p .letters .number)
-unfolding lineOf
+debit-line : (p : Payment) → p .side .number ≡ 1 → payableOf p .side ≡ Debit (p .letters .number)
+unfolding payableOf
 debit-line p e = simp (ne-eqb (p .side .number) 0 (omega (arith, e)))
 
-payment-text : (p : Payment) → GivesPayment p → (q : List ℕ) → PaymentText (paymentText (lineOf p) ++ q) q
-unfolding lineOf
+payment-text : (p : Payment) → GivesPayment p → (q : List ℕ) → PaymentText (paymentText (payableOf p) ++ q) q
+unfolding payableOf
 payment-text p g q = go (g .side)
   where
-    go : GivenSide (p .side .number) (p .letters .number) → PaymentText (paymentOf (lineOf p .side) (p .amount .number) (p .bank .number) ++ q) q
+    go : GivenSide (p .side .number) (p .letters .number) → PaymentText (paymentOf (payableOf p .side) (p .amount .number) (p .bank .number) ++ q) q
     go (inl s) =
         let q₃ = lineText (bytes ":102:") (Four (p .bank .number)) ++ q in
         let q₂ = lineText (bytes ":32B:") (Amount (p .amount .number)) ++ q₃ in
@@ -89,17 +90,17 @@ payment-text p g q = go (g .side)
         (subst (λ (l : List ℕ). PaymentText l q) (sym (debit-opens (p .letters .number) (p .amount .number) (p .bank .number) q))
         (debit (line (bytes ":127:") DebitSide q₂ refl) (line (bytes ":32B:") (Amount (p .amount .number)) q₃ (amount-text (p .amount .number) (g .money))) (line (bytes ":113:") (Four (p .letters .number)) q₄ (letters-text (s .1))) (line (bytes ":102:") (Four (p .bank .number)) q (word-text (g .bank)))))
 
-payments-text : (k i : ℕ) (ps : List Payable) (q : List ℕ) → ((j : ℕ) → i ≤ j → j < i + k → (r : List ℕ) → PaymentText (paymentText (getD ps j noLine) ++ r) r) → PaymentsText k (onward k i ps ++ q) q
+payments-text : (k i : ℕ) (ps : List Payable) (q : List ℕ) → ((j : ℕ) → i ≤ j → j < i + k → (r : List ℕ) → PaymentText (paymentText (getD ps j noPayable) ++ r) r) → PaymentsText k (onward k i ps ++ q) q
 payments-text zero i ps q f = none-left
 payments-text (suc k) i ps q f =
     let t = onward k (i + 1) ps in
     let p = f i (omega arith) (omega arith) (t ++ q) in
-    one-more (subst (λ (l : List ℕ). PaymentText l (t ++ q)) (sym (append-assoc (paymentText (getD ps i noLine)) t q)) p) (payments-text k (i + 1) ps q (λ j a b. f j (omega arith) (omega arith)))
+    one-more (subst (λ (l : List ℕ). PaymentText l (t ++ q)) (sym (append-assoc (paymentText (getD ps i noPayable)) t q)) p) (payments-text k (i + 1) ps q (λ j a b. f j (omega arith) (omega arith)))
 
 -- the i-th line is the i-th payment's
-line-at : (items : List Payment) (i : ℕ) → getD (map lineOf items) i noLine ≡ lineOf (getD items i noPayment)
-unfolding lineOf
-line-at items i = List·getD-map lineOf items i noPayment
+line-at : (items : List Payment) (i : ℕ) → getD (map payableOf items) i noPayable ≡ payableOf (getD items i noPayment)
+unfolding payableOf
+line-at items i = List·getD-map payableOf items i noPayment
 
 -- ---- what follows 119
 
@@ -119,11 +120,11 @@ unfolding orderOf
 body-text r g =
     let o = orderOf r in
     let q₅ = lineText (bytes ":203:") (Count (o .n)) ++ [] in
-    let q₄ = onward (places (o .n)) 0 (o .lines) ++ q₅ in
+    let q₄ = onward (places (o .n)) 0 (o .payments) ++ q₅ in
     let q₃ = activationText (o .activation) ++ q₄ in
     let q₂ = lineText (bytes ":171:") (Date (o .date)) ++ q₃ in
     let z = ten-places (r .n) (g .few) in
-    let each : (j : ℕ) → 0 ≤ j → j < 0 + places (r .n) → (t : List ℕ) → PaymentText (paymentText (getD (map lineOf (r .payments)) j noLine) ++ t) t
+    let each : (j : ℕ) → 0 ≤ j → j < 0 + places (r .n) → (t : List ℕ) → PaymentText (paymentText (getD (map payableOf (r .payments)) j noPayable) ++ t) t
     = λ j a b t. subst (λ (x : Payable). PaymentText (paymentText x ++ t) t) (sym (line-at (r .payments) j)) (payment-text (getD (r .payments) j noPayment) (g .payments j (omega (arith, b, z))) t) in
     subst BodyText (sym (message-opens o)) (record {
       r₂ = q₂;
@@ -136,7 +137,7 @@ body-text r g =
       many = places (r .n);
       least = omega (arith, g .some, z);
       most = omega (arith, g .few, z);
-      payments = payments-text (places (r .n)) 0 (map lineOf (r .payments)) q₅ each;
+      payments = payments-text (places (r .n)) 0 (map payableOf (r .payments)) q₅ each;
       count = line (bytes ":203:") (Count (o .n)) [] (subst (λ (n : ℕ). IsCount n (countText (r .n))) (sym z) (count-text (r .n) (g .some) (g .few)));
     })
 
@@ -173,11 +174,11 @@ same-head : (r : Reading) → SameHead (orderOf r) (r .head)
 unfolding orderOf
 same-head r = record { reference = refl; subtype = refl; stream = refl; bin = refl }
 
-same-line : (p : Payment) → GivesPayment p → SameLine (lineOf p) p
-unfolding lineOf
+same-line : (p : Payment) → GivesPayment p → SamePayable (payableOf p) p
+unfolding payableOf
 same-line p g = record { same-side = go (g .side); same-cents = refl; same-bank = refl }
   where
-    go : GivenSide (p .side .number) (p .letters .number) → SameSide (lineOf p .side) (p .side .number) (p .letters .number)
+    go : GivenSide (p .side .number) (p .letters .number) → SameSide (payableOf p .side) (p .side .number) (p .letters .number)
     go (inl s) = subst (λ (x : Side). SameSide x (p .side .number) (p .letters .number)) (sym (credit-line p (s .0))) s
     go (inr s) = subst (λ (x : Side). SameSide x (p .side .number) (p .letters .number)) (sym (debit-line p (s .0))) (s .0, refl)
 
@@ -190,7 +191,7 @@ same-values r g = record {
   date = date-back (r .terms .date .number) (g .day);
   activation = refl;
   n = refl;
-  payments = λ i h. subst (λ (x : Payable). SameLine x (getD (r .payments) i noPayment)) (sym (line-at (r .payments) i)) (same-line (getD (r .payments) i noPayment) (g .payments i h));
+  payments = λ i h. subst (λ (x : Payable). SamePayable x (getD (r .payments) i noPayment)) (sym (line-at (r .payments) i)) (same-line (getD (r .payments) i noPayment) (g .payments i h));
 }
 
 -- ---- two readings with the values of one order
@@ -214,7 +215,7 @@ same-request {o} a b = record {
   activation = a .activation ∙ sym (b .activation);
   n = a .n ∙ sym (b .n);
   payments = λ i h.
-      let l = getD (o .lines) i noLine in
+      let l = getD (o .payments) i noPayable in
       let m : i < o .n = omega (arith, h, a .n) in
       same-paid (l .side) (l .cents) (l .bank) (a .payments i m) (b .payments i m);
 }

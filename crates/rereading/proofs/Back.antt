@@ -111,7 +111,7 @@ head-back o typed {q = q} {h = h} e g =
     let q₂ = lineText (bytes ":12:") (SubType (o .subtype)) ++ q₃ in
     let a = line-same (bytes ":20:") (t .reference) (Name (o .reference)) q₂ (e ∙ head-opens o q) (codes-free (t .reference .value) (t .reference .is .all)) (codes-free (nameText (o .reference)) (name-codes (o .reference))) in
     let b = line-same (bytes ":12:") (t .three-digits) (SubType (o .subtype)) q₃ (a .1) (digits-free (t .three-digits .value) (t .three-digits .is .0 .all)) (digits-free (fixed 3 (o .subtype)) (fixed-digits 3 (o .subtype))) in
-    let c = line-same-size (bytes ":77E:") (t .empty) Nothing q₄ (b .1) (t .empty .is .size) in
+    let c = line-same-size (bytes ":77E:") (t .empty) Nothing q₄ (b .1) (ap length (t .empty .is)) in
     let d = four-same (bytes ":22A:") (t .stream) (o .stream) q₅ (c .1) (t .stream .is .size) (codes-free (t .stream .value) (t .stream .is .all)) in
     let k = bin-codes (t .stream .is) (t .bin .is) in
     let f = line-same (bytes ":119:") (t .bin) (Name (o .bin)) q (d .1) (codes-free (t .bin .value) (k .1)) (codes-free (nameText (o .bin)) (name-codes (o .bin))) in (

@@ -26,14 +26,14 @@ use Rattle.request.specs.declared.Reading.{Reading}
 use Rattle.grammar.specs.Text.{PaymentsText, none-left, one-more, ActivationSays, PaymentsSay, BodySays}
 use Rattle.grammar.proofs.Payments.{payment-begins}
 use Rattle.grammar.proofs.Request.{settlement-says, recall-says, not-timed-many, not-more}
-use Rattle.administrator.specs.Orders.{held, fixed, lineText, activationText, termsText, paymentOf, paymentText, noLine, paymentsTo, paymentsText, messageText, orderText}
+use Rattle.administrator.specs.Orders.{held, fixed, lineText, activationText, termsText, paymentOf, paymentText, noPayable, paymentsTo, paymentsText, messageText, orderText}
 use Rattle.administrator.specs.declared.Given.the-variants.{Numbers, Date, Time, Count}
-use Rattle.administrator.specs.declared.Line.{Line as Payable}
+use Rattle.administrator.specs.declared.Payable.{Payable}
 use Rattle.administrator.specs.declared.Order.{Order}
 use Rattle.administrator.specs.declared.Side.{Side}
 use Rattle.administrator.specs.declared.Side.the-variants.{Credit, Debit}
-use Rattle.grammar.specs.Values.{noPayment}
-use Rattle.rereading.specs.Values.{SameLine, SameHead, SameValues, Typed}
+use Rattle.payments.specs.Payments.{noPayment}
+use Rattle.rereading.specs.Values.{SamePayable, SameHead, SameValues, Typed}
 use Rattle.rereading.proofs.Lines.{line-opens, line-same}
 use Rattle.rereading.proofs.Written.{fixed-digits, fixed-value, numbers-back, time-back, count-back}
 use Rattle.rereading.proofs.Back.{digits-free, numbers-free, time-free, count-free, is-numbers-free, head-back, credit-opens, debit-opens, payment-back}
@@ -42,14 +42,14 @@ use Rattle.rereading.proofs.Back.{digits-free, numbers-free, time-free,
 
 abbrev pub onward : ℕ → ℕ → List Payable → List ℕ
 onward zero i ps = []
-onward (suc k) i ps = paymentText (getD ps i noLine) ++ onward k (i + 1) ps
+onward (suc k) i ps = paymentText (getD ps i noPayable) ++ onward k (i + 1) ps
 
 onward-is : (k i : ℕ) (ps : List Payable) → paymentsTo i ps ++ onward k i ps ≡ paymentsTo (i + k) ps
 unfolding paymentsTo
 onward-is zero i ps = append-nil (paymentsTo i ps) ∙ ap (λ (n : ℕ). paymentsTo n ps) (sym (add-zero i))
 onward-is (suc k) i ps =
     let z : i + 1 + k ≡ i + suc k = omega arith in
-    sym (append-assoc (paymentsTo i ps) (paymentText (getD ps i noLine)) (onward k (i + 1) ps))
+    sym (append-assoc (paymentsTo i ps) (paymentText (getD ps i noPayable)) (onward k (i + 1) ps))
     ∙ ap (λ (l : List ℕ). l ++ onward k (i + 1) ps) (ap (λ (n : ℕ). paymentsTo n ps) (sym (add-one i)))
     ∙ onward-is k (i + 1) ps
     ∙ ap (λ (n : ℕ). paymentsTo n ps) z
@@ -72,7 +72,7 @@ counted-tag n q = rw line-opens (refl, refl)
 not-activation : (k i n : ℕ) (ps : List Payable) (q : List ℕ) → begins (bytes ":175:") (onward k i ps ++ (lineText (bytes ":203:") (Count n) ++ q)) ≡ false
 not-activation zero i n ps q = counted-tag n q .1
 not-activation (suc k) i n ps q =
-    let p = getD ps i noLine in
+    let p = getD ps i noPayable in
     let t = onward k (i + 1) ps in
     let w = lineText (bytes ":203:") (Count n) ++ q in
     ap (begins (bytes ":175:")) (append-assoc (paymentText p) t w) ∙ paid-tag (p .side) (p .cents) (p .bank) (t ++ w) .1
@@ -85,24 +85,24 @@ contrary p q = absurd (false≢true (sym q ∙ p))
 pub record SamePayments (k many i : ℕ) (ps : List Payable) (items : List Payment) (r q : List ℕ) : Type 0 where
   pub many-are : many ≡ k
   pub rest : r ≡ q
-  pub same : (j : ℕ) → i ≤ j → j < i + k → SameLine (getD ps j noLine) (getD items j noPayment)
+  pub same : (j : ℕ) → i ≤ j → j < i + k → SamePayable (getD ps j noPayable) (getD items j noPayment)
 
 payments-back : (k i : ℕ) {many : ℕ} {l r : List ℕ} (g : PaymentsText many l r) (ps : List Payable) (items : List Payment) (q : List ℕ) → l ≡ onward k i ps ++ q → begins (bytes ":127:") q ≡ false → begins (bytes ":127:") r ≡ false → PaymentsSay i g items → SamePayments k many i ps items r q
 payments-back zero i none-left ps items q e a b h = record { many-are = refl; rest = e; same = λ j m n. absurd (omega arith) }
 payments-back zero i (one-more p g) ps items q e a b h = contrary (payment-begins p) (ap (begins (bytes ":127:")) e ∙ a)
 payments-back (suc k) i none-left ps items q e a b h =
-    let p = getD ps i noLine in
+    let p = getD ps i noPayable in
     let t = onward k (i + 1) ps in
     contrary (ap (begins (bytes ":127:")) (e ∙ append-assoc (paymentText p) t q) ∙ paid-tag (p .side) (p .cents) (p .bank) (t ++ q) .0) b
 payments-back (suc k) i (one-more p g) ps items q e a b h =
-    let x = getD ps i noLine in
+    let x = getD ps i noPayable in
     let t = onward k (i + 1) ps in
     let f = payment-back (x .side) (x .cents) (x .bank) p (t ++ q) (e ∙ append-assoc (paymentText x) t q) (h .0) in
     let w = payments-back k (i + 1) g ps items q (f .1) a b (h .1) in
     record { many-are = ap suc (w .many-are); rest = w .rest; same = λ j m n. go j m n (f .0) (w .same j) (eqb j i) refl }
   where
-    go : (j : ℕ) → i ≤ j → j < i + suc k → SameLine (getD ps i noLine) (getD items i noPayment) → (i + 1 ≤ j → j < i + 1 + k → SameLine (getD ps j noLine) (getD items j noPayment)) → (c : Bool) → eqb j i ≡ c → SameLine (getD ps j noLine) (getD items j noPayment)
-    go j m n here later true c = subst (λ (n : ℕ). SameLine (getD ps n noLine) (getD items n noPayment)) (sym (eqb-true j i c)) here
+    go : (j : ℕ) → i ≤ j → j < i + suc k → SamePayable (getD ps i noPayable) (getD items i noPayment) → (i + 1 ≤ j → j < i + 1 + k → SamePayable (getD ps j noPayable) (getD items j noPayment)) → (c : Bool) → eqb j i ≡ c → SamePayable (getD ps j noPayable) (getD items j noPayment)
+    go j m n here later true c = subst (λ (n : ℕ). SamePayable (getD ps n noPayable) (getD items n noPayment)) (sym (eqb-true j i c)) here
     go j m n here later false c = later (omega (arith, eqb-false j i c)) (omega arith)
 
 -- ---- the activation
@@ -129,24 +129,24 @@ activation-back (Minute k) (inr g) m q h u v says =
 abbrev pub places : ℕ → ℕ
 places n = cond (ltb n 10) n 10
 
-pub message-opens : (o : Order) → messageText o ≡ lineText (bytes ":16A:") (Numbers (o .number) (o .count)) ++ (lineText (bytes ":171:") (Date (o .date)) ++ (activationText (o .activation) ++ (onward (places (o .n)) 0 (o .lines) ++ (lineText (bytes ":203:") (Count (o .n)) ++ []))))
+pub message-opens : (o : Order) → messageText o ≡ lineText (bytes ":16A:") (Numbers (o .number) (o .count)) ++ (lineText (bytes ":171:") (Date (o .date)) ++ (activationText (o .activation) ++ (onward (places (o .n)) 0 (o .payments) ++ (lineText (bytes ":203:") (Count (o .n)) ++ []))))
 unfolding messageText termsText paymentsText
 message-opens o =
     let f = lineText (bytes ":203:") (Count (o .n)) in
-    ap (λ (l : List ℕ). (((lineText (bytes ":16A:") (Numbers (o .number) (o .count)) ++ lineText (bytes ":171:") (Date (o .date))) ++ activationText (o .activation)) ++ l) ++ f) (payments-are (places (o .n)) (o .lines))
+    ap (λ (l : List ℕ). (((lineText (bytes ":16A:") (Numbers (o .number) (o .count)) ++ lineText (bytes ":171:") (Date (o .date))) ++ activationText (o .activation)) ++ l) ++ f) (payments-are (places (o .n)) (o .payments))
     ∙ simp (append-assoc, append-nil {A = ℕ})
 
 body-back : (o : Order) {l : List ℕ} {r : Reading} → SameHead o (r .head) → l ≡ messageText o → BodySays l r → SameValues o r
 body-back o {r = r} head e b =
     let t = b .text in
     let q₅ = lineText (bytes ":203:") (Count (o .n)) ++ [] in
-    let q₄ = onward (places (o .n)) 0 (o .lines) ++ q₅ in
+    let q₄ = onward (places (o .n)) 0 (o .payments) ++ q₅ in
     let q₃ = activationText (o .activation) ++ q₄ in
     let q₂ = lineText (bytes ":171:") (Date (o .date)) ++ q₃ in
     let a = line-same (bytes ":16A:") (t .numbers) (Numbers (o .number) (o .count)) q₂ (e ∙ message-opens o) (is-numbers-free (t .numbers .is)) (numbers-free (o .number) (o .count)) in
     let c = line-same (bytes ":171:") (t .date) (Date (o .date)) q₃ (a .1) (digits-free (t .date .value) (t .date .is .six .all)) (digits-free (fixed 6 (o .date)) (fixed-digits 6 (o .date))) in
-    let d = activation-back (o .activation) (t .activation) (r .terms .activation) q₄ (c .1) (not-activation (places (o .n)) 0 (o .n) (o .lines) []) (not-timed-many (t .least) (t .payments)) (b .activation) in
-    let w = payments-back (places (o .n)) 0 (t .payments) (o .lines) (r .payments) q₅ (d .1) (counted-tag (o .n) [] .0) (not-more (t .count)) (b .payments) in
+    let d = activation-back (o .activation) (t .activation) (r .terms .activation) q₄ (c .1) (not-activation (places (o .n)) 0 (o .n) (o .payments) []) (not-timed-many (t .least) (t .payments)) (b .activation) in
+    let w = payments-back (places (o .n)) 0 (t .payments) (o .payments) (r .payments) q₅ (d .1) (counted-tag (o .n) [] .0) (not-more (t .count)) (b .payments) in
     let f = line-same (bytes ":203:") (t .count) (Count (o .n)) [] (w .rest) (digits-free (t .count .value) (t .count .is .digits)) (count-free (o .n)) in
     let nn = numbers-back (o .number) (o .count) (t .numbers .is) (a .0) in
     let day : valueOf 0 (t .date .value) ≡ o .date = ap (valueOf 0) (c .0) ∙ fixed-value 6 (o .date) (omega (arith, ap length (c .0), t .date .is .six .size)) in

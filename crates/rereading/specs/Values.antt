@@ -11,9 +11,9 @@ use Rattle.dates.specs.declared.Day.the-variants.{Number}
 use Rattle.payments.specs.declared.Payment.{Payment}
 use Rattle.request.specs.declared.Head.{Head}
 use Rattle.request.specs.declared.Reading.{Reading}
-use Rattle.grammar.specs.Values.{noPayment}
-use Rattle.administrator.specs.Orders.{noLine}
-use Rattle.administrator.specs.declared.Line.{Line}
+use Rattle.payments.specs.Payments.{noPayment}
+use Rattle.administrator.specs.Orders.{noPayable}
+use Rattle.administrator.specs.declared.Payable.{Payable}
 use Rattle.administrator.specs.declared.Order.{Order}
 use Rattle.administrator.specs.declared.Side.{Side}
 use Rattle.administrator.specs.declared.Side.the-variants.{Credit, Debit}
@@ -28,8 +28,8 @@ pub record SamePayment (side : Side) (cents bank : ℕ) (p : Payment) : Type 0 w
   pub same-cents : p .amount .number ≡ cents
   pub same-bank : p .bank .number ≡ bank
 
-abbrev pub SameLine : Line → Payment → Type 0
-SameLine l p = SamePayment (l .side) (l .cents) (l .bank) p
+abbrev pub SamePayable : Payable → Payment → Type 0
+SamePayable l p = SamePayment (l .side) (l .cents) (l .bank) p
 
 -- 20 to 119
 pub record SameHead (o : Order) (h : Head) : Type 0 where
@@ -46,7 +46,7 @@ pub record SameValues (o : Order) (r : Reading) : Type 0 where
   pub date : dayOf (o .date) ≡ Number (r .terms .date .number)
   pub activation : r .terms .activation ≡ o .activation
   pub n : r .n ≡ o .n
-  pub payments : (i : ℕ) → i < o .n → SameLine (getD (o .lines) i noLine) (getD (r .payments) i noPayment)
+  pub payments : (i : ℕ) → i < o .n → SamePayable (getD (o .payments) i noPayable) (getD (r .payments) i noPayment)
 
 -- the halves of a code are numbers of 64 bits
 abbrev pub Halves : Code → Type 0
@@ -58,8 +58,8 @@ pub record Typed (o : Order) : Type 0 where
   pub bin : Halves (o .bin)
 
 -- the order that gives the values of a reading
-unfoldable pub lineOf : Payment → Line
-lineOf p = record { side = cond (eqb (p .side .number) 0) Credit (Debit (p .letters .number)); cents = p .amount .number; bank = p .bank .number }
+unfoldable pub payableOf : Payment → Payable
+payableOf p = record { side = cond (eqb (p .side .number) 0) Credit (Debit (p .letters .number)); cents = p .amount .number; bank = p .bank .number }
 
 unfoldable pub orderOf : Reading → Order
 orderOf r = record {
@@ -71,7 +71,7 @@ orderOf r = record {
   count = r .terms .count;
   date = dateOf (r .terms .date .number);
   activation = r .terms .activation;
-  lines = map lineOf (r .payments);
+  payments = map payableOf (r .payments);
   n = r .n;
 }
 

@@ -48,8 +48,24 @@ pub enum Written {
     Unfit(Refusal),
 }
 
-// The longest response: a 132 with a reference of 16 characters, a BIN of 8 and a date.
-pub const LONGEST: usize = 105;
+// The head is 20, 12, 77E and 21: where 12 and 21 begin in it, and how long it is without the reference.
+const SUB_TYPE_AT: usize = 14;
+
+const REFERENCE_AT: usize = 30;
+
+const HEAD: usize = 36;
+
+// The batch is 22A and 119: where 119 begins in it, and how long it is without the BIN.
+const BIN_AT: usize = 11;
+
+const BATCH: usize = 18;
+
+// How long the end is: 451 and 13E, 451 and 432, 451 alone.
+const SETTLED: usize = 27;
+
+const REJECTED: usize = 17;
+
+const RECALLED: usize = 8;
 
 // The number after the last of seven digits, of two digits, and the day after the last of 2099.
 const NUMBERS: u64 = 10_000_000;
@@ -141,8 +157,8 @@ fn put_head(out: &mut [u8], at: usize, number: u64, kind: u64, reference: Code, 
     ensures { λ _. ⌜ now (out .exit) ≡ sets (now (out .entry)) at (headText number kind reference) ⌝ }
 {
     put_number(out, at, number);
-    put_sub_type(out, at + 14, kind);
-    put_reference(out, at + 30, reference, n);
+    put_sub_type(out, at + SUB_TYPE_AT, kind);
+    put_reference(out, at + REFERENCE_AT, reference, n);
 }
 
 fn put_batch(out: &mut [u8], at: usize, stream: u64, bin: Code, n: usize)
@@ -150,7 +166,7 @@ fn put_batch(out: &mut [u8], at: usize, stream: u64, bin: Code, n: usize)
     ensures { λ _. ⌜ now (out .exit) ≡ sets (now (out .entry)) at (batchText stream bin) ⌝ }
 {
     put_stream(out, at, stream);
-    put_bin(out, at + 11, bin, n);
+    put_bin(out, at + BIN_AT, bin, n);
 }
 
 // Whether n bytes fit from a place on.
@@ -179,8 +195,8 @@ fn outcome_length(outcome: Outcome) -> usize
     ensures small { λ r. ⌜ r ≤ 27 ⌝ }
 {
     match outcome {
-        Outcome::Settled(_, _) => 27,
-        Outcome::Rejected(_) => 17,
+        Outcome::Settled(_, _) => SETTLED,
+        Outcome::Rejected(_) => REJECTED,
     }
 }
 
@@ -191,7 +207,7 @@ fn settlement_length(r: Settlement) -> usize
     let n = r.reference.len();
     let m = r.bin.len();
     let outcome = r.outcome;
-    36 + n + (18 + m) + outcome_length(outcome)
+    HEAD + n + (BATCH + m) + outcome_length(outcome)
 }
 
 // 132 into a buffer that has room for it; the place after it.
@@ -201,8 +217,8 @@ pub fn put_settlement(out: &mut [u8], at: usize, r: Settlement) -> usize
 {
     let n = r.reference.len();
     let m = r.bin.len();
-    let b = 36 + n;
-    let e = b + (18 + m);
+    let b = HEAD + n;
+    let e = b + (BATCH + m);
     let outcome = r.outcome;
     let k = e + outcome_length(outcome);
     put_head(out, at, r.number, SETTLEMENT, r.reference, n);
@@ -271,8 +287,8 @@ fn answer_length(answer: Answer) -> usize
     ensures small { λ r. ⌜ r ≤ 17 ⌝ }
 {
     match answer {
-        Answer::Recalled => 8,
-        Answer::Kept(_) => 17,
+        Answer::Recalled => RECALLED,
+        Answer::Kept(_) => REJECTED,
     }
 }
 
@@ -282,7 +298,7 @@ fn recall_length(r: Recall) -> usize
 {
     let n = r.reference.len();
     let answer = r.answer;
-    36 + n + answer_length(answer)
+    HEAD + n + answer_length(answer)
 }
 
 // 134 into a buffer that has room for it; the place after it.
@@ -291,7 +307,7 @@ pub fn put_recall(out: &mut [u8], at: usize, r: Recall) -> usize
     ensures { λ e. ⌜ (e ≡ at + length (recallText r)) × (now (out .exit) ≡ sets (now (out .entry)) at (recallText r)) ⌝ }
 {
     let n = r.reference.len();
-    let b = 36 + n;
+    let b = HEAD + n;
     let answer = r.answer;
     let k = b + answer_length(answer);
     put_head(out, at, r.number, RECALL, r.reference, n);

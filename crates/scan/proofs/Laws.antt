@@ -2,13 +2,13 @@
 use Prim.Native.Nat.{ℕ, zero, suc, _+_, _-_, _*_, _≤_, _<_}
 use mathlib.Core.Path.{_≡_, refl, ap, sym, _∙_}
 use mathlib.Core.List.{List, [], _∷_}
-use mathlib.Core.Bool.{Bool, true, false, cond, not, false≢true}
+use mathlib.Core.Bool.{Bool, true, false, cond, not, and-false, false≢true}
 use native.Mathlib.Nat.{add-zero, add-suc, suc-add, zero-add}
 use native.Mathlib.Numerals.{add-one}
 use native.Mathlib.Omega.{arith}
 use borrow.Author.Tests.{eq-eqb, ne-eqb, not-true, not-false, ltb-true, ltb-false, le-leb, lt-leb}
 use lib.Dec.{ltb}
-use lib.ListN.{length, getD, drop, drop-of-length-le}
+use lib.ListN.{length, getD, drop, drop-of-length-le, length-drop}
 use lib.Seq.{drop-cons}
 use Rattle.chars.specs.Chars.{isCode, isDigit, digitValue}
 use Rattle.scan.specs.Scan.{crlf, begins, litAt, run, codesAt, codeAt, digits, digitsAt, numberAt, lineEnd, most, ten}
@@ -22,10 +22,6 @@ module _ (s p : List ℕ) (i j : ℕ) where
   unfolding litAt begins
   lit-done h = simp (drop-of-length-le p h, add-zero)
 
-  pub lit-end : i < length p → length s ≤ j → litAt s j (drop i p) ≡ No
-  unfolding litAt begins
-  lit-end h k = simp (drop-cons p i 0 h, drop-of-length-le s k)
-
   pub lit-miss : i < length p → j < length s → (getD s j 0 ≡ getD p i 0 → ⊥) → litAt s j (drop i p) ≡ No
   unfolding litAt begins
   lit-miss h k e = simp (drop-cons p i 0 h, drop-cons s j 0 k, ne-eqb _ _ e)
@@ -33,6 +29,44 @@ module _ (s p : List ℕ) (i j : ℕ) where
   pub lit-step : i < length p → j < length s → getD s j 0 ≡ getD p i 0 → litAt s j (drop i p) ≡ litAt s (j + 1) (drop (i + 1) p)
   unfolding litAt begins
   lit-step h k e = simp (drop-cons p i 0 h, drop-cons s j 0 k, eq-eqb _ _ e, add-one, add-suc, suc-add)
+
+-- a string that is longer than what is left does not stand there
+begins-short : (p l : List ℕ) → length l < length p → begins p l ≡ false
+unfolding begins
+begins-short [] l h = absurd (omega arith)
+begins-short (x ∷ p) [] h = refl
+begins-short (x ∷ p) (y ∷ l) h = simp (begins-short p l (omega arith), and-false)
+
+module _ (s : List ℕ) (at : ℕ) (p : List ℕ) where
+  pub lit-short : {n : ℕ} → n ≡ length s - at → n < length p → No ≡ litAt s at p
+  unfolding litAt
+  lit-short e h = simp (begins-short p (drop at s) (simp length-drop (omega (arith, e, h))))
+
+  -- where the comparison stands: the first i bytes are alike, and the string fits
+  pub record Matching (i : ℕ) : Type 0 where
+    pub within : i ≤ length p
+    pub fits : length p ≤ length s - at
+    pub same : litAt s (at + i) (drop i p) ≡ litAt s at p
+
+  pub match-from : {n : ℕ} → n ≡ length s - at → length p ≤ n → Matching 0
+  match-from e h = record { within = omega arith; fits = omega (arith, e, h); same = ap (λ (n : ℕ). litAt s n p) (omega arith) }
+
+  module _ {i : ℕ} (m : Matching i) where
+    pub match-inside : i < length p → at + i < length s
+    match-inside h = omega (arith, h, m .fits)
+
+    pub match-not : i < length p → (getD s (at + i) 0 ≡ getD p i 0 → ⊥) → No ≡ litAt s at p
+    match-not h e = sym (lit-miss s p i (at + i) h (match-inside h) e) ∙ m .same
+
+    pub match-on : i < length p → getD s (at + i) 0 ≡ getD p i 0 → Matching (i + 1)
+    match-on h e = record {
+      within = omega arith;
+      fits = m .fits;
+      same = ap (λ (n : ℕ). litAt s n (drop (i + 1) p)) (omega arith) ∙ sym (lit-step s p i (at + i) h (match-inside h) e) ∙ m .same;
+    }
+
+    pub match-all : length p ≤ i → Next (at + i) ≡ litAt s at p
+    match-all h = sym (lit-done s p i (at + i) h) ∙ m .same
 
 module _ (s : List ℕ) (j n : ℕ) where
   pub codes-none : codesAt s j 0 ≡ j

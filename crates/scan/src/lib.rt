@@ -1,6 +1,7 @@
 // Steps over a text at a place: a fixed string, a run of A-Z 0-9, a number, the end of a line.
 ghost use mathlib.Core.Path.{_≡_};
-ghost use Prim.Native.Nat.{_<_};
+ghost use Prim.Native.Nat.{_-_, _<_};
+ghost use lib.ListN.{length};
 ghost use Rattle.scan.specs.Scan.{litAt, codesAt, codeAt, digitsAt, numberAt, lineEndAt, most, ten, Fits};
 
 // A place in a text.
@@ -11,9 +12,6 @@ pub struct Cursor {
 impl Cursor {
     // Where a text begins.
     pub const START: usize = 0;
-
-    // No reader looks at a byte past so many.
-    pub const REACH: usize = 4_096;
 
     pub fn new() -> Cursor
         ensures { λ r. ⌜ r .at ≡ 0 ⌝ }
@@ -28,23 +26,28 @@ pub enum At {
     No,
 }
 
+// How many bytes stand from a place on.
+fn left(s: &[u8], at: usize) -> usize
+    ensures { λ r. ⌜ r ≡ length (now (s .entry)) - at ⌝ }
+{
+    if at < s.len() { s.len() - at } else { 0 }
+}
+
 // The fixed string `tag` at a place.
 pub fn lit(s: &[u8], at: usize, tag: &[u8]) -> At
     ensures { λ r. ⌜ r ≡ litAt (now (s .entry)) at (now (tag .entry)) ⌝ }
 {
+    if left(s, at) < tag.len() {
+        return At::No;
+    }
     let mut i = 0;
-    let mut j = at;
     while i < tag.len() {
-        if j >= s.len() {
-            return At::No;
-        }
-        if s[j] != tag[i] {
+        if s[at + i] != tag[i] {
             return At::No;
         }
         i += 1;
-        j += 1;
     }
-    At::Next(j)
+    At::Next(at + i)
 }
 
 // Past the A-Z 0-9 that stand at a place, at most `max` of them.

@@ -1,20 +1,26 @@
 -- How far 16A, 171 and 175 reach, and that two texts which begin alike have the same ones.
-use Prim.Native.Nat.{ℕ}
-use mathlib.Core.Path.{_≡_, refl}
+use Prim.Native.Nat.{ℕ, _≤_}
+use mathlib.Core.Path.{_≡_, refl, ap, subst, _∙_}
 use mathlib.Core.List.{List}
+use mathlib.Core.Bool.{Bool, true, false}
 use mathlib.Core.Logic.{inl, inr}
 use native.Mathlib.Omega.{arith}
+use borrow.Author.Tests.{leb-true, leb-false}
+use lib.Dec.{leb}
 use Rattle.chars.specs.Words.{bytes}
 use Rattle.scan.specs.Scan.{onNext, litAt}
 use Rattle.scan.specs.declared.At.{At}
 use Rattle.scan.specs.declared.At.the-variants.{Next, No}
 use Rattle.scan.specs.declared.Cursor.{Cursor}
 use Rattle.scan.proofs.Alike.{Alike, by-next}
+use Rattle.values.specs.Values.{noPart, countIn}
+use Rattle.values.proofs.Alike.{text-alike}
 use Rattle.fields.specs.Fields.{place, onGood, fieldAt}
 use Rattle.fields.specs.declared.Item.{Item}
+use Rattle.fields.specs.declared.Field.the-variants.{Good}
 use Rattle.fields.specs.declared.Kind.the-variants.{Numbers, Date, Time}
-use Rattle.fields.proofs.Alike.{Reaches, here, Or, field-in, field-alike, in-then, alike-then, look-alike}
-use Rattle.terms.specs.Terms.{noPart, activationAt, onGiven, terms, termsAt}
+use Rattle.fields.proofs.Alike.{Reaches, In, here, Or, field-in, field-alike, in-then, alike-then, look-alike}
+use Rattle.terms.specs.Terms.{activationAt, onGiven, terms, termsAt}
 use Rattle.terms.specs.declared.Activation.the-variants.{AtOnce, Minute}
 use Rattle.terms.specs.declared.Activated.{Activated}
 use Rattle.terms.specs.declared.Activated.the-variants.{Given, Ungiven}
@@ -53,17 +59,17 @@ statedStop (Whole t c) = c .at
 statedStop (Partial b) = b .at
 
 -- what follows 171
-abbrev dated : Item → Item → Activated → Stated
-dated i date x = onGiven x Partial (λ m p e. Whole (terms i date m p) e)
+abbrev dated : List ℕ → Item → Item → Activated → Stated
+dated s i date x = onGiven x Partial (λ m p e. Whole (terms s i date m p) e)
 
-dated-stop : (i date : Item) (x : Activated) → statedStop (dated i date x) ≡ givenStop x
-dated-stop i date (Given m p e) = refl
-dated-stop i date (Ungiven b) = refl
+dated-stop : (s : List ℕ) (i date : Item) (x : Activated) → statedStop (dated s i date x) ≡ givenStop x
+dated-stop s i date (Given m p e) = refl
+dated-stop s i date (Ungiven b) = refl
 
-dated-in : (s : List ℕ) (i date : Item) (at : ℕ) → Reaches at 28 (statedStop (dated i date (activationAt s at)))
-dated-in s i date at = rw (dated-stop i date (activationAt s at)) (activation-in s at)
+dated-in : (s : List ℕ) (i date : Item) (at : ℕ) → Reaches at 28 (statedStop (dated s i date (activationAt s at)))
+dated-in s i date at = rw (dated-stop s i date (activationAt s at)) (activation-in s at)
 
-terms-rest : (s : List ℕ) (i : Item) (c : Cursor) → Reaches (c .at) 56 (statedStop (onGood (fieldAt s (c .at) (bytes ":171:") Date) Partial (λ date d. dated i date (activationAt s (d .at)))))
+terms-rest : (s : List ℕ) (i : Item) (c : Cursor) → Reaches (c .at) 56 (statedStop (onGood (fieldAt s (c .at) (bytes ":171:") Date) Partial (λ date d. dated s i date (activationAt s (d .at)))))
 terms-rest s i c = in-then statedStop (c .at) 28 (fieldAt s (c .at) (bytes ":171:") Date) Partial _
     (field-in s (c .at) (bytes ":171:") Date (omega arith) tt) (λ b. refl) (λ date d r. dated-in s i date (d .at))
 
@@ -80,10 +86,21 @@ terms-alike {n} {s} {t} a at = alike-then statedStop n (fieldAt s at (bytes ":16
       alike-then statedStop n (fieldAt s (c .at) (bytes ":171:") Date) (fieldAt t (c .at) (bytes ":171:") Date) Partial _ _
           (field-alike a (c .at) (bytes ":171:") Date (omega arith) tt) (λ b. refl) (λ date d r. (
             dated-in s i date (d .at) .0,
-            go i date (activationAt s (d .at)) (activationAt t (d .at)) (activation-alike a (d .at)),
+            go i date (activationAt s (d .at)) (activationAt t (d .at)) (within i c date d q r) (activation-alike a (d .at)) (leb (i .part .end) n) refl,
           )),
     ))
   where
-    go : (i date : Item) (x y : Activated) → Or n x y (givenStop x) → Or n (dated i date x) (dated i date y) (statedStop (dated i date x))
-    go i date x y (inl q) = inl (rw q)
-    go i date x y (inr q) = inr (rw (dated-stop i date x) q)
+    -- the part of 16A, in which the count stands, ends before what follows it
+    within : (i : Item) (c : Cursor) (date : Item) (d : Cursor) → fieldAt s at (bytes ":16A:") Numbers ≡ Good i c → fieldAt s (c .at) (bytes ":171:") Date ≡ Good date d → i .part .end ≤ givenStop (activationAt s (d .at))
+    within i c date d q r =
+        let g = subst (In at) q (field-in s at (bytes ":16A:") Numbers (omega arith) tt) in
+        let k = subst (In (c .at)) r (field-in s (c .at) (bytes ":171:") Date (omega arith) tt) in
+        omega (arith, g .2, k .0, activation-in s (d .at) .0)
+
+    counted : (i date : Item) (x : Activated) → i .part .end ≤ n → dated s i date x ≡ dated t i date x
+    counted i date x h = ap (λ (v : List ℕ). onGiven x Partial (λ m p e. Whole (record { numbers = i .part; number = i .number; count = countIn v; date = date; activation = m; activated = p }) e)) (text-alike a (i .part) h)
+
+    go : (i date : Item) (x y : Activated) → i .part .end ≤ givenStop x → Or n x y (givenStop x) → (b : Bool) → leb (i .part .end) n ≡ b → Or n (dated s i date x) (dated t i date y) (statedStop (dated s i date x))
+    go i date x y h (inl q) true k = inl (counted i date x (leb-true (i .part .end) n k) ∙ rw q)
+    go i date x y h (inl q) false k = inr (rw (dated-stop s i date x) (omega (arith, h, leb-false (i .part .end) n k)))
+    go i date x y h (inr q) b k = inr (rw (dated-stop s i date x) q)

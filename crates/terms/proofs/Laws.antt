@@ -7,24 +7,28 @@ use Rattle.scan.specs.Scan.{litAt}
 use Rattle.scan.specs.declared.Cursor.{Cursor}
 use Rattle.scan.specs.declared.At.{At}
 use Rattle.scan.specs.declared.At.the-variants.{Next, No}
+use Rattle.values.specs.Values.{noPart, textOf, countIn}
 use Rattle.values.specs.declared.Part.{Part}
-use Rattle.fields.specs.Fields.{place, fieldAt, whyNot}
+use Rattle.fields.specs.Fields.{nothing, place, fieldAt, whyNot}
 use Rattle.fields.specs.declared.Break.{Break}
 use Rattle.fields.specs.declared.Item.{Item}
 use Rattle.fields.specs.declared.Field.{Field}
 use Rattle.fields.specs.declared.Field.the-variants.{Good, Bad}
 use Rattle.fields.specs.declared.Kind.the-variants.{Numbers, Date, Time}
-use Rattle.terms.specs.Terms.{noPart, activationAt, unactivated, terms, termsAt}
+use Rattle.terms.specs.Terms.{noTerms, activationAt, unactivated, terms, termsAt}
 use Rattle.terms.specs.declared.Activation.{Activation}
 use Rattle.terms.specs.declared.Activation.the-variants.{AtOnce, Minute}
 use Rattle.terms.specs.declared.Activated.{Activated}
 use Rattle.terms.specs.declared.Activated.the-variants.{Given, Ungiven}
 use Rattle.terms.specs.declared.Stated.the-variants.{Whole, Partial}
 
+pub no-terms : {p q : Part} {i : Item} → p ≡ noPart → i ≡ nothing → q ≡ noPart → record { numbers = p; number = 0; count = 0; date = i; activation = AtOnce; activated = q } ≡ noTerms
+no-terms p i q = simp (p, i, q)
+
 module _ (s : List ℕ) (at : ℕ) where
-  pub activation-1 : {r : At} → r ≡ litAt s at (bytes ":175:") → r ≡ No → Given AtOnce noPart (place at) ≡ activationAt s at
+  pub activation-1 : {r : At} {p : Part} → r ≡ litAt s at (bytes ":175:") → r ≡ No → p ≡ noPart → Given AtOnce p (place at) ≡ activationAt s at
   unfolding activationAt
-  activation-1 p p′ = simp (← p, p′)
+  activation-1 p p′ q = simp (← p, p′, q)
 
   pub activation-2 : {r : At} {a : ℕ} {f : Field} {b w : Break} → r ≡ litAt s at (bytes ":175:") → r ≡ Next a → f ≡ fieldAt s at (bytes ":175:") Time → f ≡ Bad b → w ≡ whyNot f → Ungiven w ≡ activationAt s at
   unfolding activationAt
@@ -46,6 +50,6 @@ module _ (s : List ℕ) (at : ℕ) where
   unfolding termsAt
   terms-3 p p′ q q′ r r′ w = simp (← p, p′, ← q, q′, ← r, w, r′)
 
-  pub terms-4 : {f g : Field} {i j : Item} {c d e : Cursor} {a : Activated} {m : Activation} {t : Part} → f ≡ fieldAt s at (bytes ":16A:") Numbers → f ≡ Good i c → g ≡ fieldAt s (c .at) (bytes ":171:") Date → g ≡ Good j d → a ≡ activationAt s (d .at) → a ≡ Given m t e → Whole (terms i j m t) e ≡ termsAt s at
+  pub terms-4 : {f g : Field} {i j : Item} {c d e : Cursor} {a : Activated} {m : Activation} {t : Part} {v : List ℕ} {n : ℕ} → f ≡ fieldAt s at (bytes ":16A:") Numbers → f ≡ Good i c → g ≡ fieldAt s (c .at) (bytes ":171:") Date → g ≡ Good j d → a ≡ activationAt s (d .at) → a ≡ Given m t e → v ≡ textOf s (i .part) → n ≡ countIn v → Whole (record { numbers = i .part; number = i .number; count = n; date = j; activation = m; activated = t }) e ≡ termsAt s at
   unfolding termsAt
-  terms-4 p p′ q q′ r r′ = simp (← p, p′, ← q, q′, ← r, r′)
+  terms-4 p p′ q q′ r r′ v n = simp (← p, p′, ← q, q′, ← r, r′, n, v)

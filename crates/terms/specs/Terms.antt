@@ -1,11 +1,12 @@
 -- 16A, 171 and 175 of a settlement request.
-use Prim.Native.Nat.{ℕ, _/_, _%_}
+use Prim.Native.Nat.{ℕ}
 use mathlib.Core.List.{List}
 use Rattle.chars.specs.Words.{bytes}
 use Rattle.scan.specs.Scan.{onNext, litAt}
 use Rattle.scan.specs.declared.Cursor.{Cursor}
+use Rattle.values.specs.Values.{noPart, textOf, countIn}
 use Rattle.values.specs.declared.Part.{Part}
-use Rattle.fields.specs.Fields.{absent, place, onGood, fieldAt}
+use Rattle.fields.specs.Fields.{absent, nothing, place, onGood, fieldAt}
 use Rattle.fields.specs.declared.Break.{Break}
 use Rattle.fields.specs.declared.Item.{Item}
 use Rattle.fields.specs.declared.Kind.the-variants.{Numbers, Date, Time}
@@ -16,9 +17,6 @@ use Rattle.terms.specs.declared.Activated.the-variants.{Given, Ungiven}
 use Rattle.terms.specs.declared.Terms.{Terms}
 use Rattle.terms.specs.declared.Stated.{Stated}
 use Rattle.terms.specs.declared.Stated.the-variants.{Whole, Partial}
-
-abbrev pub noPart : Part
-noPart = record { start = 0; end = 0 }
 
 -- 175: "activation HHMM, 00 to 23 and 00 to 59; the line may be missing"
 unfoldable pub activationAt : List ℕ → ℕ → Activated
@@ -35,16 +33,20 @@ abbrev pub onGiven : {A : Type 0} → Activated → (Break → A) → (Activatio
 onGiven (Given m p c) d k = k m p c
 onGiven (Ungiven b) d k = d b
 
--- the number and the count stand in one number of four digits
-abbrev pub terms : Item → Item → Activation → Part → Terms
-terms i date m p = record { numbers = i .part; number = i .number / 100; count = i .number % 100; date = date; activation = m; activated = p }
+-- 16A: "nn/nn: number, count"
+abbrev pub terms : List ℕ → Item → Item → Activation → Part → Terms
+terms s i date m p = record { numbers = i .part; number = i .number; count = countIn (textOf s (i .part)); date = date; activation = m; activated = p }
+
+-- of a text that has none
+abbrev pub noTerms : Terms
+noTerms = record { numbers = noPart; number = 0; count = 0; date = nothing; activation = AtOnce; activated = noPart }
 
 unfoldable pub termsAt : List ℕ → ℕ → Stated
 termsAt s at =
     onGood (fieldAt s at (bytes ":16A:") Numbers) Partial (λ i c.
     onGood (fieldAt s (c .at) (bytes ":171:") Date) Partial (λ date d.
     onGiven (activationAt s (d .at)) Partial (λ m p e.
-    Whole (terms i date m p) e)))
+    Whole (terms s i date m p) e)))
 
 abbrev pub unstated : Stated → Break
 unstated (Whole t c) = absent 0

@@ -7,7 +7,7 @@ use scan::At;
 use scan::Cursor;
 use values::Part;
 ghost use mathlib.Core.Path.{_≡_};
-ghost use Rattle.terms.specs.Terms.{activationAt, unactivated, termsAt, unstated};
+ghost use Rattle.terms.specs.Terms.{noTerms, activationAt, unactivated, termsAt, unstated};
 
 // The minute of the day from which a batch may settle.
 pub enum Activation {
@@ -38,7 +38,7 @@ pub fn read_activation(s: &[u8], c: Cursor) -> Activated
     ensures { λ r. ⌜ r ≡ activationAt (now (s .entry)) (c .at) ⌝ }
 {
     if let At::No = scan::lit(s, c.at, b":175:") {
-        return Activated::Given(Activation::AtOnce, Part { start: 0, end: 0 }, c);
+        return Activated::Given(Activation::AtOnce, Part::nowhere(), c);
     }
     let f = fields::read_field(s, c, b":175:", Kind::Time);
     let Field::Good(i, next) = f else {
@@ -55,6 +55,22 @@ pub struct Terms {
     pub date: Item,
     pub activation: Activation,
     pub activated: Part,
+}
+
+impl Terms {
+    // Of a text that has none.
+    pub fn nothing() -> Terms
+        ensures { λ r. ⌜ r ≡ noTerms ⌝ }
+    {
+        Terms {
+            numbers: Part::nowhere(),
+            number: 0,
+            count: 0,
+            date: Item::nothing(),
+            activation: Activation::AtOnce,
+            activated: Part::nowhere(),
+        }
+    }
 }
 
 // The terms and the cursor past them, or the break.
@@ -92,12 +108,11 @@ pub fn read_terms(s: &[u8], c: Cursor) -> Stated
         return Stated::Partial(a.why());
     };
     let numbers = i.part;
-    let v = i.number;
     Stated::Whole(
         Terms {
             numbers,
-            number: v / 100,
-            count: v % 100,
+            number: i.number,
+            count: values::count_in(values::text_of(s, numbers)),
             date,
             activation,
             activated,

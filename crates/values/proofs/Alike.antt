@@ -8,7 +8,7 @@ use lib.Dec.{leb, eqb}
 use borrow.Author.Tests.{eqb-true, leb-true, leb-false}
 use lib.ListN.{length, getD, take, drop, length-take}
 use Rattle.chars.specs.Words.{bytes}
-use Rattle.codes.specs.Codes.{packOn, shortAt}
+use Rattle.codes.specs.Codes.{packOn, shortAt, longOf}
 use Rattle.scan.specs.Scan.{litAt, codesAt, codeAt, digitsAt, numberAt, lineEndAt}
 use Rattle.scan.specs.declared.Fixed.{Fixed}
 use Rattle.scan.specs.declared.Fixed.the-variants.{Value as Digits, No as Unfit}
@@ -20,7 +20,7 @@ use Rattle.dates.specs.declared.Day.the-variants.{Number, Untrue}
 use Rattle.clock.specs.Clock.{minuteOf}
 use Rattle.clock.specs.declared.Minute.{Minute}
 use Rattle.clock.specs.declared.Minute.the-variants.{Number as Clocked, Untrue as Unclocked}
-use Rattle.values.specs.Values.{malformed, onDigits, onDay, onMinute, textOf, forbiddenAt, referenceAt, numeralAt, wordAt, binAt, numbered, numbersAt, dateAt, timeAt, sideAt, amountAt, countAt}
+use Rattle.values.specs.Values.{malformed, onDigits, onDay, onMinute, textOf, codeOf, forbiddenAt, referenceAt, numeralAt, wordAt, binAt, numbered, numbersAt, dateAt, timeAt, sideAt, amountAt, countAt}
 use Rattle.values.specs.Letters.{isStatus, isFourth, judgedAt, lettersAt}
 use Rattle.values.specs.declared.Part.{Part}
 use Rattle.values.specs.declared.Value.{Value}
@@ -157,6 +157,10 @@ module _ {n : ℕ} {s t : List ℕ} (a : Alike n s t) where
       go : (b : Bool) → leb (p .start) (p .end) ≡ b → take (p .end - p .start) (drop (p .start) s) ≡ take (p .end - p .start) (drop (p .start) t)
       go true q = near a (p .start) (p .end - p .start) (omega (arith, leb-true (p .start) (p .end) q))
       go false q = let z : p .end - p .start ≡ 0 = omega (arith, leb-false (p .start) (p .end) q) in rw z
+
+  pub code-of-alike : (p : Part) → p .end ≤ n → codeOf s p ≡ codeOf t p
+  unfolding codeOf
+  code-of-alike p h = ap longOf (text-alike p h)
 
   module _ (at : ℕ) (h : at + 24 ≤ n) where
     pub reference-alike : referenceAt s at ≡ referenceAt t at

@@ -1,7 +1,7 @@
 -- The values of document 01's table as a grammar: what it means that a list of bytes is such a value, that it is read, and that nothing else is.
 use Prim.Native.Nat.{ℕ, _+_, _*_, _-_, _≤_, _<_}
 use mathlib.Core.Path.{_≡_, refl, ap, sym, _∙_}
-use mathlib.Core.List.{List, [], _∷_, _++_, append-assoc}
+use mathlib.Core.List.{List, [], _∷_, _++_, append-assoc, append-nil}
 use mathlib.Core.Bool.{Bool, true, false, cond, not, _&&_, _||_, false≢true}
 use mathlib.Core.Logic.{inl, inr}
 use native.Mathlib.Omega.{arith}
@@ -29,7 +29,7 @@ use Rattle.scan.specs.declared.Fixed.the-variants.{Value as Digits, No as Unfit
 use Rattle.scan.proofs.Laws.{lit-not}
 use Rattle.scan.specs.Spelling.{All, valueOf}
 use Rattle.scan.proofs.Standing.{past, lit-reads, codes-reads, digits-reads, code-reads, number-reads, line-end-reads, lit-next, lit-sound, cut, Stretch, codes-sound, code-sound, digits-sound, number-sound, line-end-sound}
-use Rattle.values.specs.Values.{malformed, stands, onDigits, onDay, onMinute, textOf, forbiddenAt, referenceAt, numeralAt, wordAt, binAt, numbered, numbersAt, dateAt, timeAt, sideAt, hundredths, amountAt, countAt}
+use Rattle.values.specs.Values.{malformed, stands, onDigits, onDay, onMinute, textOf, forbiddenAt, referenceAt, numeralAt, wordAt, binAt, numbered, numbersAt, countIn, dateAt, timeAt, sideAt, hundredths, amountAt, countAt}
 use Rattle.values.specs.Letters.{isStatus, isFourth, judgedAt, lettersAt}
 use Rattle.values.specs.declared.Part.{Part}
 use Rattle.values.specs.declared.Value.{Value}
@@ -160,7 +160,7 @@ module _ (s : List ℕ) (at : ℕ) (v r : List ℕ) (h : drop at s ≡ v ++ (crl
       let k : numberAt s (at + length w) 4 ≡ Digits (valueOf 0 d) (at + length w + length d) = ap (numberAt s (at + length w)) (sym (g .four .size)) ∙ number-reads s (at + length w) d (crlf ++ r) h₂ (g .four .all) (omega (arith, g .four .size)) in
       record { number = 0; is = simp (e, l, k) (ap (Read 0) (omega (arith, simp length-append at (ap length (g .is))))) }
 
-  pub numbers-read : (g : IsNumbers v) → numbersAt s at ≡ Read (valueOf 0 (g .number) * 100 + valueOf 0 (g .count)) (at + length v)
+  pub numbers-read : (g : IsNumbers v) → numbersAt s at ≡ Read (valueOf 0 (g .number)) (at + length v)
   unfolding numbersAt
   numbers-read g =
       let a = g .number in
@@ -171,10 +171,10 @@ module _ (s : List ℕ) (at : ℕ) (v r : List ℕ) (h : drop at s ≡ v ++ (crl
       let k₁ : numberAt s at 2 ≡ Digits (valueOf 0 a) (at + length a) = ap (numberAt s at) (sym (g .two .size)) ∙ number-reads s at a (bytes "/" ++ (b ++ (crlf ++ r))) h₁ (g .two .all) (omega (arith, g .two .size)) in
       let l = lit-reads s (at + length a) (bytes "/") (b ++ (crlf ++ r)) h₂ in
       let k₂ : numberAt s (at + length a + 1) 2 ≡ Digits (valueOf 0 b) (at + length a + 1 + length b) = ap (numberAt s (at + length a + 1)) (sym (g .too .size)) ∙ number-reads s (at + length a + 1) b (crlf ++ r) h₃ (g .too .all) (omega (arith, g .too .size)) in
-      simp (k₁, l, k₂, g .range) (ap (Read (valueOf 0 a * 100 + valueOf 0 b)) (omega (arith, simp length-append at (ap length (g .is)))))
+      simp (k₁, l, k₂, g .range) (ap (Read (valueOf 0 a)) (omega (arith, simp length-append at (ap length (g .is)))))
 
   pub numbers-complete : IsNumbers v → ReadsAs (numbersAt s at) (at + length v)
-  numbers-complete g = record { number = valueOf 0 (g .number) * 100 + valueOf 0 (g .count); is = numbers-read g }
+  numbers-complete g = record { number = valueOf 0 (g .number); is = numbers-read g }
 
   pub side-complete : IsSide v → ReadsAs (sideAt s at) (at + length v)
   unfolding sideAt
@@ -373,12 +373,12 @@ module _ (s : List ℕ) (at : ℕ) where
 
   pub numbers-sound : {x e : ℕ} → numbersAt s at ≡ Read x e → SpeltAs IsNumbers s at e
   unfolding numbersAt
-  numbers-sound {x} {e} h = on-digits s at 2 (λ n a. onNext (litAt s a (bytes "/")) malformed (λ b. onDigits (numberAt s b 2) malformed (λ m c. cond (numbered n m) (Read (n * 100 + m) c) malformed))) h (λ n a q₁ r₁.
-      on-lit s a (bytes "/") (λ b. onDigits (numberAt s b 2) malformed (λ m c. cond (numbered n m) (Read (n * 100 + m) c) malformed)) r₁ (λ b q₂ r₂.
-      on-digits s b 2 (λ m c. cond (numbered n m) (Read (n * 100 + m) c) malformed) r₂ (λ m c q₃ r₃.
+  numbers-sound {x} {e} h = on-digits s at 2 (λ n a. onNext (litAt s a (bytes "/")) malformed (λ b. onDigits (numberAt s b 2) malformed (λ m c. cond (numbered n m) (Read n c) malformed))) h (λ n a q₁ r₁.
+      on-lit s a (bytes "/") (λ b. onDigits (numberAt s b 2) malformed (λ m c. cond (numbered n m) (Read n c) malformed)) r₁ (λ b q₂ r₂.
+      on-digits s b 2 (λ m c. cond (numbered n m) (Read n c) malformed) r₂ (λ m c q₃ r₃.
       go n a b m c q₁ q₂ q₃ (numbered n m) refl r₃)))
     where
-      go : (n a b m c : ℕ) → numberAt s at 2 ≡ Digits n a → litAt s a (bytes "/") ≡ Next b → numberAt s b 2 ≡ Digits m c → (t : Bool) → numbered n m ≡ t → cond t (Read (n * 100 + m) c) malformed ≡ Read x e → SpeltAs IsNumbers s at e
+      go : (n a b m c : ℕ) → numberAt s at 2 ≡ Digits n a → litAt s a (bytes "/") ≡ Next b → numberAt s b 2 ≡ Digits m c → (t : Bool) → numbered n m ≡ t → cond t (Read n c) malformed ≡ Read x e → SpeltAs IsNumbers s at e
       go n a b m c q₁ q₂ q₃ false k h = unread h
       go n a b m c q₁ q₂ q₃ true k h =
           let z : c ≡ e = cc in
@@ -496,3 +496,15 @@ module _ (s : List ℕ) (at : ℕ) where
       go : (r : At) → lineEndAt s at 4 ≡ r → onNext r malformed (λ a. cond (eqb a (at + 4)) (judgedAt s at a) malformed) ≡ Read x e → SpeltAs IsLetters s at e
       go (Next a) q h = sized a q (eqb a (at + 4)) refl h
       go No q h = unread h
+
+-- the count of 16A, by its digits
+pub count-in : {v : List ℕ} (g : IsNumbers v) → countIn v ≡ valueOf 0 (g .count)
+unfolding countIn
+count-in {v} g =
+    let a = g .number in
+    let b = g .count in
+    let h₁ : drop 0 v ≡ a ++ (bytes "/" ++ (b ++ [])) = g .is ∙ ap (λ (l : List ℕ). a ++ (bytes "/" ++ l)) (sym (append-nil b)) in
+    let h₂ = past v (0 + length a) (bytes "/") (b ++ []) (past v 0 a (bytes "/" ++ (b ++ [])) h₁) in
+    let z : 3 ≡ 0 + length a + 1 = omega (arith, g .two .size) in
+    let k : numberAt v (0 + length a + 1) 2 ≡ Digits (valueOf 0 b) (0 + length a + 1 + length b) = ap (numberAt v (0 + length a + 1)) (sym (g .too .size)) ∙ number-reads v (0 + length a + 1) b [] h₂ (g .too .all) (omega (arith, g .too .size)) in
+    ap (λ (n : ℕ). onDigits (numberAt v n 2) 0 (λ m e. m)) z ∙ simp k

@@ -6,13 +6,14 @@ use mathlib.Core.Bool.{Bool, true, false, not, or-true, and-false}
 use native.Mathlib.Omega.{arith}
 use borrow.Author.Tests.{eq-eqb, ne-eqb, not-true, not-false, le-leb, lt-leb}
 use lib.ListN.{length, getD, take, drop, drop-of-length-le, length-drop}
-use lib.Seq.{take-all}
+use lib.Seq.{take-all, take-length}
 use Rattle.chars.specs.Words.{bytes}
 use Rattle.chars.specs.declared.Refusal.the-variants.{WrongEsa, WrongLetter}
 use Rattle.clock.specs.Clock.{minuteOf}
 use Rattle.clock.specs.declared.Minute.{Minute}
 use Rattle.clock.specs.declared.Minute.the-variants.{Number as Clocked, Untrue as Unclocked}
-use Rattle.codes.specs.Codes.{shortAt}
+use Rattle.codes.specs.Codes.{shortAt, longAt}
+use Rattle.codes.specs.declared.Code.{Code}
 use Rattle.dates.specs.Dates.{dayOf}
 use Rattle.dates.specs.declared.Day.{Day}
 use Rattle.dates.specs.declared.Day.the-variants.{Number, Untrue}
@@ -23,7 +24,7 @@ use Rattle.scan.specs.declared.At.the-variants.{Next, No}
 use Rattle.scan.specs.declared.Fixed.{Fixed}
 use Rattle.scan.specs.declared.Fixed.the-variants.{Value as Digits, No as Unfit}
 use Rattle.scan.proofs.Standing.{line-end-sound}
-use Rattle.values.specs.Values.{malformed, textOf, forbiddenAt, referenceAt, numeralAt, wordAt, binAt, numbered, numbersAt, dateAt, timeAt, sideAt, hundredths, amountAt, countAt}
+use Rattle.values.specs.Values.{malformed, textOf, codeOf, forbiddenAt, referenceAt, numeralAt, wordAt, binAt, numbered, numbersAt, countIn, dateAt, timeAt, sideAt, hundredths, amountAt, countAt}
 use Rattle.values.specs.Letters.{isStatus, isFourth, judgedAt, lettersAt}
 use Rattle.values.specs.declared.Part.{Part}
 use Rattle.values.specs.declared.Value.{Value}
@@ -193,6 +194,18 @@ pub numbered-high : (n m : ℕ) → 10 < m → numbered n m ≡ false
 unfolding numbered
 numbered-high n m a = simp (lt-leb m 10 a, and-false)
 
+pub code-is : (s : List ℕ) (p : Part) {t : List ℕ} {c : Code} → t ≡ textOf s p → c ≡ longAt t 0 (length t) → c ≡ codeOf s p
+unfolding codeOf longAt
+code-is s p {t} e q = q ∙ simp (take-length {A = ℕ}, e)
+
+pub count-in-1 : (v : List ℕ) {r : Fixed} → r ≡ numberAt v 3 2 → r ≡ Unfit → 0 ≡ countIn v
+unfolding countIn
+count-in-1 v p q = simp (← p, q)
+
+pub count-in-2 : (v : List ℕ) {r : Fixed} {m e : ℕ} → r ≡ numberAt v 3 2 → r ≡ Digits m e → m ≡ countIn v
+unfolding countIn
+count-in-2 v p q = simp (← p, q)
+
 module _ (s : List ℕ) (at : ℕ) where
   pub numbers-1 : {r : Fixed} → r ≡ numberAt s at 2 → r ≡ Unfit → malformed ≡ numbersAt s at
   unfolding numbersAt
@@ -210,7 +223,7 @@ module _ (s : List ℕ) (at : ℕ) where
   unfolding numbersAt
   numbers-4 p p′ q q′ k k′ h = simp (← p, p′, ← q, q′, ← k, k′, h)
 
-  pub numbers-5 : {r u : Fixed} {t : At} {n a b m e : ℕ} → r ≡ numberAt s at 2 → r ≡ Digits n a → t ≡ litAt s a (bytes "/") → t ≡ Next b → u ≡ numberAt s b 2 → u ≡ Digits m e → numbered n m ≡ true → Read (n * 100 + m) e ≡ numbersAt s at
+  pub numbers-5 : {r u : Fixed} {t : At} {n a b m e : ℕ} → r ≡ numberAt s at 2 → r ≡ Digits n a → t ≡ litAt s a (bytes "/") → t ≡ Next b → u ≡ numberAt s b 2 → u ≡ Digits m e → numbered n m ≡ true → Read n e ≡ numbersAt s at
   unfolding numbersAt
   numbers-5 p p′ q q′ k k′ h = simp (← p, p′, ← q, q′, ← k, k′, h)
 

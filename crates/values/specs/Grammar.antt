@@ -17,6 +17,10 @@ use Rattle.scan.specs.Spelling.{All, valueOf}
 use Rattle.values.specs.Values.{numbered}
 use Rattle.values.specs.Letters.{isStatus, isFourth}
 
+-- "empty"
+abbrev pub IsEmpty : List ℕ → Type 0
+IsEmpty v = v ≡ []
+
 -- "reference, 1 to 16 of A-Z 0-9, not beginning RITS, ACLR or ASXC"
 pub record IsReference (v : List ℕ) : Type 0 where
   pub some : 0 < length v

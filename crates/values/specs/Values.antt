@@ -9,7 +9,8 @@ use Rattle.chars.specs.declared.Refusal.the-variants.{Malformed}
 use Rattle.clock.specs.Clock.{minuteOf}
 use Rattle.clock.specs.declared.Minute.{Minute}
 use Rattle.clock.specs.declared.Minute.the-variants.{Number as Clocked, Untrue as Unclocked}
-use Rattle.codes.specs.Codes.{shortAt}
+use Rattle.codes.specs.Codes.{shortAt, longOf}
+use Rattle.codes.specs.declared.Code.{Code}
 use Rattle.dates.specs.Dates.{dayOf}
 use Rattle.dates.specs.declared.Day.{Day}
 use Rattle.dates.specs.declared.Day.the-variants.{Number, Untrue}
@@ -23,9 +24,17 @@ use Rattle.values.specs.declared.Part.{Part}
 use Rattle.values.specs.declared.Value.{Value}
 use Rattle.values.specs.declared.Value.the-variants.{Read, Unread}
 
+-- of a value that the text does not have
+abbrev pub noPart : Part
+noPart = record { start = 0; end = 0 }
+
 -- "the part of the text where it stands"
 unfoldable pub textOf : List ℕ → Part → List ℕ
 textOf s p = take (p .end - p .start) (drop (p .start) s)
+
+-- the code of a reference or a BIN that stands there
+unfoldable pub codeOf : List ℕ → Part → Code
+codeOf s p = longOf (textOf s p)
 
 -- "the first break gives 87"
 abbrev pub malformed : Value
@@ -62,7 +71,7 @@ referenceAt s at =
 unfoldable pub numeralAt : List ℕ → ℕ → ℕ → Value
 numeralAt s at n = onDigits (numberAt s at n) malformed (λ v e. Read v e)
 
--- 77E: "empty"; 22A: "stream, 4 of A-Z 0-9"; 102 "is a bank, 4 of A-Z 0-9"
+-- 22A: "stream, 4 of A-Z 0-9"; 102 "is a bank, 4 of A-Z 0-9"
 unfoldable pub wordAt : List ℕ → ℕ → ℕ → Value
 wordAt s at n = onNext (codeAt s at n) malformed (λ e. Read (shortAt s at) e)
 
@@ -82,7 +91,11 @@ numbersAt s at =
     onDigits (numberAt s at 2) malformed (λ n a.
     onNext (litAt s a (bytes "/")) malformed (λ b.
     onDigits (numberAt s b 2) malformed (λ m e.
-    cond (numbered n m) (Read (n * 100 + m) e) malformed)))
+    cond (numbered n m) (Read n e) malformed)))
+
+-- the count stands behind the number and a stroke
+unfoldable pub countIn : List ℕ → ℕ
+countIn v = onDigits (numberAt v 3 2) 0 (λ m e. m)
 
 -- 171: "settlement date YYMMDD, a true date of 2000 to 2099"
 unfoldable pub dateAt : List ℕ → ℕ → Value

@@ -1,17 +1,27 @@
 // The values of a request's fields, each read at the place where it begins.
 use chars::Refusal;
+use codes::Code;
 use scan::At;
 use scan::Fixed;
 ghost use mathlib.Core.Path.{_≡_};
 ghost use Prim.Native.Nat.{_+_, _<_};
 ghost use lib.ListN.{drop, getD};
-ghost use Rattle.values.specs.Values.{textOf, referenceAt, forbiddenAt, numeralAt, wordAt, binAt, numbersAt, dateAt, timeAt, sideAt, amountAt, hundredths, countAt};
+ghost use Rattle.values.specs.Values.{noPart, textOf, codeOf, referenceAt, forbiddenAt, numeralAt, wordAt, binAt, numbersAt, countIn, dateAt, timeAt, sideAt, amountAt, hundredths, countAt};
 ghost use Rattle.values.specs.Letters.{isStatus, isFourth, judgedAt, lettersAt};
 
 // Where a value stands in the text.
 pub struct Part {
     pub start: usize,
     pub end: usize,
+}
+
+impl Part {
+    // Of a value that the text does not have.
+    pub fn nowhere() -> Part
+        ensures { λ r. ⌜ r ≡ noPart ⌝ }
+    {
+        Part { start: 0, end: 0 }
+    }
 }
 
 // The number that a value stands for, 0 where it stands for none, and the place after it; or why there is no such value.
@@ -42,6 +52,14 @@ fn rest(s: &[u8], at: usize) -> &[u8]
     ensures { λ r. ⌜ now r ≡ drop at (now (s .entry)) ⌝ }
 {
     if at <= s.len() { &s[at..] } else { &s[..0] }
+}
+
+// The code of a reference or a BIN that stands in a part of the text.
+pub fn code_of(s: &[u8], p: Part) -> Code
+    ensures { λ r. ⌜ r ≡ codeOf (now (s .entry)) p ⌝ }
+{
+    let t = text_of(s, p);
+    codes::long_code(t, 0, t.len())
 }
 
 // The names that no reference begins with.
@@ -106,7 +124,7 @@ pub fn read_bin(s: &[u8], at: usize, stream: Part) -> Value
     Value::Read(0, e)
 }
 
-// nn/nn as one number of four digits.
+// nn/nn, and the first of the two, the message's number.
 pub fn read_numbers(s: &[u8], at: usize) -> Value
     ensures { λ r. ⌜ r ≡ numbersAt (now (s .entry)) at ⌝ }
 {
@@ -128,7 +146,17 @@ pub fn read_numbers(s: &[u8], at: usize) -> Value
     if 10 < m {
         return Value::Unread(Refusal::Malformed);
     }
-    Value::Read(n * 100 + m, e)
+    Value::Read(n, e)
+}
+
+// The second of nn/nn, the batch's count.
+pub fn count_in(v: &[u8]) -> u64
+    ensures { λ r. ⌜ r ≡ countIn (now (v .entry)) ⌝ }
+{
+    let Fixed::Value(m, _) = scan::number(v, 3, 2) else {
+        return 0;
+    };
+    m
 }
 
 // A true date, and its day number.

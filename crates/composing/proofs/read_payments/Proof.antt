@@ -8,10 +8,10 @@ use Rattle.composing.proofs.read_payments.Statement.{statement}
 use Rattle.composing.proofs.read_payments.Tie as tie
 
 abbrev Inv-loop : tie.InvT-loop
-Inv-loop s at lines₀ n₀ here₀ lines n here = Going s at lines n here
+Inv-loop s at payments₀ n₀ here₀ payments n here = Going s at payments n here
 
 abbrev μ-loop : tie.MeasureT-loop
-μ-loop s at lines₀ n₀ here₀ lines n here = 10 - n
+μ-loop s at payments₀ n₀ here₀ payments n here = 10 - n
 
 loop-holds : tie.Need-loop-holds Inv-loop μ-loop
 unfolding paymentsAt
@@ -32,11 +32,11 @@ returns-2 c = search going-cut
 enum-known-p : tie.Need-enum-known-p Inv-loop μ-loop
 enum-known-p c = search needs
 
-mul-lines : tie.Need-mul-lines Inv-loop μ-loop
-mul-lines c = omega arith
+mul-payments : tie.Need-mul-payments Inv-loop μ-loop
+mul-payments c = omega arith
 
-array-set-from-lines : tie.Need-array-set-from-lines Inv-loop μ-loop
-array-set-from-lines c = omega arith
+array-set-from-payments : tie.Need-array-set-from-payments Inv-loop μ-loop
+array-set-from-payments c = omega arith
 
 add-n : tie.Need-add-n Inv-loop μ-loop
 add-n c = omega arith
@@ -77,8 +77,8 @@ read-payments-spec =
     enum-told
     returns-2
     enum-known-p
-    mul-lines
-    array-set-from-lines
+    mul-payments
+    array-set-from-payments
     add-n
     loop-less
     loop-again

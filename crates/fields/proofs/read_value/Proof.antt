@@ -1,10 +1,13 @@
-use Rattle.fields.proofs.Laws.{by-kind}
+use Rattle.fields.proofs.Laws.{by-kind, by-empty}
 use borrow.Author.Needs.{needs}
 use Rattle.fields.proofs.read_value.Statement.{statement}
 use Rattle.fields.proofs.read_value.Tie as tie
 
 enum-told : tie.Need-enum-told
 enum-told c = search needs
+
+enum-told-2 : tie.Need-enum-told-2
+enum-told-2 c = search needs
 
 read-reference-requires : tie.Need-read-reference-requires
 read-reference-requires c κs = search needs
@@ -27,38 +30,38 @@ enum-known-kind-3 c = search needs
 read-bin-requires : tie.Need-read-bin-requires
 read-bin-requires c κs = search needs
 
-enum-told-2 : tie.Need-enum-told-2
-enum-told-2 c = search needs
+enum-told-3 : tie.Need-enum-told-3
+enum-told-3 c = search needs
 
 read-numbers-requires : tie.Need-read-numbers-requires
 read-numbers-requires c κs = search needs
 
-enum-told-3 : tie.Need-enum-told-3
-enum-told-3 c = search needs
+enum-told-4 : tie.Need-enum-told-4
+enum-told-4 c = search needs
 
 read-date-requires : tie.Need-read-date-requires
 read-date-requires c κs = search needs
 
-enum-told-4 : tie.Need-enum-told-4
-enum-told-4 c = search needs
+enum-told-5 : tie.Need-enum-told-5
+enum-told-5 c = search needs
 
 read-time-requires : tie.Need-read-time-requires
 read-time-requires c κs = search needs
 
-enum-told-5 : tie.Need-enum-told-5
-enum-told-5 c = search needs
+enum-told-6 : tie.Need-enum-told-6
+enum-told-6 c = search needs
 
 read-side-requires : tie.Need-read-side-requires
 read-side-requires c κs = search needs
 
-enum-told-6 : tie.Need-enum-told-6
-enum-told-6 c = search needs
+enum-told-7 : tie.Need-enum-told-7
+enum-told-7 c = search needs
 
 read-amount-requires : tie.Need-read-amount-requires
 read-amount-requires c κs = search needs
 
-enum-told-7 : tie.Need-enum-told-7
-enum-told-7 c = search needs
+enum-told-8 : tie.Need-enum-told-8
+enum-told-8 c = search needs
 
 read-letters-requires : tie.Need-read-letters-requires
 read-letters-requires c κs = search needs
@@ -70,7 +73,7 @@ read-count-requires : tie.Need-read-count-requires
 read-count-requires c κs = search needs
 
 returns : tie.Need-returns
-returns c = search by-kind
+returns c = search by-empty
 
 returns-2 : tie.Need-returns-2
 returns-2 c = search by-kind
@@ -102,11 +105,15 @@ returns-10 c = search by-kind
 returns-11 : tie.Need-returns-11
 returns-11 c = search by-kind
 
+returns-12 : tie.Need-returns-12
+returns-12 c = search by-kind
+
 pub read-value-spec : {M : Type 1} → statement M
 read-value-spec =
     tie.close
     (tie.spec
     enum-told
+    enum-told-2
     read-reference-requires
     enum-known-kind
     read-numeral-requires
@@ -114,17 +121,17 @@ read-value-spec =
     read-word-requires
     enum-known-kind-3
     read-bin-requires
-    enum-told-2
-    read-numbers-requires
     enum-told-3
-    read-date-requires
+    read-numbers-requires
     enum-told-4
-    read-time-requires
+    read-date-requires
     enum-told-5
-    read-side-requires
+    read-time-requires
     enum-told-6
-    read-amount-requires
+    read-side-requires
     enum-told-7
+    read-amount-requires
+    enum-told-8
     read-letters-requires
     enum-known-kind-4
     read-count-requires
@@ -138,4 +145,5 @@ read-value-spec =
     returns-8
     returns-9
     returns-10
-    returns-11)
+    returns-11
+    returns-12)

@@ -21,6 +21,9 @@ returns c = search credit-1
 enum-told-2 : tie.Need-enum-told-2
 enum-told-2 c = search needs
 
+nothing-requires : tie.Need-nothing-requires
+nothing-requires c κs = search needs
+
 read-bank-requires : tie.Need-read-bank-requires
 read-bank-requires c κs = search needs
 
@@ -37,5 +40,6 @@ read-credit-spec =
     wrong-requires
     returns
     enum-told-2
+    nothing-requires
     read-bank-requires
     returns-2)

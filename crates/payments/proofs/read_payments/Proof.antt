@@ -1,9 +1,7 @@
 use Prim.Native.Nat.{_-_}
-use mathlib.Core.Path.{refl}
 use native.Mathlib.Omega.{arith}
 use borrow.Author.Needs.{needs}
-use Rattle.payments.specs.Payments.{paymentsAt}
-use Rattle.payments.proofs.Laws.{Going, going-cut, going-last, going-on, going-full}
+use Rattle.payments.proofs.Laws.{Going, going-from, going-cut, going-last, going-on, going-full}
 use Rattle.payments.proofs.read_payments.Statement.{statement}
 use Rattle.payments.proofs.read_payments.Tie as tie
 
@@ -13,9 +11,11 @@ Inv-loop s items₀ n₀ at₀ items n at = Going s at₀ items n at
 abbrev μ-loop : tie.MeasureT-loop
 μ-loop s items₀ n₀ at₀ items n at = 10 - n
 
+nothing-requires : tie.Need-nothing-requires Inv-loop μ-loop
+nothing-requires c κs = search needs
+
 loop-holds : tie.Need-loop-holds Inv-loop μ-loop
-unfolding paymentsAt
-loop-holds c = record { room = omega arith; size = refl; same = refl }
+loop-holds c = going-from _ _ (c .nothing .ensures)
 
 read-payment-requires : tie.Need-read-payment-requires Inv-loop μ-loop
 read-payment-requires c κs = search needs
@@ -61,6 +61,7 @@ read-payments-spec =
     (tie.spec
     Inv-loop
     μ-loop
+    nothing-requires
     loop-holds
     read-payment-requires
     enum-known-b

@@ -21,6 +21,9 @@ why-requires c κs = search needs
 returns : tie.Need-returns
 returns c = search answer-1
 
+nowhere-requires : tie.Need-nowhere-requires
+nowhere-requires c κs = search needs
+
 slice-aggregate-read-field-2 : tie.Need-slice-aggregate-read-field-2
 slice-aggregate-read-field-2 c = search needs
 
@@ -61,6 +64,7 @@ read-answer-spec =
     enum-told
     why-requires
     returns
+    nowhere-requires
     slice-aggregate-read-field-2
     read-field-requires-2
     enum-known-g

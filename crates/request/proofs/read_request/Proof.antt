@@ -26,11 +26,8 @@ enum-told c = search needs
 why-requires : tie.Need-why-requires
 why-requires c κs = search needs
 
-nowhere-requires : tie.Need-nowhere-requires
-nowhere-requires c κs = search needs
-
-refused-requires : tie.Need-refused-requires
-refused-requires c κs = search needs
+unread-requires : tie.Need-unread-requires
+unread-requires c κs = search needs
 
 returns : tie.Need-returns
 returns c = search request-1
@@ -50,21 +47,17 @@ enum-told-2 c = search needs
 why-requires-2 : tie.Need-why-requires-2
 why-requires-2 c κs = search needs
 
-nowhere-requires-2 : tie.Need-nowhere-requires-2
-nowhere-requires-2 c κs = search needs
-
-refused-requires-2 : tie.Need-refused-requires-2
-refused-requires-2 c κs = search needs
+unread-requires-2 : tie.Need-unread-requires-2
+unread-requires-2 c κs = search needs
 
 returns-2 : tie.Need-returns-2
-returns-2 c = let c1 = c .before in
-    let c2 = c1 .before in
+returns-2 c = let c2 = c .before in
     let c3 = c2 .before in
     let c5 = c3 .before .before in
     let c8 = c5 .before .before .before in
     let c10 = c8 .before .before in
     let c12 = c10 .before .before in
-    request-2 _ (c12 .new .ensures) (c10 .read-field .ensures) (c8 .f .given .1) (c5 .read-field2 .ensures) (c3 .enum-told2 .given .1) (c2 .why2 .ensures) (c1 .nowhere2 .ensures) (c .refused2 .ensures)
+    request-2 _ (c12 .new .ensures) (c10 .read-field .ensures) (c8 .f .given .1) (c5 .read-field2 .ensures) (c3 .enum-told2 .given .1) (c2 .why2 .ensures) (c .unread2 .ensures)
 
 name-at-requires : tie.Need-name-at-requires
 name-at-requires c κs = search needs
@@ -75,11 +68,8 @@ read-message-requires c κs = search needs
 wrong-requires : tie.Need-wrong-requires
 wrong-requires c κs = search needs
 
-nowhere-requires-3 : tie.Need-nowhere-requires-3
-nowhere-requires-3 c κs = search needs
-
-refused-requires-3 : tie.Need-refused-requires-3
-refused-requires-3 c κs = search needs
+unread-requires-3 : tie.Need-unread-requires-3
+unread-requires-3 c κs = search needs
 
 returns-3 : tie.Need-returns-3
 returns-3 c = let c1 = c .before in
@@ -92,15 +82,14 @@ returns-3 c = let c1 = c .before in
     request-3 _ (c14 .new .ensures) (c12 .read-field .ensures) (c10 .f .given .1) (c7 .read-field2 .ensures) (c5 .g .given .1) (is-member (131 ∷ 133 ∷ []) _ (c2 .match3 .keys1)) (c1 .name-at .ensures) (c .read-message .ensures)
 
 returns-4 : tie.Need-returns-4
-returns-4 c = let c1 = c .before in
-    let c2 = c1 .before in
+returns-4 c = let c2 = c .before in
     let c3 = c2 .before in
     let c6 = c3 .before .before .before in
     let c8 = c6 .before .before in
     let c11 = c8 .before .before .before in
     let c13 = c11 .before .before in
     let c15 = c13 .before .before in
-    request-4 _ (c15 .new .ensures) (c13 .read-field .ensures) (c11 .f .given .1) (c8 .read-field2 .ensures) (c6 .g .given .1) (not-member (131 ∷ 133 ∷ []) _ (c3 .match3 .rest .1)) (c2 .wrong .ensures) (c1 .nowhere3 .ensures) (c .refused3 .ensures)
+    request-4 _ (c15 .new .ensures) (c13 .read-field .ensures) (c11 .f .given .1) (c8 .read-field2 .ensures) (c6 .g .given .1) (not-member (131 ∷ 133 ∷ []) _ (c3 .match3 .rest .1)) (c2 .wrong .ensures) (c .unread3 .ensures)
 
 pub read-request-spec : {M : Type 1} → statement M
 read-request-spec =
@@ -112,21 +101,18 @@ read-request-spec =
     enum-known-f
     enum-told
     why-requires
-    nowhere-requires
-    refused-requires
+    unread-requires
     returns
     slice-aggregate-read-field-2
     read-field-requires-2
     enum-known-g
     enum-told-2
     why-requires-2
-    nowhere-requires-2
-    refused-requires-2
+    unread-requires-2
     returns-2
     name-at-requires
     read-message-requires
     wrong-requires
-    nowhere-requires-3
-    refused-requires-3
+    unread-requires-3
     returns-3
     returns-4)

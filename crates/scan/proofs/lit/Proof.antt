@@ -1,60 +1,52 @@
-use Prim.Native.Nat.{_≤_, _-_}
-use mathlib.Core.Path.{_≡_}
+use Prim.Native.Nat.{_-_}
 use native.Mathlib.Omega.{arith}
+use lib.ListN.{length}
 use borrow.Author.Needs.{needs}
-use lib.ListN.{length, drop}
-use Rattle.scan.specs.Scan.{litAt}
-use Rattle.scan.proofs.Laws.{lit-done, lit-end, lit-miss, lit-step}
+use Rattle.scan.proofs.Laws.{Matching, lit-short, match-from, match-inside, match-not, match-on, match-all}
 use Rattle.scan.proofs.lit.Statement.{statement}
 use Rattle.scan.proofs.lit.Tie as tie
 
 abbrev Inv-loop : tie.InvT-loop
-Inv-loop s at tag i₀ j₀ i j = (i ≤ length tag) × (litAt s j (drop i tag) ≡ litAt s at tag)
+Inv-loop s at tag i₀ i = Matching s at tag i
 
 abbrev μ-loop : tie.MeasureT-loop
-μ-loop s at tag i₀ j₀ i j = length tag - i
+μ-loop s at tag i₀ i = length tag - i
 
-loop-holds : tie.Need-loop-holds Inv-loop μ-loop
-loop-holds c = search needs
+left-requires : tie.Need-left-requires Inv-loop μ-loop
+left-requires c κs = search needs
 
 returns : tie.Need-returns Inv-loop μ-loop
-returns c =
-    let a = c .before .before .before .args in
-    let l = c .before .before .loop in
-    cc (lit-end (a .s .now) (a .tag .now) (l .i) (l .j) (omega arith) (omega arith))
+returns c = search lit-short
+
+loop-holds : tie.Need-loop-holds Inv-loop μ-loop
+loop-holds c = search match-from
+
+add-if2 : tie.Need-add-if2 Inv-loop μ-loop
+add-if2 c = omega (arith, c .before .loop .inv .fits)
 
 shared-slice-read-if2 : tie.Need-shared-slice-read-if2 Inv-loop μ-loop
-shared-slice-read-if2 c = omega arith
+shared-slice-read-if2 c = search match-inside
 
 shared-slice-read-if2-2 : tie.Need-shared-slice-read-if2-2 Inv-loop μ-loop
 shared-slice-read-if2-2 c = omega arith
 
 returns-2 : tie.Need-returns-2 Inv-loop μ-loop
-returns-2 c =
-    let a = c .before .before .before .before .before .before .args in
-    let l = c .before .before .before .before .before .loop in
-    cc (lit-miss (a .s .now) (a .tag .now) (l .i) (l .j) (omega arith) (omega arith) (c .if2 .taken))
+returns-2 c = search match-not
 
 add-i : tie.Need-add-i Inv-loop μ-loop
 add-i c = omega arith
-
-add-j : tie.Need-add-j Inv-loop μ-loop
-add-j c = omega arith
 
 loop-less : tie.Need-loop-less Inv-loop μ-loop
 loop-less c = omega arith
 
 loop-again : tie.Need-loop-again Inv-loop μ-loop
-loop-again c =
-    let a = c .before .before .before .before .before .before .args in
-    let l = c .before .before .before .before .before .loop in
-    (omega arith, cc (lit-step (a .s .now) (a .tag .now) (l .i) (l .j) (omega arith) (omega arith) (c .if2 .left)))
+loop-again c = search match-on
+
+add-t5 : tie.Need-add-t5 Inv-loop μ-loop
+add-t5 c = omega (arith, c .before .loop .inv .fits, c .before .loop .inv .within)
 
 returns-3 : tie.Need-returns-3 Inv-loop μ-loop
-returns-3 c =
-    let a = c .before .before .args in
-    let l = c .before .loop in
-    cc (lit-done (a .s .now) (a .tag .now) (l .i) (l .j) (omega arith))
+returns-3 c = search match-all
 
 pub lit-spec : {M : Type 1} → statement M
 lit-spec =
@@ -62,13 +54,15 @@ lit-spec =
     (tie.spec
     Inv-loop
     μ-loop
-    loop-holds
+    left-requires
     returns
+    loop-holds
+    add-if2
     shared-slice-read-if2
     shared-slice-read-if2-2
     returns-2
     add-i
-    add-j
     loop-less
     loop-again
+    add-t5
     returns-3)

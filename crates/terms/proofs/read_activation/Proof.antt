@@ -12,6 +12,9 @@ lit-requires c κs = search needs
 enum-told : tie.Need-enum-told
 enum-told c = search needs
 
+nowhere-requires : tie.Need-nowhere-requires
+nowhere-requires c κs = search needs
+
 returns : tie.Need-returns
 returns c = search activation-1
 
@@ -46,6 +49,7 @@ read-activation-spec =
     slice-aggregate-lit
     lit-requires
     enum-told
+    nowhere-requires
     returns
     enum-told-2
     slice-aggregate-read-field

@@ -54,6 +54,12 @@ why-requires-3 c κs = search needs
 returns-3 : tie.Need-returns-3
 returns-3 c = search terms-3
 
+text-of-requires : tie.Need-text-of-requires
+text-of-requires c κs = search needs
+
+count-in-requires : tie.Need-count-in-requires
+count-in-requires c κs = search needs
+
 returns-4 : tie.Need-returns-4
 returns-4 c = search terms-4
 
@@ -78,4 +84,6 @@ read-terms-spec =
     enum-told-3
     why-requires-3
     returns-3
+    text-of-requires
+    count-in-requires
     returns-4)

@@ -51,12 +51,6 @@ returns-5 c = search (numbers-4, numbered-above)
 returns-6 : tie.Need-returns-6
 returns-6 c = search (numbers-4, numbered-high)
 
-mul-t21 : tie.Need-mul-t21
-mul-t21 c = search needs
-
-add-t22 : tie.Need-add-t22
-add-t22 c = search needs
-
 returns-7 : tie.Need-returns-7
 returns-7 c = search (numbers-5, numbered-yes)
 
@@ -80,6 +74,4 @@ read-numbers-spec =
     returns-4
     returns-5
     returns-6
-    mul-t21
-    add-t22
     returns-7)

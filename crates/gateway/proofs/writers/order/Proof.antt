@@ -30,8 +30,8 @@ date-of-requires c κs = search needs
 activation-requires : tie.Need-activation-requires
 activation-requires c κs = search needs
 
-lines-requires : tie.Need-lines-requires
-lines-requires c κs = search needs
+payables-requires : tie.Need-payables-requires
+payables-requires c κs = search needs
 
 value-requires-5 : tie.Need-value-requires-5
 value-requires-5 c κs = search needs
@@ -52,6 +52,6 @@ order-spec =
     value-requires-4
     date-of-requires
     activation-requires
-    lines-requires
+    payables-requires
     value-requires-5
     returns)

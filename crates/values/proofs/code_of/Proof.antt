@@ -1,7 +1,7 @@
-use Rattle.reply.proofs.Laws.{code-is}
+use Rattle.values.proofs.Laws.{code-is}
 use borrow.Author.Needs.{needs}
-use Rattle.reply.proofs.code_of.Statement.{statement}
-use Rattle.reply.proofs.code_of.Tie as tie
+use Rattle.values.proofs.code_of.Statement.{statement}
+use Rattle.values.proofs.code_of.Tie as tie
 
 text-of-requires : tie.Need-text-of-requires
 text-of-requires c κs = search needs

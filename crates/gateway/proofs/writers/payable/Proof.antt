@@ -1,7 +1,7 @@
-use Rattle.gateway.proofs.WriterLaws.{line-made}
+use Rattle.gateway.proofs.WriterLaws.{payable-made}
 use borrow.Author.Needs.{needs}
-use Rattle.gateway.proofs.writers.line.Statement.{statement}
-use Rattle.gateway.proofs.writers.line.Tie as tie
+use Rattle.gateway.proofs.writers.payable.Statement.{statement}
+use Rattle.gateway.proofs.writers.payable.Tie as tie
 
 mul-at : tie.Need-mul-at
 mul-at c = search needs
@@ -25,10 +25,10 @@ value-requires-2 : tie.Need-value-requires-2
 value-requires-2 c κs = search needs
 
 returns : tie.Need-returns
-returns c = search line-made
+returns c = search payable-made
 
-pub line-spec : {M : Type 1} → statement M
-line-spec =
+pub payable-spec : {M : Type 1} → statement M
+payable-spec =
     tie.close
     (tie.spec
     mul-at

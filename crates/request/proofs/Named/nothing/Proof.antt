@@ -1,0 +1,13 @@
+use Rattle.request.proofs.Laws.{no-name}
+use borrow.Author.Needs.{needs}
+use Rattle.request.proofs.Named.nothing.Statement.{statement}
+use Rattle.request.proofs.Named.nothing.Tie as tie
+
+nowhere-requires : tie.Need-nowhere-requires
+nowhere-requires c κs = search needs
+
+returns : tie.Need-returns
+returns c = search no-name
+
+pub nothing-spec : {M : Type 1} → statement M
+nothing-spec = tie.close (tie.spec nowhere-requires returns)
