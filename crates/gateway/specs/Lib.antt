@@ -2,3 +2,4 @@ pub mod Rows
 pub mod Requests
 pub mod Responses
 pub mod Books
+pub mod Breaks
