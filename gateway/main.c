@@ -59,24 +59,30 @@ static long read_file(const char *name) {
     return failed ? -1 : (long)length;
 }
 
-/* A text that is refused leaves where in the row. */
+/* A tag as it stands in a text. */
+static const char *tag_text(uint64_t tag) {
+    static const char *const texts[] = {"the end", ":20:", ":12:", ":77E:", ":22A:", ":119:", ":16A:", ":171:", ":175:", ":127:", ":32B:", ":113:", ":102:", ":203:", ":21:", ":451:", ":13E:", ":432:"};
+    return tag <= PURMAGHELI_TAG_432 ? texts[tag] : "?";
+}
+
+/* Where and why a text is refused. */
 static int refused_at(uint64_t number, const uint64_t *row) {
-    printf("refused %02" PRIu64 " at byte %" PRIu64 "\n", number, row[PURMAGHELI_BREAK_AT]);
+    printf("refused %02" PRIu64 " at byte %" PRIu64 ", line %" PRIu64 ": %s", number, row[PURMAGHELI_EXPLAIN_AT], row[PURMAGHELI_EXPLAIN_LINE], tag_text(row[PURMAGHELI_EXPLAIN_FIRST]));
+    if (row[PURMAGHELI_EXPLAIN_SECOND] != PURMAGHELI_TAG_NONE) printf(" or %s", tag_text(row[PURMAGHELI_EXPLAIN_SECOND]));
+    printf("%s\n", row[PURMAGHELI_EXPLAIN_MISSING] ? " expected" : " is wrong");
     return 1;
 }
 
 static int show_request(size_t length) {
     uint64_t row[PURMAGHELI_REQUEST_WORDS];
-    uint64_t number = purmagheli_read_request(bytes, length, row, PURMAGHELI_REQUEST_WORDS);
-    if (number) return refused_at(number, row);
+    if (purmagheli_read_request(bytes, length, row, PURMAGHELI_REQUEST_WORDS)) return refused_at(purmagheli_explain_request(bytes, length, row, PURMAGHELI_REQUEST_WORDS), row);
     print_request(row);
     return 0;
 }
 
 static int show_response(size_t length) {
     uint64_t row[PURMAGHELI_RESPONSE_WORDS];
-    uint64_t number = purmagheli_read_response(bytes, length, row, PURMAGHELI_RESPONSE_WORDS);
-    if (number) return refused_at(number, row);
+    if (purmagheli_read_response(bytes, length, row, PURMAGHELI_RESPONSE_WORDS)) return refused_at(purmagheli_explain_response(bytes, length, row, PURMAGHELI_RESPONSE_WORDS), row);
     print_response(row);
     return 0;
 }

@@ -1,7 +1,7 @@
 /*
  * Purmagheli for programs in C99 or C++ on x86-64, Linux.
  *
- * The readers of a gateway: the text of a request (131, 133), the text of a response (132, 134), and
+ * The readers of a gateway: the text of a request (131, 133), the text of a response (132, 134), why one is refused, and
  * the check of a book and where it breaks; and the writers of both texts. Link target/staticlib/libgateway.a, which
  * `./purmagheli library gateway` builds.
  *
@@ -142,6 +142,48 @@ uint64_t purmagheli_read_request(const uint8_t *text, size_t text_length, uint64
  * sub type that is neither 132 nor 134. Such a text is asked for again.
  */
 uint64_t purmagheli_read_response(const uint8_t *text, size_t text_length, uint64_t *row, size_t row_length);
+
+/*
+ * Why a text is refused, in the first PURMAGHELI_EXPLAIN_WORDS words of a row; words past them are not touched. 7
+ * for a row of fewer words, which is not touched; else the number that the reader gives, and
+ *
+ *   AT        where the line begins that breaks the text
+ *   LINE      its number, counted from 1
+ *   MISSING   1 if a field is missing there
+ *   FIRST     the tag that may stand there, PURMAGHELI_TAG_.., or PURMAGHELI_TAG_NONE where the text should end;
+ *             if nothing is missing, the tag that stands there, with a wrong value (113 also after a credit)
+ *   SECOND    another tag that may stand there, or PURMAGHELI_TAG_NONE
+ *   VALUE     where the value begins, 0 if a field is missing
+ *
+ * For a text that is accepted 0, and zeros.
+ */
+#define PURMAGHELI_EXPLAIN_WORDS 6
+#define PURMAGHELI_EXPLAIN_AT 0
+#define PURMAGHELI_EXPLAIN_LINE 1
+#define PURMAGHELI_EXPLAIN_MISSING 2
+#define PURMAGHELI_EXPLAIN_FIRST 3
+#define PURMAGHELI_EXPLAIN_SECOND 4
+#define PURMAGHELI_EXPLAIN_VALUE 5
+#define PURMAGHELI_TAG_NONE 0
+#define PURMAGHELI_TAG_20 1
+#define PURMAGHELI_TAG_12 2
+#define PURMAGHELI_TAG_77E 3
+#define PURMAGHELI_TAG_22A 4
+#define PURMAGHELI_TAG_119 5
+#define PURMAGHELI_TAG_16A 6
+#define PURMAGHELI_TAG_171 7
+#define PURMAGHELI_TAG_175 8
+#define PURMAGHELI_TAG_127 9
+#define PURMAGHELI_TAG_32B 10
+#define PURMAGHELI_TAG_113 11
+#define PURMAGHELI_TAG_102 12
+#define PURMAGHELI_TAG_203 13
+#define PURMAGHELI_TAG_21 14
+#define PURMAGHELI_TAG_451 15
+#define PURMAGHELI_TAG_13E 16
+#define PURMAGHELI_TAG_432 17
+uint64_t purmagheli_explain_request(const uint8_t *text, size_t text_length, uint64_t *row, size_t row_length);
+uint64_t purmagheli_explain_response(const uint8_t *text, size_t text_length, uint64_t *row, size_t row_length);
 
 /*
  * Writes the text of a request to the beginning of a buffer, from a row as purmagheli_read_request fills it: of each field the

@@ -10,6 +10,9 @@ struct text {
     size_t length;
     size_t at;       /* where the next line begins */
     size_t line;     /* where the present line begins */
+    uint64_t nth;    /* its number, and of how many lines the tag was found */
+    uint64_t taken;
+    const char *first, *second; /* the tags that may stand there */
     const uint8_t *value;
     size_t size;     /* of the present value */
     int missing;
@@ -50,9 +53,17 @@ static int refuse(struct text *t, uint64_t number, int missing) {
     return 0;
 }
 
+/* Looks at the line that is next, where a tag may stand, or none. */
+static void look(struct text *t, const char *tag) {
+    t->line = t->at;
+    t->nth = t->taken + 1;
+    t->first = tag;
+    t->second = 0;
+}
+
 /* Takes the line of a tag; its value ends at the first CR LF. */
 static int take(struct text *t, const char *tag) {
-    t->line = t->at;
+    look(t, tag);
     if (!begins(t, tag)) return refuse(t, 87, 1);
     size_t start = t->at + strlen(tag), e = start;
     while (e + 1 < t->length && !(t->bytes[e] == '\r' && t->bytes[e + 1] == '\n')) e++;
@@ -60,7 +71,17 @@ static int take(struct text *t, const char *tag) {
     t->value = t->bytes + start;
     t->size = e - start;
     t->at = e + 2;
+    t->taken++;
     return 1;
+}
+
+/* Another tag may stand before the one that is missing. */
+static int either(struct text *t, const char *tag) {
+    if (t->missing) {
+        t->second = t->first;
+        t->first = tag;
+    }
+    return 0;
 }
 
 static int wrong(struct text *t) { return refuse(t, 87, 0); }
@@ -116,7 +137,7 @@ static long day_of(const uint8_t *p) {
 }
 
 static int ends(struct text *t) {
-    t->line = t->at;
+    look(t, 0);
     return t->at == t->length ? 1 : refuse(t, 87, 1);
 }
 
@@ -156,7 +177,7 @@ static int payment(struct text *t, uint64_t *row) {
         if (!letters(t)) return 0;
         put(row + PURMAGHELI_PAYMENT_LETTERS, t, code(t->value, 4, 0, 4), 0);
     } else if (begins(t, ":113:")) {
-        t->line = t->at;
+        look(t, ":113:");
         return wrong(t);
     }
     if (!word(t, ":102:")) return 0;
@@ -176,7 +197,8 @@ static int settlement(struct text *t, uint64_t *row) {
     if (day < 0) return wrong(t);
     put(row + PURMAGHELI_REQUEST_DATE, t, (uint64_t)day, 0);
 
-    if (begins(t, ":175:")) {
+    int activated = begins(t, ":175:");
+    if (activated) {
         if (!digits(t, ":175:", 4)) return 0;
         uint64_t hour = decimal(t->value, 2), minute = decimal(t->value + 2, 2);
         if (hour > 23 || minute > 59) return wrong(t);
@@ -185,11 +207,12 @@ static int settlement(struct text *t, uint64_t *row) {
 
     uint64_t n = 0;
     do {
-        if (!payment(t, row + PURMAGHELI_REQUEST_PAYMENTS + n * PURMAGHELI_PAYMENT_WORDS)) return 0;
+        size_t at = t->at;
+        if (!payment(t, row + PURMAGHELI_REQUEST_PAYMENTS + n * PURMAGHELI_PAYMENT_WORDS)) return n == 0 && !activated && t->line == at ? either(t, ":175:") : 0;
         n++;
     } while (n < PURMAGHELI_PAYMENTS && begins(t, ":127:"));
 
-    if (!take(t, ":203:")) return 0;
+    if (!take(t, ":203:")) return n < PURMAGHELI_PAYMENTS ? either(t, ":127:") : 0;
     if (t->size < 1 || t->size > 2 || !all(t->value, t->size, is_digit) || t->value[0] == '0' || decimal(t->value, t->size) != n) return wrong(t);
     put(row + PURMAGHELI_REQUEST_COUNT, t, n, 0);
     return ends(t);
@@ -220,7 +243,7 @@ static void put_break(uint64_t *row, const struct text *t, uint64_t reached) {
 }
 
 uint64_t plain_read_request(const uint8_t *bytes, size_t length, uint64_t *row) {
-    struct text t = {bytes, length, 0, 0, bytes, 0, 0, 0};
+    struct text t = {bytes, length, 0, 0, 0, 0, 0, 0, bytes, 0, 0, 0};
     uint64_t fields[PURMAGHELI_REQUEST_WORDS] = {0}, reached = PURMAGHELI_REACHED_NOTHING;
     if (request(&t, fields, &reached)) {
         memcpy(row, fields, sizeof fields);
@@ -273,7 +296,7 @@ static int response(struct text *t, uint64_t *row) {
 }
 
 uint64_t plain_read_response(const uint8_t *bytes, size_t length, uint64_t *row) {
-    struct text t = {bytes, length, 0, 0, bytes, 0, 0, 0};
+    struct text t = {bytes, length, 0, 0, 0, 0, 0, 0, bytes, 0, 0, 0};
     uint64_t fields[PURMAGHELI_RESPONSE_WORDS] = {0};
     if (response(&t, fields)) {
         memcpy(row, fields, sizeof fields);
@@ -281,6 +304,38 @@ uint64_t plain_read_response(const uint8_t *bytes, size_t length, uint64_t *row)
     }
     put_break(row, &t, 0);
     return t.number;
+}
+
+/* A tag's number, 0 for none. */
+static uint64_t tag_number(const char *tag) {
+    static const char *const tags[] = {":20:", ":12:", ":77E:", ":22A:", ":119:", ":16A:", ":171:", ":175:", ":127:", ":32B:", ":113:", ":102:", ":203:", ":21:", ":451:", ":13E:", ":432:"};
+    for (uint64_t i = 0; tag && i < sizeof tags / sizeof *tags; i++)
+        if (strcmp(tag, tags[i]) == 0) return i + 1;
+    return 0;
+}
+
+static uint64_t explain(const struct text *t, int sound, uint64_t *row) {
+    memset(row, 0, PURMAGHELI_EXPLAIN_WORDS * sizeof *row);
+    if (sound) return 0;
+    row[PURMAGHELI_EXPLAIN_AT] = t->line;
+    row[PURMAGHELI_EXPLAIN_LINE] = t->nth;
+    row[PURMAGHELI_EXPLAIN_MISSING] = (uint64_t)t->missing;
+    row[PURMAGHELI_EXPLAIN_FIRST] = tag_number(t->first);
+    row[PURMAGHELI_EXPLAIN_SECOND] = tag_number(t->second);
+    if (!t->missing) row[PURMAGHELI_EXPLAIN_VALUE] = t->line + strlen(t->first);
+    return t->number;
+}
+
+uint64_t plain_explain_request(const uint8_t *bytes, size_t length, uint64_t *row) {
+    struct text t = {bytes, length, 0, 0, 0, 0, 0, 0, bytes, 0, 0, 0};
+    uint64_t fields[PURMAGHELI_REQUEST_WORDS] = {0}, reached = 0;
+    return explain(&t, request(&t, fields, &reached), row);
+}
+
+uint64_t plain_explain_response(const uint8_t *bytes, size_t length, uint64_t *row) {
+    struct text t = {bytes, length, 0, 0, 0, 0, 0, 0, bytes, 0, 0, 0};
+    uint64_t fields[PURMAGHELI_RESPONSE_WORDS] = {0};
+    return explain(&t, response(&t, fields), row);
 }
 
 static uint64_t little(const uint8_t *p, size_t n) {

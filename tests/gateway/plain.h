@@ -11,6 +11,8 @@
 /* As the functions of purmagheli.h, over rows that are long enough. */
 uint64_t plain_read_request(const uint8_t *text, size_t length, uint64_t *row);
 uint64_t plain_read_response(const uint8_t *text, size_t length, uint64_t *row);
+uint64_t plain_explain_request(const uint8_t *text, size_t length, uint64_t *row);
+uint64_t plain_explain_response(const uint8_t *text, size_t length, uint64_t *row);
 uint64_t plain_check_book(const uint8_t *book, size_t length);
 uint64_t plain_find_book_fault(const uint8_t *book, size_t length, uint64_t *row);
 

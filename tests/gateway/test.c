@@ -76,6 +76,8 @@ struct kind {
 static const struct kind request_kind = {"request", purmagheli_read_request, plain_read_request, PURMAGHELI_REQUEST_WORDS};
 static const struct kind response_kind = {"response", purmagheli_read_response, plain_read_response, PURMAGHELI_RESPONSE_WORDS};
 static const struct kind fault_kind = {"fault of a book", purmagheli_find_book_fault, plain_find_book_fault, PURMAGHELI_FAULT_WORDS};
+static const struct kind request_break = {"request, explained", purmagheli_explain_request, plain_explain_request, PURMAGHELI_EXPLAIN_WORDS};
+static const struct kind response_break = {"response, explained", purmagheli_explain_response, plain_explain_response, PURMAGHELI_EXPLAIN_WORDS};
 
 static void untouched(const uint8_t *lent, const uint8_t *bytes, size_t n) {
     if (n && memcmp(lent, bytes, n) != 0) fail("the input was changed", bytes, n, 1, 0);
@@ -469,6 +471,8 @@ int main(int argc, char **argv) {
     known();
     text_tests(&request_kind, make_request, rounds);
     text_tests(&response_kind, make_response, rounds);
+    text_tests(&request_break, make_request, rounds);
+    text_tests(&response_break, make_response, rounds);
     book_tests(rounds / 2);
     if (failures) {
         printf("gateway test: %lu of %lu comparisons failed\n", failures, compared);

@@ -4,3 +4,4 @@ pub mod Responses
 pub mod Books
 pub mod Writers
 pub mod Faults
+pub mod Breaks

@@ -2,6 +2,7 @@
 // value starts in the text, its length, and its value in a number or two. include/purmagheli.h has
 // the same constants and says what each word is.
 pub mod books;
+mod breaks;
 pub mod writers;
 
 use book::Answer;
@@ -112,6 +113,18 @@ pub const REACHED_NOTHING: u64 = 0;
 pub const REACHED_STREAM: u64 = 1;
 
 pub const REACHED_BIN: u64 = 2;
+
+// The break of a text in full: the reader's number, where the line begins, its number, 1 if a field is missing,
+// the tags that may stand there, and where the value begins.
+pub struct Report {
+    pub number: u64,
+    pub at: u64,
+    pub line: u64,
+    pub missing: u64,
+    pub first: u64,
+    pub second: u64,
+    pub value: u64,
+}
 
 // How long a part is.
 fn part_length(p: Part) -> u64
