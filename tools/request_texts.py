@@ -103,13 +103,14 @@ def ended(text):
 
 def answer(raw):
     text = Text(raw)
-    address = ["nothing"] + [0] * 7
+    sub_type, address = [0] * 3, ["nothing"] + [0] * 7  # what a refused text keeps
     try:
         reference = text.field(b":20:", rb"(?!RITS|ACLR|ASXC)[A-Z0-9]{1,16}")
         sub_line = text.at
         sub = text.field(b":12:", rb"[0-9]{3}", int)
         if sub[2] not in (131, 133):
             raise Broken(88, sub_line, False)
+        sub_type = sub
         text.field(b":77E:", rb"")
         stream = text.field(b":22A:", rb"[A-Z0-9]{4}", lambda value: code(value, 4))
         characters = raw[stream[0]:stream[1]]
@@ -133,7 +134,7 @@ def answer(raw):
         ended(text)
     except Broken as broken:
         number, at, missing = broken.args
-        return ["refused", number, at, "missing" if missing else "wrong"] + [0] * 7 + address + [0] * 7 + ["at", "once"] + [0] * 2 + [0] * 4
+        return ["refused", number, at, "missing" if missing else "wrong"] + [0] * 4 + sub_type + address + [0] * 7 + ["at", "once"] + [0] * 2 + [0] * 4
     terms = numbering[:2] + [numbering[2] // 100, numbering[2] % 100] + date + activation
     return ["settlement"] + head + terms + [len(paid)] + sum(paid, []) + count
 
