@@ -3,3 +3,4 @@ pub mod Values
 pub mod Mirror
 pub mod Requests
 pub mod Responses
+pub mod Examples
