@@ -1,5 +1,7 @@
-// ./purmagheli compose FILE: the text of the request whose account the file holds, as inspect tells it; or
-// the line that cannot be read; or the number by which the request would be refused. A dash is standard input.
+// ./purmagheli compose FILE: the text of the request, or the book, whose account the file holds, as inspect tells it; or
+// the line that cannot be read; or the number by which request or book would be refused. A dash is standard input.
+mod books;
+
 use chars::Refusal;
 use composing::Account;
 use composing::Ending;
@@ -31,10 +33,14 @@ fn say_expected(expected: Expected) {
     }
 }
 
-fn say_unread(s: &[u8], at: usize, expected: Expected) {
+fn say_line(s: &[u8], at: usize) {
     say(b"line ");
     io::print_decimal(STDERR_FILENO, composing::line_of(s, at) as u64);
     say(b": expected ");
+}
+
+fn say_unread(s: &[u8], at: usize, expected: Expected) {
+    say_line(s, at);
     say_expected(expected);
     say(b"\n");
     files::tell_refusal();
@@ -59,6 +65,10 @@ fn write_order(account: Account) {
 }
 
 fn compose(s: &[u8]) {
+    if books::is_book(s) {
+        books::compose(s);
+        return;
+    }
     let account = composing::read_account(s);
     let ending = account.ending;
     match ending {
