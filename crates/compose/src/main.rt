@@ -1,5 +1,7 @@
-// ./purmagheli compose FILE: the text of the request whose account the file holds, as inspect tells it, or the texts of several,
-// one behind another; of what cannot be composed the line that cannot be read, or the number by which the request would be refused. A dash is standard input.
+// ./purmagheli compose FILE: the text of the request, or the book, whose account the file holds, as inspect tells it, or those of several accounts,
+// one behind another; of what cannot be composed the line that cannot be read, or the number by which request or book would be refused. A dash is standard input.
+mod books;
+
 use chars::Refusal;
 use composing::Account;
 use composing::Expected;
@@ -44,9 +46,14 @@ fn say_line(first: usize, line: usize) {
     );
 }
 
-fn say_unread(s: &[u8], first: usize, at: usize, expected: Expected) {
+// The line at a place of such an account does not say what is told next.
+fn say_expecting(s: &[u8], first: usize, at: usize) {
     say_line(first, composing::line_of(s, at));
     say(b": expected ");
+}
+
+fn say_unread(s: &[u8], first: usize, at: usize, expected: Expected) {
+    say_expecting(s, first, at);
     say_expected(expected);
     say(b"\n");
     files::tell_refusal();
@@ -72,6 +79,10 @@ fn write_order(account: Account) {
 
 // One account, whose first line is the file's line `first`.
 fn compose(s: &[u8], first: usize) {
+    if books::is_book(s) {
+        books::compose(s, first);
+        return;
+    }
     let account = composing::read_account(s);
     let ending = account.ending;
     match ending {

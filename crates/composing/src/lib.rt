@@ -117,7 +117,7 @@ pub struct Account {
 }
 
 // A line ends with a line feed, a CR before it or not, or with the account.
-fn line_over(s: &[u8], at: usize) -> At
+pub fn line_over(s: &[u8], at: usize) -> At
     ensures { λ r. ⌜ r ≡ lineOver (now (s .entry)) at ⌝ }
 {
     if s.len() <= at {
@@ -230,7 +230,7 @@ fn byte(s: &[u8], at: usize) -> u8
 }
 
 // Some digits, and no needless zero before them.
-fn is_plain(s: &[u8], at: usize, end: usize) -> bool
+pub fn is_plain(s: &[u8], at: usize, end: usize) -> bool
     ensures { λ r. ⌜ r ≡ isPlain (now (s .entry)) at end ⌝ }
 {
     if end <= at {
@@ -491,7 +491,7 @@ fn line_after(s: &[u8], at: usize) -> usize
 }
 
 // A line that names the file may come first.
-fn first_line(s: &[u8]) -> usize
+pub fn first_line(s: &[u8]) -> usize
     ensures { λ r. ⌜ r ≡ firstLine (now (s .entry)) ⌝ }
 {
     let At::Next(a) = scan::lit(s, 0, b"file ") else {
