@@ -364,7 +364,8 @@ fn put_message(out: &mut [u8], at: usize, o: Order) -> usize
     put_line(out, b, b":203:", Given::Count(o.n as u64))
 }
 
-fn put_order(out: &mut [u8], o: Order) -> usize
+// The text of an order as it stands, whatever its reader says of it.
+pub fn put_order(out: &mut [u8], o: Order) -> usize
     ensures { λ r. ⌜ Puts (now (out .entry)) 0 (orderText o) r (now (out .exit)) ⌝ }
     ensures small { λ r. ⌜ r ≤ 1127 ⌝ }
 {

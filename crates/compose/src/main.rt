@@ -1,6 +1,7 @@
 // ./purmagheli compose FILE: the text of the request, or the book, whose account the file holds, as inspect tells it, or those of several accounts,
 // one behind another; of what cannot be composed the line that cannot be read, or the number by which request or book would be refused. A dash is standard input.
 mod books;
+mod refusals;
 
 use chars::Refusal;
 use composing::Account;
@@ -59,22 +60,35 @@ fn say_unread(s: &[u8], first: usize, at: usize, expected: Expected) {
     files::tell_refusal();
 }
 
-fn say_refused(why: Refusal) {
+fn say_number(why: Refusal) {
     let mut b = [0u8; 2];
     put::digits(&mut b, 0, why.number(), 2);
     say(b"refused ");
     say(&b);
+}
+
+fn say_refused(why: Refusal) {
+    say_number(why);
     say(b"\n");
     files::tell_refusal();
 }
 
-fn write_order(account: Account) {
+// The file's line `first` is that of the account's sub type. A buffer of so many bytes holds every request.
+fn write_order(account: Account, first: usize) {
     let order = account.order;
     let mut text = io::buffer();
     match administrator::write_request(&mut text, 0, order) {
-        Written::Unfit(why) => say_refused(why),
+        Written::Unfit(_) => refusals::say_order(order, first),
         Written::End(n) => printing::first(&text, n),
     }
+}
+
+// Of the account whose first line is the file's line `first`, the file's line of its sub type: a line that names a file may come before it.
+fn head_line(s: &[u8], first: usize) -> usize {
+    if composing::first_line(s) == 0 {
+        return first;
+    }
+    if first < usize::MAX { first + 1 } else { first }
 }
 
 // One account, whose first line is the file's line `first`.
@@ -87,7 +101,7 @@ fn compose(s: &[u8], first: usize) {
     let ending = account.ending;
     match ending {
         Extent::Unread(at, expected) => say_unread(s, first, at, expected),
-        Extent::Whole => write_order(account),
+        Extent::Whole => write_order(account, head_line(s, first)),
     }
 }
 

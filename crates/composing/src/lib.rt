@@ -1,5 +1,6 @@
 // The account of a request, as it is told of an accepted one, read into the order that an administrator
 // writes.
+pub mod refusals;
 pub mod several;
 
 use administrator::Order;
