@@ -1,6 +1,6 @@
 -- The answers of the steps over a line, by what their parts answer.
 use Prim.Native.Nat.{ℕ}
-use mathlib.Core.Path.{_≡_}
+use mathlib.Core.Path.{_≡_, refl}
 use mathlib.Core.List.{List}
 use Rattle.chars.specs.declared.Refusal.{Refusal}
 use Rattle.chars.specs.declared.Refusal.the-variants.{Malformed}
@@ -11,8 +11,9 @@ use Rattle.values.specs.Values.{noPart}
 use Rattle.values.specs.declared.Part.{Part}
 use Rattle.values.specs.declared.Value.{Value}
 use Rattle.values.specs.declared.Value.the-variants.{Read, Unread}
-use Rattle.fields.specs.Fields.{absent, broken, nothing, item, place, valueAt, fieldAt}
+use Rattle.fields.specs.Fields.{absent, broken, nothing, item, place, valueAt, closedAt, fieldAt}
 use Rattle.fields.specs.declared.Break.{Break}
+use Rattle.fields.specs.declared.Field.{Field}
 use Rattle.fields.specs.declared.Field.the-variants.{Good, Bad}
 use Rattle.fields.specs.declared.Kind.{Kind}
 use Rattle.fields.specs.declared.Kind.the-variants.{Empty}
@@ -42,3 +43,20 @@ module _ (s : List ℕ) (at : ℕ) (tag : List ℕ) (kind : Kind) where
   pub field-4 : {r t : At} {a w e n : ℕ} {v : Value} → r ≡ litAt s at tag → r ≡ Next a → v ≡ valueAt s a kind → v ≡ Read w e → t ≡ litAt s e crlf → t ≡ Next n → Good (item a e w) (place n) ≡ fieldAt s at tag kind
   unfolding fieldAt
   field-4 p p′ q q′ l l′ = simp (← p, p′, ← q, q′, ← l, l′)
+
+  pub field-5 : {r : At} {a : ℕ} {v : Value} {f : Field} → r ≡ litAt s at tag → r ≡ Next a → v ≡ valueAt s a kind → f ≡ closedAt s at a v → f ≡ fieldAt s at tag kind
+  unfolding fieldAt
+  field-5 p p′ q f = simp (← p, p′, ← q, f)
+
+pub field-6 : (s : List ℕ) (at : ℕ) (tag : List ℕ) {r : At} {a : ℕ} {f : Field} → r ≡ litAt s at tag → r ≡ Next a → f ≡ closedAt s at a (Read 0 a) → f ≡ fieldAt s at tag Empty
+field-6 s at tag {a = a} p p′ f = field-5 s at tag Empty p p′ refl f
+
+module _ (s : List ℕ) (at a : ℕ) (v : Value) where
+  pub close-1 : {x : Refusal} {b : Break} → v ≡ Unread x → b ≡ broken at x → Bad b ≡ closedAt s at a v
+  close-1 q b = simp (q, b)
+
+  pub close-2 : {t : At} {w e : ℕ} {b : Break} → v ≡ Read w e → t ≡ litAt s e crlf → t ≡ No → b ≡ broken at Malformed → Bad b ≡ closedAt s at a v
+  close-2 q l l′ b = simp (q, ← l, l′, b)
+
+  pub close-3 : {t : At} {w e n : ℕ} → v ≡ Read w e → t ≡ litAt s e crlf → t ≡ Next n → Good (item a e w) (place n) ≡ closedAt s at a v
+  close-3 q l l′ = simp (q, ← l, l′)

@@ -65,10 +65,13 @@ valueAt s at Amount = amountAt s at
 valueAt s at Letters = lettersAt s at
 valueAt s at (Count n) = countAt s at n
 
+-- a line from its value on: the value that stands at a, then CR LF
+abbrev pub closedAt : List ℕ → ℕ → ℕ → Value → Field
+closedAt s at a v =
+    onRead v (λ r. Bad (broken at r)) (λ w e.
+    onNext (litAt s e crlf) (Bad (wrong at)) (λ n.
+    Good (item a e w) (place n)))
+
 -- a line of a tag and a value of a kind
 unfoldable pub fieldAt : List ℕ → ℕ → List ℕ → Kind → Field
-fieldAt s at tag kind =
-    onNext (litAt s at tag) (Bad (absent at)) (λ a.
-    onRead (valueAt s a kind) (λ r. Bad (broken at r)) (λ v e.
-    onNext (litAt s e crlf) (Bad (wrong at)) (λ n.
-    Good (item a e v) (place n))))
+fieldAt s at tag kind = onNext (litAt s at tag) (Bad (absent at)) (λ a. closedAt s at a (valueAt s a kind))

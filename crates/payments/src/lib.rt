@@ -3,7 +3,6 @@ use chars::Refusal;
 use fields::Break;
 use fields::Field;
 use fields::Item;
-use fields::Kind;
 use scan::At;
 use scan::Cursor;
 ghost use mathlib.Core.Path.{_≡_};
@@ -42,7 +41,7 @@ pub enum Paid {
 fn read_bank(s: &[u8], c: Cursor, side: Item, amount: Item, letters: Item) -> Paid
     ensures { λ r. ⌜ r ≡ bankAt (now (s .entry)) (c .at) side amount letters ⌝ }
 {
-    let f = fields::read_field(s, c, b":102:", Kind::Word(4));
+    let f = fields::read_word(s, c, b":102:", 4);
     let Field::Good(bank, next) = f else {
         return Paid::Unpaid(f.why());
     };
@@ -72,7 +71,7 @@ fn read_credit(s: &[u8], c: Cursor, side: Item, amount: Item) -> Paid
 fn read_debit(s: &[u8], c: Cursor, side: Item, amount: Item) -> Paid
     ensures { λ r. ⌜ r ≡ debitAt (now (s .entry)) (c .at) side amount ⌝ }
 {
-    let f = fields::read_field(s, c, b":113:", Kind::Letters);
+    let f = fields::read_letters(s, c, b":113:");
     let Field::Good(letters, next) = f else {
         return Paid::Unpaid(f.why());
     };
@@ -82,11 +81,11 @@ fn read_debit(s: &[u8], c: Cursor, side: Item, amount: Item) -> Paid
 pub fn read_payment(s: &[u8], c: Cursor) -> Paid
     ensures { λ r. ⌜ r ≡ paymentAt (now (s .entry)) (c .at) ⌝ }
 {
-    let f = fields::read_field(s, c, b":127:", Kind::Side);
+    let f = fields::read_side(s, c, b":127:");
     let Field::Good(side, past) = f else {
         return Paid::Unpaid(f.why());
     };
-    let g = fields::read_field(s, past, b":32B:", Kind::Amount);
+    let g = fields::read_amount(s, past, b":32B:");
     let Field::Good(amount, next) = g else {
         return Paid::Unpaid(g.why());
     };

@@ -3,7 +3,6 @@ use chars::Refusal;
 use fields::Break;
 use fields::Field;
 use fields::Item;
-use fields::Kind;
 use response::Answer;
 use response::Outcome;
 use scan::At;
@@ -131,7 +130,7 @@ fn read_number(s: &[u8]) -> Field
     let At::Next(a) = scan::lit(s, Cursor::START, b":20:") else {
         return Field::Bad(Break::absent(Cursor::START));
     };
-    match fields::read_field(s, Cursor { at: a }, b"B", Kind::Numeral(7)) {
+    match fields::read_numeral(s, Cursor { at: a }, b"B", 7) {
         Field::Bad(_) => Field::Bad(Break::wrong(Cursor::START, Refusal::Malformed)),
         Field::Good(i, next) => {
             let part = i.part;
@@ -153,23 +152,23 @@ fn read_number(s: &[u8]) -> Field
 fn read_reference(s: &[u8], c: Cursor) -> Field
     ensures { λ r. ⌜ r ≡ requestReferenceAt (now (s .entry)) (c .at) ⌝ }
 {
-    let f = fields::read_field(s, c, b":77E:", Kind::Empty);
+    let f = fields::read_empty(s, c, b":77E:");
     let Field::Good(_, next) = f else {
         return Field::Bad(f.why());
     };
-    fields::read_field(s, next, b":21:", Kind::Reference)
+    fields::read_reference(s, next, b":21:")
 }
 
 // 22A and 119.
 fn read_batch(s: &[u8], c: Cursor) -> Batched
     ensures { λ r. ⌜ r ≡ batchAt (now (s .entry)) (c .at) ⌝ }
 {
-    let f = fields::read_field(s, c, b":22A:", Kind::Word(4));
+    let f = fields::read_word(s, c, b":22A:", 4);
     let Field::Good(stream, past) = f else {
         return Batched::Lost(f.why());
     };
     let part = stream.part;
-    let g = fields::read_field(s, past, b":119:", Kind::Bin(part));
+    let g = fields::read_bin(s, past, b":119:", part);
     let Field::Good(bin, next) = g else {
         return Batched::Lost(g.why());
     };
@@ -180,7 +179,7 @@ fn read_batch(s: &[u8], c: Cursor) -> Batched
 fn read_settled(s: &[u8], c: Cursor, status: Part) -> Ended
     ensures { λ r. ⌜ r ≡ settledAt (now (s .entry)) (c .at) status ⌝ }
 {
-    let f = fields::read_field(s, c, b":13E:", Kind::Numeral(12));
+    let f = fields::read_numeral(s, c, b":13E:", 12);
     let Field::Good(i, next) = f else {
         return Ended::Unclear(f.why());
     };
@@ -199,7 +198,7 @@ fn read_settled(s: &[u8], c: Cursor, status: Part) -> Ended
 fn read_rejected(s: &[u8], c: Cursor, status: Part) -> Ended
     ensures { λ r. ⌜ r ≡ rejectedAt (now (s .entry)) (c .at) status ⌝ }
 {
-    let f = fields::read_field(s, c, b":432:", Kind::Numeral(2));
+    let f = fields::read_numeral(s, c, b":432:", 2);
     let Field::Good(i, next) = f else {
         return Ended::Unclear(f.why());
     };
@@ -211,7 +210,7 @@ fn read_rejected(s: &[u8], c: Cursor, status: Part) -> Ended
 fn read_ended(s: &[u8], c: Cursor) -> Ended
     ensures { λ r. ⌜ r ≡ endedAt (now (s .entry)) (c .at) ⌝ }
 {
-    let f = fields::read_field(s, c, b":451:", Kind::Numeral(1));
+    let f = fields::read_numeral(s, c, b":451:", 1);
     let Field::Good(i, next) = f else {
         return Ended::Unclear(f.why());
     };
@@ -228,7 +227,7 @@ fn read_ended(s: &[u8], c: Cursor) -> Ended
 fn read_answer(s: &[u8], c: Cursor) -> Answered
     ensures { λ r. ⌜ r ≡ answerAt (now (s .entry)) (c .at) ⌝ }
 {
-    let f = fields::read_field(s, c, b":451:", Kind::Numeral(1));
+    let f = fields::read_numeral(s, c, b":451:", 1);
     let Field::Good(i, past) = f else {
         return Answered::Without(f.why());
     };
@@ -237,7 +236,7 @@ fn read_answer(s: &[u8], c: Cursor) -> Answered
     match n {
         0 => Answered::With(Answer::Recalled, status, Part::nowhere(), past),
         1 => {
-            let g = fields::read_field(s, past, b":432:", Kind::Numeral(2));
+            let g = fields::read_numeral(s, past, b":432:", 2);
             let Field::Good(j, next) = g else {
                 return Answered::Without(g.why());
             };
@@ -371,7 +370,7 @@ pub fn read_response(s: &[u8]) -> ReadResponse
     let Field::Good(number, past) = f else {
         return ReadResponse::refused(f.why());
     };
-    let g = fields::read_field(s, past, b":12:", Kind::Numeral(3));
+    let g = fields::read_numeral(s, past, b":12:", 3);
     let Field::Good(subtype, next) = g else {
         return ReadResponse::refused(g.why());
     };

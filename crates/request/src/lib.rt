@@ -4,7 +4,6 @@ use codes::Code;
 use fields::Break;
 use fields::Field;
 use fields::Item;
-use fields::Kind;
 use payments::Ending;
 use payments::Payment;
 use scan::Cursor;
@@ -149,16 +148,16 @@ impl Reading {
 fn read_address(s: &[u8], c: Cursor) -> Addressed
     ensures { λ r. ⌜ r ≡ addressAt (now (s .entry)) (c .at) ⌝ }
 {
-    let f = fields::read_field(s, c, b":77E:", Kind::Empty);
+    let f = fields::read_empty(s, c, b":77E:");
     let Field::Good(_, past) = f else {
         return Addressed::Lost(f.why(), Address::nowhere());
     };
-    let g = fields::read_field(s, past, b":22A:", Kind::Word(4));
+    let g = fields::read_word(s, past, b":22A:", 4);
     let Field::Good(stream, then) = g else {
         return Addressed::Lost(g.why(), Address::nowhere());
     };
     let part = stream.part;
-    let h = fields::read_field(s, then, b":119:", Kind::Bin(part));
+    let h = fields::read_bin(s, then, b":119:", part);
     let Field::Good(bin, next) = h else {
         return Addressed::Lost(h.why(), Address::to_stream(stream));
     };
@@ -199,7 +198,7 @@ fn read_settlement(s: &[u8], c: Cursor, head: Head) -> Reading
         return Reading::refused(subtype, cut(ending), address);
     };
     let n = p.n;
-    let f = fields::read_field(s, then, b":203:", Kind::Count(n as u64));
+    let f = fields::read_count(s, then, b":203:", n as u64);
     let Field::Good(count, next) = f else {
         return Reading::refused(subtype, f.why(), address);
     };
@@ -253,11 +252,11 @@ fn read_message(s: &[u8], c: Cursor, reference: Named, subtype: Item) -> Reading
 pub fn read_request(s: &[u8]) -> Reading
     ensures { λ r. ⌜ r ≡ requestAt (now (s .entry)) ⌝ }
 {
-    let f = fields::read_field(s, Cursor::new(), b":20:", Kind::Reference);
+    let f = fields::read_reference(s, Cursor::new(), b":20:");
     let Field::Good(reference, past) = f else {
         return Reading::unread(f.why());
     };
-    let g = fields::read_field(s, past, b":12:", Kind::Numeral(3));
+    let g = fields::read_numeral(s, past, b":12:", 3);
     let Field::Good(subtype, next) = g else {
         return Reading::unread(g.why());
     };

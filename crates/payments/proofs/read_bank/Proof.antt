@@ -3,11 +3,11 @@ use borrow.Author.Needs.{needs}
 use Rattle.payments.proofs.read_bank.Statement.{statement}
 use Rattle.payments.proofs.read_bank.Tie as tie
 
-slice-aggregate-read-field : tie.Need-slice-aggregate-read-field
-slice-aggregate-read-field c = search needs
+slice-aggregate-read-word : tie.Need-slice-aggregate-read-word
+slice-aggregate-read-word c = search needs
 
-read-field-requires : tie.Need-read-field-requires
-read-field-requires c κs = search needs
+read-word-requires : tie.Need-read-word-requires
+read-word-requires c κs = search needs
 
 enum-known-f : tie.Need-enum-known-f
 enum-known-f c = search needs
@@ -28,8 +28,8 @@ pub read-bank-spec : {M : Type 1} → statement M
 read-bank-spec =
     tie.close
     (tie.spec
-    slice-aggregate-read-field
-    read-field-requires
+    slice-aggregate-read-word
+    read-word-requires
     enum-known-f
     enum-told
     why-requires

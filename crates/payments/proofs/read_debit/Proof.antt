@@ -3,11 +3,11 @@ use borrow.Author.Needs.{needs}
 use Rattle.payments.proofs.read_debit.Statement.{statement}
 use Rattle.payments.proofs.read_debit.Tie as tie
 
-slice-aggregate-read-field : tie.Need-slice-aggregate-read-field
-slice-aggregate-read-field c = search needs
+slice-aggregate-read-letters : tie.Need-slice-aggregate-read-letters
+slice-aggregate-read-letters c = search needs
 
-read-field-requires : tie.Need-read-field-requires
-read-field-requires c κs = search needs
+read-letters-requires : tie.Need-read-letters-requires
+read-letters-requires c κs = search needs
 
 enum-known-f : tie.Need-enum-known-f
 enum-known-f c = search needs
@@ -31,8 +31,8 @@ pub read-debit-spec : {M : Type 1} → statement M
 read-debit-spec =
     tie.close
     (tie.spec
-    slice-aggregate-read-field
-    read-field-requires
+    slice-aggregate-read-letters
+    read-letters-requires
     enum-known-f
     enum-told
     why-requires

@@ -3,11 +3,11 @@ use borrow.Author.Needs.{needs}
 use Rattle.payments.proofs.read_payment.Statement.{statement}
 use Rattle.payments.proofs.read_payment.Tie as tie
 
-slice-aggregate-read-field : tie.Need-slice-aggregate-read-field
-slice-aggregate-read-field c = search needs
+slice-aggregate-read-side : tie.Need-slice-aggregate-read-side
+slice-aggregate-read-side c = search needs
 
-read-field-requires : tie.Need-read-field-requires
-read-field-requires c κs = search needs
+read-side-requires : tie.Need-read-side-requires
+read-side-requires c κs = search needs
 
 enum-known-f : tie.Need-enum-known-f
 enum-known-f c = search needs
@@ -21,11 +21,11 @@ why-requires c κs = search needs
 returns : tie.Need-returns
 returns c = search payment-1
 
-slice-aggregate-read-field-2 : tie.Need-slice-aggregate-read-field-2
-slice-aggregate-read-field-2 c = search needs
+slice-aggregate-read-amount : tie.Need-slice-aggregate-read-amount
+slice-aggregate-read-amount c = search needs
 
-read-field-requires-2 : tie.Need-read-field-requires-2
-read-field-requires-2 c κs = search needs
+read-amount-requires : tie.Need-read-amount-requires
+read-amount-requires c κs = search needs
 
 enum-known-g : tie.Need-enum-known-g
 enum-known-g c = search needs
@@ -55,14 +55,14 @@ pub read-payment-spec : {M : Type 1} → statement M
 read-payment-spec =
     tie.close
     (tie.spec
-    slice-aggregate-read-field
-    read-field-requires
+    slice-aggregate-read-side
+    read-side-requires
     enum-known-f
     enum-told
     why-requires
     returns
-    slice-aggregate-read-field-2
-    read-field-requires-2
+    slice-aggregate-read-amount
+    read-amount-requires
     enum-known-g
     enum-told-2
     why-requires-2

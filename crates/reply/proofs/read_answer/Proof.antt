@@ -3,11 +3,11 @@ use borrow.Author.Needs.{needs}
 use Rattle.reply.proofs.read_answer.Statement.{statement}
 use Rattle.reply.proofs.read_answer.Tie as tie
 
-slice-aggregate-read-field : tie.Need-slice-aggregate-read-field
-slice-aggregate-read-field c = search needs
+slice-aggregate-read-numeral : tie.Need-slice-aggregate-read-numeral
+slice-aggregate-read-numeral c = search needs
 
-read-field-requires : tie.Need-read-field-requires
-read-field-requires c κs = search needs
+read-numeral-requires : tie.Need-read-numeral-requires
+read-numeral-requires c κs = search needs
 
 enum-known-f : tie.Need-enum-known-f
 enum-known-f c = search needs
@@ -24,11 +24,11 @@ returns c = search answer-1
 nowhere-requires : tie.Need-nowhere-requires
 nowhere-requires c κs = search needs
 
-slice-aggregate-read-field-2 : tie.Need-slice-aggregate-read-field-2
-slice-aggregate-read-field-2 c = search needs
+slice-aggregate-read-numeral-2 : tie.Need-slice-aggregate-read-numeral-2
+slice-aggregate-read-numeral-2 c = search needs
 
-read-field-requires-2 : tie.Need-read-field-requires-2
-read-field-requires-2 c κs = search needs
+read-numeral-requires-2 : tie.Need-read-numeral-requires-2
+read-numeral-requires-2 c κs = search needs
 
 enum-known-g : tie.Need-enum-known-g
 enum-known-g c = search needs
@@ -58,15 +58,15 @@ pub read-answer-spec : {M : Type 1} → statement M
 read-answer-spec =
     tie.close
     (tie.spec
-    slice-aggregate-read-field
-    read-field-requires
+    slice-aggregate-read-numeral
+    read-numeral-requires
     enum-known-f
     enum-told
     why-requires
     returns
     nowhere-requires
-    slice-aggregate-read-field-2
-    read-field-requires-2
+    slice-aggregate-read-numeral-2
+    read-numeral-requires-2
     enum-known-g
     enum-told-2
     why-requires-2

@@ -3,11 +3,11 @@ use borrow.Author.Needs.{needs}
 use Rattle.reply.proofs.read_batch.Statement.{statement}
 use Rattle.reply.proofs.read_batch.Tie as tie
 
-slice-aggregate-read-field : tie.Need-slice-aggregate-read-field
-slice-aggregate-read-field c = search needs
+slice-aggregate-read-word : tie.Need-slice-aggregate-read-word
+slice-aggregate-read-word c = search needs
 
-read-field-requires : tie.Need-read-field-requires
-read-field-requires c κs = search needs
+read-word-requires : tie.Need-read-word-requires
+read-word-requires c κs = search needs
 
 enum-known-f : tie.Need-enum-known-f
 enum-known-f c = search needs
@@ -21,11 +21,11 @@ why-requires c κs = search needs
 returns : tie.Need-returns
 returns c = search batch-1
 
-slice-aggregate-read-field-2 : tie.Need-slice-aggregate-read-field-2
-slice-aggregate-read-field-2 c = search needs
+slice-aggregate-read-bin : tie.Need-slice-aggregate-read-bin
+slice-aggregate-read-bin c = search needs
 
-read-field-requires-2 : tie.Need-read-field-requires-2
-read-field-requires-2 c κs = search needs
+read-bin-requires : tie.Need-read-bin-requires
+read-bin-requires c κs = search needs
 
 enum-known-g : tie.Need-enum-known-g
 enum-known-g c = search needs
@@ -46,14 +46,14 @@ pub read-batch-spec : {M : Type 1} → statement M
 read-batch-spec =
     tie.close
     (tie.spec
-    slice-aggregate-read-field
-    read-field-requires
+    slice-aggregate-read-word
+    read-word-requires
     enum-known-f
     enum-told
     why-requires
     returns
-    slice-aggregate-read-field-2
-    read-field-requires-2
+    slice-aggregate-read-bin
+    read-bin-requires
     enum-known-g
     enum-told-2
     why-requires-2

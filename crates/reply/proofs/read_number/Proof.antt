@@ -21,11 +21,11 @@ absent-requires c κs = search needs
 returns : tie.Need-returns
 returns c = search number-1
 
-slice-aggregate-read-field : tie.Need-slice-aggregate-read-field
-slice-aggregate-read-field c = search needs
+slice-aggregate-read-numeral : tie.Need-slice-aggregate-read-numeral
+slice-aggregate-read-numeral c = search needs
 
-read-field-requires : tie.Need-read-field-requires
-read-field-requires c κs = search needs
+read-numeral-requires : tie.Need-read-numeral-requires
+read-numeral-requires c κs = search needs
 
 enum-told-2 : tie.Need-enum-told-2
 enum-told-2 c = search needs
@@ -52,8 +52,8 @@ read-number-spec =
     enum-told
     absent-requires
     returns
-    slice-aggregate-read-field
-    read-field-requires
+    slice-aggregate-read-numeral
+    read-numeral-requires
     enum-told-2
     wrong-requires
     enum-known-i

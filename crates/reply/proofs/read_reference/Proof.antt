@@ -3,11 +3,11 @@ use borrow.Author.Needs.{needs}
 use Rattle.reply.proofs.read_reference.Statement.{statement}
 use Rattle.reply.proofs.read_reference.Tie as tie
 
-slice-aggregate-read-field : tie.Need-slice-aggregate-read-field
-slice-aggregate-read-field c = search needs
+slice-aggregate-read-empty : tie.Need-slice-aggregate-read-empty
+slice-aggregate-read-empty c = search needs
 
-read-field-requires : tie.Need-read-field-requires
-read-field-requires c κs = search needs
+read-empty-requires : tie.Need-read-empty-requires
+read-empty-requires c κs = search needs
 
 enum-known-f : tie.Need-enum-known-f
 enum-known-f c = search needs
@@ -21,11 +21,11 @@ why-requires c κs = search needs
 returns : tie.Need-returns
 returns c = search reference-1
 
-slice-aggregate-read-field-2 : tie.Need-slice-aggregate-read-field-2
-slice-aggregate-read-field-2 c = search needs
+slice-aggregate-read-reference : tie.Need-slice-aggregate-read-reference
+slice-aggregate-read-reference c = search needs
 
-read-field-requires-2 : tie.Need-read-field-requires-2
-read-field-requires-2 c κs = search needs
+read-reference-requires : tie.Need-read-reference-requires
+read-reference-requires c κs = search needs
 
 returns-2 : tie.Need-returns-2
 returns-2 c = search reference-2
@@ -34,12 +34,12 @@ pub read-reference-spec : {M : Type 1} → statement M
 read-reference-spec =
     tie.close
     (tie.spec
-    slice-aggregate-read-field
-    read-field-requires
+    slice-aggregate-read-empty
+    read-empty-requires
     enum-known-f
     enum-told
     why-requires
     returns
-    slice-aggregate-read-field-2
-    read-field-requires-2
+    slice-aggregate-read-reference
+    read-reference-requires
     returns-2)

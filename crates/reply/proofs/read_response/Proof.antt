@@ -21,11 +21,11 @@ refused-requires c κs = search needs
 returns : tie.Need-returns
 returns c = search response-1
 
-slice-aggregate-read-field : tie.Need-slice-aggregate-read-field
-slice-aggregate-read-field c = search needs
+slice-aggregate-read-numeral : tie.Need-slice-aggregate-read-numeral
+slice-aggregate-read-numeral c = search needs
 
-read-field-requires : tie.Need-read-field-requires
-read-field-requires c κs = search needs
+read-numeral-requires : tie.Need-read-numeral-requires
+read-numeral-requires c κs = search needs
 
 enum-known-g : tie.Need-enum-known-g
 enum-known-g c = search needs
@@ -73,8 +73,8 @@ read-response-spec =
     why-requires
     refused-requires
     returns
-    slice-aggregate-read-field
-    read-field-requires
+    slice-aggregate-read-numeral
+    read-numeral-requires
     enum-known-g
     enum-told-2
     why-requires-2

@@ -11,11 +11,11 @@ use Rattle.request.proofs.read_request.Tie as tie
 new-requires : tie.Need-new-requires
 new-requires c κs = search needs
 
-slice-aggregate-read-field : tie.Need-slice-aggregate-read-field
-slice-aggregate-read-field c = search needs
+slice-aggregate-read-reference : tie.Need-slice-aggregate-read-reference
+slice-aggregate-read-reference c = search needs
 
-read-field-requires : tie.Need-read-field-requires
-read-field-requires c κs = search needs
+read-reference-requires : tie.Need-read-reference-requires
+read-reference-requires c κs = search needs
 
 enum-known-f : tie.Need-enum-known-f
 enum-known-f c = search needs
@@ -32,11 +32,11 @@ unread-requires c κs = search needs
 returns : tie.Need-returns
 returns c = search request-1
 
-slice-aggregate-read-field-2 : tie.Need-slice-aggregate-read-field-2
-slice-aggregate-read-field-2 c = search needs
+slice-aggregate-read-numeral : tie.Need-slice-aggregate-read-numeral
+slice-aggregate-read-numeral c = search needs
 
-read-field-requires-2 : tie.Need-read-field-requires-2
-read-field-requires-2 c κs = search needs
+read-numeral-requires : tie.Need-read-numeral-requires
+read-numeral-requires c κs = search needs
 
 enum-known-g : tie.Need-enum-known-g
 enum-known-g c = search needs
@@ -57,7 +57,7 @@ returns-2 c = let c2 = c .before in
     let c8 = c5 .before .before .before in
     let c10 = c8 .before .before in
     let c12 = c10 .before .before in
-    request-2 _ (c12 .new .ensures) (c10 .read-field .ensures) (c8 .f .given .1) (c5 .read-field2 .ensures) (c3 .enum-told2 .given .1) (c2 .why2 .ensures) (c .unread2 .ensures)
+    request-2 _ (c12 .new .ensures) (c10 .read-reference .ensures) (c8 .f .given .1) (c5 .read-numeral .ensures) (c3 .enum-told2 .given .1) (c2 .why2 .ensures) (c .unread2 .ensures)
 
 name-at-requires : tie.Need-name-at-requires
 name-at-requires c κs = search needs
@@ -79,7 +79,7 @@ returns-3 c = let c1 = c .before in
     let c10 = c7 .before .before .before in
     let c12 = c10 .before .before in
     let c14 = c12 .before .before in
-    request-3 _ (c14 .new .ensures) (c12 .read-field .ensures) (c10 .f .given .1) (c7 .read-field2 .ensures) (c5 .g .given .1) (is-member (131 ∷ 133 ∷ []) _ (c2 .match3 .keys1)) (c1 .name-at .ensures) (c .read-message .ensures)
+    request-3 _ (c14 .new .ensures) (c12 .read-reference .ensures) (c10 .f .given .1) (c7 .read-numeral .ensures) (c5 .g .given .1) (is-member (131 ∷ 133 ∷ []) _ (c2 .match3 .keys1)) (c1 .name-at .ensures) (c .read-message .ensures)
 
 returns-4 : tie.Need-returns-4
 returns-4 c = let c2 = c .before in
@@ -89,22 +89,22 @@ returns-4 c = let c2 = c .before in
     let c11 = c8 .before .before .before in
     let c13 = c11 .before .before in
     let c15 = c13 .before .before in
-    request-4 _ (c15 .new .ensures) (c13 .read-field .ensures) (c11 .f .given .1) (c8 .read-field2 .ensures) (c6 .g .given .1) (not-member (131 ∷ 133 ∷ []) _ (c3 .match3 .rest .1)) (c2 .wrong .ensures) (c .unread3 .ensures)
+    request-4 _ (c15 .new .ensures) (c13 .read-reference .ensures) (c11 .f .given .1) (c8 .read-numeral .ensures) (c6 .g .given .1) (not-member (131 ∷ 133 ∷ []) _ (c3 .match3 .rest .1)) (c2 .wrong .ensures) (c .unread3 .ensures)
 
 pub read-request-spec : {M : Type 1} → statement M
 read-request-spec =
     tie.close
     (tie.spec
     new-requires
-    slice-aggregate-read-field
-    read-field-requires
+    slice-aggregate-read-reference
+    read-reference-requires
     enum-known-f
     enum-told
     why-requires
     unread-requires
     returns
-    slice-aggregate-read-field-2
-    read-field-requires-2
+    slice-aggregate-read-numeral
+    read-numeral-requires
     enum-known-g
     enum-told-2
     why-requires-2

@@ -41,11 +41,11 @@ refused-requires-2 c κs = search needs
 returns-2 : tie.Need-returns-2
 returns-2 c = search settlement-2
 
-slice-aggregate-read-field : tie.Need-slice-aggregate-read-field
-slice-aggregate-read-field c = search needs
+slice-aggregate-read-count : tie.Need-slice-aggregate-read-count
+slice-aggregate-read-count c = search needs
 
-read-field-requires : tie.Need-read-field-requires
-read-field-requires c κs = search needs
+read-count-requires : tie.Need-read-count-requires
+read-count-requires c κs = search needs
 
 enum-known-f : tie.Need-enum-known-f
 enum-known-f c = search needs
@@ -67,7 +67,7 @@ returns-3 c = let c1 = c .before in
     let c9 = c7 .before .before in
     let c11 = c9 .before .before in
     let c13 = c11 .before .before in
-    settlement-3 _ _ _ (c13 .read-terms .ensures) (c11 .t .given .1) (c9 .read-payments .ensures) (c7 .ending .given .1) (c4 .read-field .ensures) (c2 .enum-told3 .given .1) (c1 .why2 .ensures) (c .refused3 .ensures)
+    settlement-3 _ _ _ (c13 .read-terms .ensures) (c11 .t .given .1) (c9 .read-payments .ensures) (c7 .ending .given .1) (c4 .read-count .ensures) (c2 .enum-told3 .given .1) (c1 .why2 .ensures) (c .refused3 .ensures)
 
 absent-requires : tie.Need-absent-requires
 absent-requires c κs = search needs
@@ -84,7 +84,7 @@ returns-4 c = let c1 = c .before in
     let c12 = c10 .before .before in
     let c14 = c12 .before .before in
     let c16 = c14 .before .before in
-    settlement-4 _ _ _ (c16 .read-terms .ensures) (c14 .t .given .1) (c12 .read-payments .ensures) (c10 .ending .given .1) (c7 .read-field .ensures) (c5 .f .given .1) (c2 .if1 .taken) (c1 .absent .ensures) (c .refused4 .ensures)
+    settlement-4 _ _ _ (c16 .read-terms .ensures) (c14 .t .given .1) (c12 .read-payments .ensures) (c10 .ending .given .1) (c7 .read-count .ensures) (c5 .f .given .1) (c2 .if1 .taken) (c1 .absent .ensures) (c .refused4 .ensures)
 
 returns-5 : tie.Need-returns-5
 returns-5 c = search settlement-5
@@ -105,8 +105,8 @@ read-settlement-spec =
     cut-requires
     refused-requires-2
     returns-2
-    slice-aggregate-read-field
-    read-field-requires
+    slice-aggregate-read-count
+    read-count-requires
     enum-known-f
     enum-told-3
     why-requires-2

@@ -21,11 +21,11 @@ returns c = search activation-1
 enum-told-2 : tie.Need-enum-told-2
 enum-told-2 c = search needs
 
-slice-aggregate-read-field : tie.Need-slice-aggregate-read-field
-slice-aggregate-read-field c = search needs
+slice-aggregate-read-time : tie.Need-slice-aggregate-read-time
+slice-aggregate-read-time c = search needs
 
-read-field-requires : tie.Need-read-field-requires
-read-field-requires c κs = search needs
+read-time-requires : tie.Need-read-time-requires
+read-time-requires c κs = search needs
 
 enum-known-f : tie.Need-enum-known-f
 enum-known-f c = search needs
@@ -52,8 +52,8 @@ read-activation-spec =
     nowhere-requires
     returns
     enum-told-2
-    slice-aggregate-read-field
-    read-field-requires
+    slice-aggregate-read-time
+    read-time-requires
     enum-known-f
     enum-told-3
     why-requires

@@ -3,11 +3,11 @@ use borrow.Author.Needs.{needs}
 use Rattle.terms.proofs.read_terms.Statement.{statement}
 use Rattle.terms.proofs.read_terms.Tie as tie
 
-slice-aggregate-read-field : tie.Need-slice-aggregate-read-field
-slice-aggregate-read-field c = search needs
+slice-aggregate-read-numbers : tie.Need-slice-aggregate-read-numbers
+slice-aggregate-read-numbers c = search needs
 
-read-field-requires : tie.Need-read-field-requires
-read-field-requires c κs = search needs
+read-numbers-requires : tie.Need-read-numbers-requires
+read-numbers-requires c κs = search needs
 
 enum-known-f : tie.Need-enum-known-f
 enum-known-f c = search needs
@@ -21,11 +21,11 @@ why-requires c κs = search needs
 returns : tie.Need-returns
 returns c = search terms-1
 
-slice-aggregate-read-field-2 : tie.Need-slice-aggregate-read-field-2
-slice-aggregate-read-field-2 c = search needs
+slice-aggregate-read-date : tie.Need-slice-aggregate-read-date
+slice-aggregate-read-date c = search needs
 
-read-field-requires-2 : tie.Need-read-field-requires-2
-read-field-requires-2 c κs = search needs
+read-date-requires : tie.Need-read-date-requires
+read-date-requires c κs = search needs
 
 enum-known-g : tie.Need-enum-known-g
 enum-known-g c = search needs
@@ -67,14 +67,14 @@ pub read-terms-spec : {M : Type 1} → statement M
 read-terms-spec =
     tie.close
     (tie.spec
-    slice-aggregate-read-field
-    read-field-requires
+    slice-aggregate-read-numbers
+    read-numbers-requires
     enum-known-f
     enum-told
     why-requires
     returns
-    slice-aggregate-read-field-2
-    read-field-requires-2
+    slice-aggregate-read-date
+    read-date-requires
     enum-known-g
     enum-told-2
     why-requires-2
