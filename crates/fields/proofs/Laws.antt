@@ -21,35 +21,17 @@ use Rattle.fields.specs.declared.Kind.the-variants.{Empty}
 pub nothing-is : {p : Part} → p ≡ noPart → record { part = p; number = 0 } ≡ nothing
 nothing-is e = simp e
 
-pub by-kind : (s : List ℕ) (at : ℕ) {k k′ : Kind} {r : Value} → k ≡ k′ → r ≡ valueAt s at k′ → r ≡ valueAt s at k
-by-kind s at p q = rw p q
-
-pub by-empty : (s : List ℕ) (at : ℕ) {k : Kind} → k ≡ Empty → Read 0 at ≡ valueAt s at k
-by-empty s at p = rw p
-
 module _ (s : List ℕ) (at : ℕ) (tag : List ℕ) (kind : Kind) where
   pub field-1 : {r : At} {b : Break} → r ≡ litAt s at tag → r ≡ No → b ≡ absent at → Bad b ≡ fieldAt s at tag kind
   unfolding fieldAt
   field-1 p p′ b = simp (← p, p′, b)
 
-  pub field-2 : {r : At} {a : ℕ} {v : Value} {x : Refusal} {b : Break} → r ≡ litAt s at tag → r ≡ Next a → v ≡ valueAt s a kind → v ≡ Unread x → b ≡ broken at x → Bad b ≡ fieldAt s at tag kind
+  pub field-2 : {r : At} {a : ℕ} {v : Value} {f : Field} → r ≡ litAt s at tag → r ≡ Next a → v ≡ valueAt s a kind → f ≡ closedAt s at a v → f ≡ fieldAt s at tag kind
   unfolding fieldAt
-  field-2 p p′ q q′ b = simp (← p, p′, ← q, q′, b)
+  field-2 p p′ q f = simp (← p, p′, ← q, f)
 
-  pub field-3 : {r t : At} {a w e : ℕ} {v : Value} {b : Break} → r ≡ litAt s at tag → r ≡ Next a → v ≡ valueAt s a kind → v ≡ Read w e → t ≡ litAt s e crlf → t ≡ No → b ≡ broken at Malformed → Bad b ≡ fieldAt s at tag kind
-  unfolding fieldAt
-  field-3 p p′ q q′ l l′ b = simp (← p, p′, ← q, q′, ← l, l′, b)
-
-  pub field-4 : {r t : At} {a w e n : ℕ} {v : Value} → r ≡ litAt s at tag → r ≡ Next a → v ≡ valueAt s a kind → v ≡ Read w e → t ≡ litAt s e crlf → t ≡ Next n → Good (item a e w) (place n) ≡ fieldAt s at tag kind
-  unfolding fieldAt
-  field-4 p p′ q q′ l l′ = simp (← p, p′, ← q, q′, ← l, l′)
-
-  pub field-5 : {r : At} {a : ℕ} {v : Value} {f : Field} → r ≡ litAt s at tag → r ≡ Next a → v ≡ valueAt s a kind → f ≡ closedAt s at a v → f ≡ fieldAt s at tag kind
-  unfolding fieldAt
-  field-5 p p′ q f = simp (← p, p′, ← q, f)
-
-pub field-6 : (s : List ℕ) (at : ℕ) (tag : List ℕ) {r : At} {a : ℕ} {f : Field} → r ≡ litAt s at tag → r ≡ Next a → f ≡ closedAt s at a (Read 0 a) → f ≡ fieldAt s at tag Empty
-field-6 s at tag {a = a} p p′ f = field-5 s at tag Empty p p′ refl f
+pub field-3 : (s : List ℕ) (at : ℕ) (tag : List ℕ) {r : At} {a : ℕ} {f : Field} → r ≡ litAt s at tag → r ≡ Next a → f ≡ closedAt s at a (Read 0 a) → f ≡ fieldAt s at tag Empty
+field-3 s at tag p p′ f = field-2 s at tag Empty p p′ refl f
 
 module _ (s : List ℕ) (at a : ℕ) (v : Value) where
   pub close-1 : {x : Refusal} {b : Break} → v ≡ Unread x → b ≡ broken at x → Bad b ≡ closedAt s at a v

@@ -5,7 +5,7 @@ use scan::Cursor;
 use values::Part;
 use values::Value;
 ghost use mathlib.Core.Path.{_≡_};
-ghost use Rattle.fields.specs.Fields.{absent, wrong, nothing, broken, valueAt, closedAt, fieldAt, whyNot};
+ghost use Rattle.fields.specs.Fields.{absent, wrong, nothing, broken, closedAt, fieldAt, whyNot};
 ghost use Rattle.fields.specs.declared.Kind.the-variants.{Empty, Reference, Numeral, Word, Bin, Numbers, Date, Time, Side, Amount, Letters, Count};
 
 // Why a text is refused: the number, where the line begins that breaks it, and whether a mandatory
@@ -76,7 +76,7 @@ impl Field {
     }
 }
 
-// What a line's value is.
+// What a line's value is, for the definitions: each kind has its step below.
 pub enum Kind {
     Empty,
     Reference,
@@ -90,51 +90,6 @@ pub enum Kind {
     Amount,
     Letters,
     Count(u64),
-}
-
-// The value of a kind at a place.
-fn read_value(s: &[u8], at: usize, kind: Kind) -> Value
-    ensures { λ r. ⌜ r ≡ valueAt (now (s .entry)) at kind ⌝ }
-{
-    match kind {
-        Kind::Empty => Value::Read(0, at),
-        Kind::Reference => values::read_reference(s, at),
-        Kind::Numeral(n) => values::read_numeral(s, at, n),
-        Kind::Word(n) => values::read_word(s, at, n),
-        Kind::Bin(stream) => values::read_bin(s, at, stream),
-        Kind::Numbers => values::read_numbers(s, at),
-        Kind::Date => values::read_date(s, at),
-        Kind::Time => values::read_time(s, at),
-        Kind::Side => values::read_side(s, at),
-        Kind::Amount => values::read_amount(s, at),
-        Kind::Letters => values::read_letters(s, at),
-        Kind::Count(n) => values::read_count(s, at, n),
-    }
-}
-
-// The line of a field: its tag, a value of its kind, CR LF.
-pub fn read_field(s: &[u8], c: Cursor, tag: &[u8], kind: Kind) -> Field
-    ensures { λ r. ⌜ r ≡ fieldAt (now (s .entry)) (c .at) (now (tag .entry)) kind ⌝ }
-{
-    let at = c.at;
-    let At::Next(a) = scan::lit(s, at, tag) else {
-        return Field::Bad(Break::absent(at));
-    };
-    match read_value(s, a, kind) {
-        Value::Unread(r) => Field::Bad(Break::wrong(at, r)),
-        Value::Read(v, e) => {
-            let At::Next(n) = scan::lit(s, e, b"\r\n") else {
-                return Field::Bad(Break::wrong(at, Refusal::Malformed));
-            };
-            Field::Good(
-                Item {
-                    part: Part { start: a, end: e },
-                    number: v,
-                },
-                Cursor { at: n },
-            )
-        }
-    }
 }
 
 // A line that begins at a place, from its value on: the value that stands at a, then CR LF.

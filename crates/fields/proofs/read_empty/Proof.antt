@@ -1,4 +1,4 @@
-use Rattle.fields.proofs.Laws.{field-1, field-6}
+use Rattle.fields.proofs.Laws.{field-1, field-3}
 use borrow.Author.Needs.{needs}
 use Rattle.fields.proofs.read_empty.Statement.{statement}
 use Rattle.fields.proofs.read_empty.Tie as tie
@@ -22,7 +22,7 @@ close-requires : tie.Need-close-requires
 close-requires c κs = search needs
 
 returns-2 : tie.Need-returns-2
-returns-2 c = search field-6
+returns-2 c = search field-3
 
 pub read-empty-spec : {M : Type 1} → statement M
 read-empty-spec =
