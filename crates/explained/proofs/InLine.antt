@@ -64,7 +64,7 @@ CleanRow f432 = Unit {0}
 pub in-line : (f : Row) (v : List ℕ) → CleanRow f → Is f v → All inLine v
 in-line f20 v k g = codes v (g .all)
 in-line (f12 kinds) v k g = digits v (g .all)
-in-line f77E v k g = codes v (g .all)
+in-line f77E v k g = subst (All inLine) (sym g) tt
 in-line f22A v k g = codes v (g .all)
 in-line (f119 stream) v k g = subst (All inLine) (sym (g .is)) (all-append inLine stream (g .digits) k (digits (g .digits) (g .four .all)))
 in-line f16A v k g = subst (All inLine) (sym (g .is)) (all-append inLine (g .number) (bytes "/" ++ g .count) (digits (g .number) (g .two .all)) (refl, digits (g .count) (g .too .all)))
