@@ -21,25 +21,23 @@ spelt : (v : List ℕ) (n : ℕ) → IsNumeral 3 v → eqb (valueOf 0 v) n ≡ t
 spelt v n g h = sym (digits-back v (g .all)) ∙ ap (λ (k : ℕ). digitsOf k (valueOf 0 v)) (g .size) ∙ ap (digitsOf 3) (eqb-true (valueOf 0 v) n h)
 
 module _ (v r : List ℕ) (g : IsNumeral 3 v) where
-  -- 131 and 133
-  pub asks : member (valueOf 0 v) (131 ∷ 133 ∷ []) ≡ true → settlesIn (v ++ (crlf ++ r)) ≡ eqb (valueOf 0 v) 131
-  unfolding begins digitsOf
-  asks k = go (eqb (valueOf 0 v) 131) (eqb (valueOf 0 v) 133) refl refl k
+  -- of two sub types just the first settles
+  settles-by : (a b : ℕ) → settlesIn (digitsOf 3 a ++ (crlf ++ r)) ≡ true → settlesIn (digitsOf 3 b ++ (crlf ++ r)) ≡ false → member (valueOf 0 v) (a ∷ b ∷ []) ≡ true
+      → settlesIn (v ++ (crlf ++ r)) ≡ eqb (valueOf 0 v) a
+  settles-by a b does other k = go (eqb (valueOf 0 v) a) (eqb (valueOf 0 v) b) refl refl k
     where
-      go : (a b : Bool) → eqb (valueOf 0 v) 131 ≡ a → eqb (valueOf 0 v) 133 ≡ b → (a || (b || false)) ≡ true → settlesIn (v ++ (crlf ++ r)) ≡ a
-      go true b h i k = ap (λ (l : List ℕ). settlesIn (l ++ (crlf ++ r))) (spelt v 131 g h)
-      go false true h i k = ap (λ (l : List ℕ). settlesIn (l ++ (crlf ++ r))) (spelt v 133 g i)
+      go : (x y : Bool) → eqb (valueOf 0 v) a ≡ x → eqb (valueOf 0 v) b ≡ y → (x || (y || false)) ≡ true → settlesIn (v ++ (crlf ++ r)) ≡ x
+      go true y h i k = ap (λ (l : List ℕ). settlesIn (l ++ (crlf ++ r))) (spelt v a g h) ∙ does
+      go false true h i k = ap (λ (l : List ℕ). settlesIn (l ++ (crlf ++ r))) (spelt v b g i) ∙ other
       go false false h i k = absurd (false≢true k)
 
-  -- 132 and 134
+  pub asks : member (valueOf 0 v) (131 ∷ 133 ∷ []) ≡ true → settlesIn (v ++ (crlf ++ r)) ≡ eqb (valueOf 0 v) 131
+  unfolding begins digitsOf
+  asks = settles-by 131 133 refl refl
+
   pub answers : member (valueOf 0 v) (132 ∷ 134 ∷ []) ≡ true → settlesIn (v ++ (crlf ++ r)) ≡ eqb (valueOf 0 v) 132
   unfolding begins digitsOf
-  answers k = go (eqb (valueOf 0 v) 132) (eqb (valueOf 0 v) 134) refl refl k
-    where
-      go : (a b : Bool) → eqb (valueOf 0 v) 132 ≡ a → eqb (valueOf 0 v) 134 ≡ b → (a || (b || false)) ≡ true → settlesIn (v ++ (crlf ++ r)) ≡ a
-      go true b h i k = ap (λ (l : List ℕ). settlesIn (l ++ (crlf ++ r))) (spelt v 132 g h)
-      go false true h i k = ap (λ (l : List ℕ). settlesIn (l ++ (crlf ++ r))) (spelt v 134 g i)
-      go false false h i k = absurd (false≢true k)
+  answers = settles-by 132 134 refl refl
 
 pub side : (v r : List ℕ) → IsSide v → begins (bytes "DR") (v ++ (crlf ++ r)) ≡ begins (bytes "DR") v
 unfolding begins
