@@ -102,17 +102,19 @@ Along Q w at [] = Unit {0}
 Along Q w at (x ∷ xs) = Q at x × Along Q w (at + w) xs
 
 pub along : {A : Type 0} (s : List ℕ) (w : ℕ) (g : A → List ℕ) (P : A → Type 0) (Q : ℕ → A → Type 0) → ((x : A) → length (g x) ≡ w)
-    → ((x : A) (p : ℕ) (r : List ℕ) → P x → drop p s ≡ g x ++ r → Q p x)
+    → ((x : A) (p : ℕ) (r : List ℕ) → drop p s ≡ g x ++ r → P x → Q p x)
     → (xs : List A) (at : ℕ) (r : List ℕ) → drop at s ≡ joined g xs ++ r → Each P xs → Along Q w at xs
 along s w g P Q long good [] at r h e = tt
 along s w g P Q long good (x ∷ xs) at r h e =
     let k = h ∙ append-assoc (g x) (joined g xs) r in
-    (good x at (joined g xs ++ r) (e .0) k, along s w g P Q long good xs (at + w) r (after s at w (g x) (joined g xs ++ r) k (long x)) (e .1))
+    (good x at (joined g xs ++ r) k (e .0), along s w g P Q long good xs (at + w) r (after s at w (g x) (joined g xs ++ r) k (long x)) (e .1))
 
--- an entry that is right, and is read as what was written
-pub record Entry {A : Type 0} (right : ℕ → Bool) (F : ℕ → A) (p : ℕ) (x : A) : Type 0 where
-  pub holds : right p ≡ true
-  pub reads : F p ≡ x
+-- an entry that is right, and one that is read as what was written
+abbrev pub Holds : {A : Type 0} → (ℕ → Bool) → ℕ → A → Type 0
+Holds right p x = right p ≡ true
+
+abbrev pub Reads : {A : Type 0} → (ℕ → A) → ℕ → A → Type 0
+Reads F p x = F p ≡ x
 
 -- the last of codes, or the one before them
 abbrev pub lastOf : ℕ → List ℕ → ℕ
@@ -123,17 +125,18 @@ pub rising-split : (c : ℕ) (l m : List ℕ) → Rising (c ∷ (l ++ m)) → Ri
 rising-split c [] m h = (tt, h)
 rising-split c (x ∷ l) m h = let t = rising-split x l m (h .1) in ((h .0, t .0), t .1)
 
-module _ {A : Type 0} (s : List ℕ) (w : ℕ) (right : ℕ → Bool) (F : ℕ → A) (code : A → ℕ) (named : (p : ℕ) → code (F p) ≡ shortAt s p) where
-  short-of : (p : ℕ) (x : A) → Entry right F p x → shortAt s p ≡ code x
-  short-of p x e = sym (named p) ∙ ap code (e .reads)
+module _ {A : Type 0} (s : List ℕ) (w : ℕ) (F : ℕ → A) (code : A → ℕ) (named : (p : ℕ) → code (F p) ≡ shortAt s p) where
+  short-of : (p : ℕ) (x : A) → F p ≡ x → shortAt s p ≡ code x
+  short-of p x e = sym (named p) ∙ ap code e
 
-  pub entries-right : (xs : List A) (before at : ℕ) → Along (Entry right F) w at xs → Rising (before ∷ map code xs) → entriesRight s w right before at (length xs) ≡ true
+  pub entries-right : (right : ℕ → Bool) (xs : List A) (before at : ℕ) → Along (Holds right) w at xs → Along (Reads F) w at xs → Rising (before ∷ map code xs)
+      → entriesRight s w right before at (length xs) ≡ true
   unfolding entriesRight
-  entries-right [] before at a h = refl
-  entries-right (x ∷ xs) before at a h =
-      rw (short-of at x (a .0), lt-ltb before (code x) (h .0), a .0 .holds) (entries-right xs (code x) (at + w) (a .1) (h .1))
+  entries-right right [] before at b a h = refl
+  entries-right right (x ∷ xs) before at b a h =
+      rw (short-of at x (a .0), lt-ltb before (code x) (h .0), b .0) (entries-right right xs (code x) (at + w) (b .1) (a .1) (h .1))
 
-  pub last-short : (c : ℕ) (xs : List A) (at : ℕ) → 0 < length xs → Along (Entry right F) w at xs → shortAt s (at + w * (length xs - 1)) ≡ lastOf c (map code xs)
+  pub last-short : (c : ℕ) (xs : List A) (at : ℕ) → 0 < length xs → Along (Reads F) w at xs → shortAt s (at + w * (length xs - 1)) ≡ lastOf c (map code xs)
   last-short c [] at h a = absurd (omega arith)
   last-short c (x ∷ []) at h a =
       let z : suc 0 - 1 ≡ 0 = omega arith in
@@ -144,14 +147,14 @@ module _ {A : Type 0} (s : List ℕ) (w : ℕ) (right : ℕ → Bool) (F : ℕ �
       let v : at + w * suc (length xs) ≡ at + w + w * length xs = rw mul-suc (omega arith) in
       rw (z, v) (rw u at (last-short (code x) (y ∷ xs) (at + w) (omega arith) (a .1)))
 
-  -- they are read in their order
-  pub each-reads : (place : ℕ → ℕ) (xs : List A) (i at : ℕ) → ((j : ℕ) → j < length xs → place (i + j) ≡ at + w * j)
-      → Along (Entry right F) w at xs → each (λ (k : ℕ). F (place k)) i (length xs) ≡ xs
-  each-reads place [] i at there a = refl
-  each-reads place (x ∷ xs) i at there a =
-      let here : place i ≡ at = ap place (sym (add-zero i)) ∙ there 0 (omega arith) ∙ rw mul-zero (omega arith) in
-      rw (here, a .0 .reads) (ap (λ (l : List A). x ∷ l) (each-reads place xs (i + 1) (at + w)
-      (λ j q.
-      let y : i + 1 + j ≡ i + suc j = omega arith in
-      rw y (there (suc j) (omega arith) ∙ rw mul-suc (omega arith)))
-      (a .1)))
+-- they are read in their order
+pub each-reads : {A : Type 0} (w : ℕ) (F : ℕ → A) (place : ℕ → ℕ) (xs : List A) (i at : ℕ) → ((j : ℕ) → j < length xs → place (i + j) ≡ at + w * j)
+    → Along (Reads F) w at xs → each (λ (k : ℕ). F (place k)) i (length xs) ≡ xs
+each-reads w F place [] i at there a = refl
+each-reads {A} w F place (x ∷ xs) i at there a =
+    let here : place i ≡ at = ap place (sym (add-zero i)) ∙ there 0 (omega arith) ∙ rw mul-zero (omega arith) in
+    rw (here, a .0) (ap (λ (l : List A). x ∷ l) (each-reads w F place xs (i + 1) (at + w)
+    (λ j q.
+    let y : i + 1 + j ≡ i + suc j = omega arith in
+    rw y (there (suc j) (omega arith) ∙ rw mul-suc (omega arith)))
+    (a .1)))

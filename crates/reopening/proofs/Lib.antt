@@ -1,3 +1,4 @@
+pub mod Fits
 pub mod Blocks
 pub mod Entries
 pub mod Written

@@ -3,6 +3,7 @@ use Prim.Native.Nat.{ℕ, _+_, _*_, _≤_}
 use mathlib.Core.Path.{_≡_, sym, _∙_, ap}
 use mathlib.Core.Bool.{true}
 use mathlib.Core.List.{List}
+use mathlib.Core.Logic.{_↔_}
 use native.Mathlib.Omega.{arith}
 use lib.ListN.{length, take, drop}
 use lib.Seq.{sets, sets-eq, take-at}
@@ -16,10 +17,13 @@ use Rattle.book.specs.Block.{entriesAt}
 use Rattle.book.specs.Accounts.{Stream, Bank, Rows, dayIn, streamsIn, banksIn, roomy, filled, bookIn, readBook}
 use Rattle.book.specs.Range.{InRange}
 use Rattle.book.proofs.Accepted.{accepted, none-broken}
+use Rattle.book.proofs.Ranging.{accepted-in-range}
 use Rattle.book.proofs.Filling.{each-length}
 use Rattle.closing.specs.declared.Writing.the-variants.{Written}
 use Rattle.closing.specs.Closing.{blocksFor, bookBytes, streamOf, bankOf, streamsOf, banksOf, holds, writeBook}
 use Rattle.reopening.specs.Reopened.{sizeOf, again, Reopened}
+use Rattle.reopening.specs.Fitting.{Fitting}
+use Rattle.reopening.proofs.Fits.{in-range-fits}
 use Rattle.reopening.proofs.Again.{written-again}
 use Rattle.reopening.proofs.Kept.{kept, streams-kept, banks-kept}
 use Rattle.reopening.proofs.Whole.{all-hold, book-long, blocks-in, count, banks-counted, day-back, streams-back, banks-back}
@@ -27,15 +31,28 @@ use Rattle.reopening.proofs.Whole.{all-hold, book-long, blocks-in, coun
 -- every book that is written from accounts in range is accepted
 pub written-accepted : (day : ℕ) (streams : List Stream) (banks : List Bank) → InRange day streams banks → bookCheck (bookBytes day streams banks) ≡ Sound
 unfolding bookCheck
-written-accepted day streams banks g = none-broken (bookRules (bookBytes day streams banks)) (all-hold day streams banks g)
+written-accepted day streams banks g = none-broken (bookRules (bookBytes day streams banks)) (all-hold day streams banks (in-range-fits g) g)
 
--- and reads back as the same accounts
+-- accounts that the bytes of a book can hold read back as they are, in range or not
+pub fitting-reads-back : (day : ℕ) (streams : List Stream) (banks : List Bank) → Fitting day streams banks
+    → (dayIn (bookBytes day streams banks) ≡ day) × (streamsIn (bookBytes day streams banks) ≡ streams) × (banksIn (bookBytes day streams banks) ≡ banks)
+fitting-reads-back day streams banks f = (day-back day streams banks f, streams-back day streams banks f, banks-back day streams banks f)
+
 pub written-reads-back : (day : ℕ) (streams : List Stream) (banks : List Bank) → InRange day streams banks
     → (dayIn (bookBytes day streams banks) ≡ day) × (streamsIn (bookBytes day streams banks) ≡ streams) × (banksIn (bookBytes day streams banks) ≡ banks)
-written-reads-back day streams banks g = (day-back day streams banks g, streams-back day streams banks g, banks-back day streams banks g)
+written-reads-back day streams banks g = fitting-reads-back day streams banks (in-range-fits g)
+
+-- so of these just the ones in range are accepted
+pub accepted-exactly : (day : ℕ) (streams : List Stream) (banks : List Bank) → Fitting day streams banks
+    → (bookCheck (bookBytes day streams banks) ≡ Sound) ↔ InRange day streams banks
+accepted-exactly day streams banks f =
+    let back = fitting-reads-back day streams banks f in (
+      (λ h. rw (back .0, back .1, back .2) at (accepted-in-range (bookBytes day streams banks) h)),
+      written-accepted day streams banks,
+    )
 
 -- so too by way of the functions: rows `t` with the day and the counts of `b` that `write` put into a buffer, read into other rows
-module _ (out : List ℕ) (b : Book) (t into : Rows) where
+module _ (out : List ℕ) (b : Book) (t : Rows) where
   abbrev xs : List Stream
   xs = streamsOf t (b .streams)
 
@@ -48,32 +65,34 @@ module _ (out : List ℕ) (b : Book) (t into : Rows) where
   abbrev size : ℕ
   size = sizeOf b
 
-  module _ (h : holds b t ≡ true) (g : InRange (b .day) xs bs) (room : size ≤ length out) (wide : roomy into ≡ true) where
-    streams-many : length xs ≡ b .streams
-    unfolding streamsOf
-    streams-many = each-length (streamOf (t .streams)) 0 (b .streams)
+  streams-many : length xs ≡ b .streams
+  unfolding streamsOf
+  streams-many = each-length (streamOf (t .streams)) 0 (b .streams)
 
-    banks-many : length bs ≡ b .banks
-    unfolding banksOf
-    banks-many = each-length (bankOf (t .codes) (t .flags) (t .balances) (t .limits)) 0 (b .banks)
+  banks-many : length bs ≡ b .banks
+  unfolding banksOf
+  banks-many = each-length (bankOf (t .codes) (t .flags) (t .balances) (t .limits)) 0 (b .banks)
 
-    long : length s ≡ size
-    long = book-long (b .day) xs bs g ∙ ap (λ (n : ℕ). 512 * blocksFor n) banks-many
-
-    made : writeBook out b t ≡ record { out = sets out 0 s; answer = Written size }
+  module _ (h : holds b t ≡ true) (room : size ≤ length out) where
+    pub made : writeBook out b t ≡ record { out = sets out 0 s; answer = Written size }
     unfolding writeBook
     made = rw (h, le-leb size (length out) room)
 
-    put-there : take size (writeBook out b t .out) ≡ s
-    put-there =
+    pub put-there : Fitting (b .day) xs bs → take size (writeBook out b t .out) ≡ s
+    put-there f =
+        let long : length s ≡ size = book-long (b .day) xs bs f ∙ ap (λ (n : ℕ). 512 * blocksFor n) banks-many in
         ap (λ w. take size (w .out)) made
-        ∙ ap (take size) (sets-eq s out 0 (omega (arith, long)))
+        ∙ ap (take size) (sets-eq s out 0 (omega arith))
         ∙ take-at s (drop (0 + length s) out) size long
+
+  module _ (into : Rows) (h : holds b t ≡ true) (g : InRange (b .day) xs bs) (room : size ≤ length out) (wide : roomy into ≡ true) where
+    fits : Fitting (b .day) xs bs
+    fits = in-range-fits g
 
     counts : (entriesAt s 0 ≡ b .streams) × (bankCount s (blocksIn s) ≡ b .banks)
     counts = (
-      count (b .day) xs bs g ∙ streams-many,
-      ap (bankCount s) (blocks-in (b .day) xs bs g) ∙ banks-counted (b .day) xs bs g ∙ banks-many,
+      count (b .day) xs bs fits ∙ streams-many,
+      ap (bankCount s) (blocks-in (b .day) xs bs fits) ∙ banks-counted (b .day) xs bs fits ∙ banks-many,
     )
 
     sound : bookCheck s ≡ Sound
@@ -81,22 +100,22 @@ module _ (out : List ℕ) (b : Book) (t into : Rows) where
 
     book-same : bookIn s ≡ b
     unfolding bookIn
-    book-same = rw (day-back (b .day) xs bs g, counts .0, counts .1)
+    book-same = rw (day-back (b .day) xs bs fits, counts .0, counts .1)
 
     read-so : again out b t into ≡ record { rows = filled s into; answer = Held b }
     unfolding readBook
-    read-so = ap (λ (l : List ℕ). readBook l into) put-there ∙ rw (wide, sound, book-same)
+    read-so = ap (λ (l : List ℕ). readBook l into) (put-there h room fits) ∙ rw (wide, sound, book-same)
 
     pub write-then-read : Reopened out b t into
     write-then-read = record {
-      written = ap (λ w. w .answer) made;
+      written = ap (λ w. w .answer) (made h room);
       book = ap (λ w. w .answer) read-so;
       streams =
           ap (λ w. streamsOf (w .rows) (b .streams)) read-so ∙ ap (streamsOf (filled s into)) (sym (counts .0))
-          ∙ streams-kept s (accepted s sound) into wide ∙ streams-back (b .day) xs bs g;
+          ∙ streams-kept s (accepted s sound) into wide ∙ streams-back (b .day) xs bs fits;
       banks =
           ap (λ w. banksOf (w .rows) (b .banks)) read-so ∙ ap (banksOf (filled s into)) (sym (counts .1))
-          ∙ banks-kept s (accepted s sound) into wide ∙ banks-back (b .day) xs bs g;
+          ∙ banks-kept s (accepted s sound) into wide ∙ banks-back (b .day) xs bs fits;
     }
 
 -- an accepted book, read and written again, is the same bytes: one book of accounts has one file

@@ -1,4 +1,4 @@
--- The whole book of accounts in range: its length, its blocks, every rule, and what it says.
+-- The whole book of accounts that its bytes can hold: its length, its blocks and what it says; in range, every rule.
 use Prim.Native.Nat.{ℕ, zero, suc, _+_, _*_, _-_, _%_, _≤_, _<_}
 use mathlib.Core.Path.{_≡_, refl, sym, _∙_, ap}
 use mathlib.Core.Bool.{true}
@@ -21,7 +21,9 @@ use Rattle.book.proofs.Leaves.{before-first}
 use Rattle.closing.proofs.Storing.{stream-length, bank-length}
 use Rattle.closing.proofs.Sealing.{joined-length, sealed-length}
 use Rattle.reopening.proofs.Blocks.{after}
-use Rattle.reopening.proofs.Written.{right-streams, right-banks, rising-first, streams-count, day-read, streams-read, streams-hold, Banked, banked, take-most}
+use Rattle.reopening.specs.Fitting.{Fitting}
+use Rattle.reopening.proofs.Fits.{all-streams, all-banks}
+use Rattle.reopening.proofs.Written.{rising-first, streams-count, day-read, streams-read, streams-hold, Banked, banked, take-most}
 
 -- the length of a book
 pub stream-long : (day : ℕ) (xs : List Stream) (blocks : ℕ) → length xs ≤ 8 → length (streamBlock day xs blocks) ≡ 512
@@ -43,7 +45,7 @@ banks-long blocks (suc n) k bs =
     )
     (omega arith)
 
-module _ (day : ℕ) (xs : List Stream) (bs : List Bank) (g : InRange day xs bs) where
+module _ (day : ℕ) (xs : List Stream) (bs : List Bank) (f : Fitting day xs bs) where
   abbrev s : List ℕ
   s = bookBytes day xs bs
 
@@ -56,11 +58,11 @@ module _ (day : ℕ) (xs : List Stream) (bs : List Bank) (g : InRange day xs bs)
   -- 2 to 5 blocks, all but the last full
   blocks-fit : (2 ≤ blocks) × (blocks ≤ 5) × (length bs ≤ 20 * (blocks - 1)) × (20 * (blocks - 1) < length bs + 20)
   unfolding blocksFor
-  blocks-fit = (omega (arith, g .some-banks), omega (arith, g .few-banks), omega arith, omega arith)
+  blocks-fit = (omega (arith, f .some-banks), omega (arith, f .few-banks), omega arith, omega arith)
 
   pub book-long : length s ≡ 512 * blocks
   unfolding bookBytes
-  book-long = length-append (streamBlock day xs blocks) tail ∙ rw (stream-long day xs blocks (g .few-streams), banks-long blocks (blocks - 1) 1 bs) (omega (arith, blocks-fit .0))
+  book-long = length-append (streamBlock day xs blocks) tail ∙ rw (stream-long day xs blocks (f .few-streams), banks-long blocks (blocks - 1) 1 bs) (omega (arith, blocks-fit .0))
 
   pub blocks-in : blocksIn s ≡ blocks
   blocks-in = rw book-long (omega arith)
@@ -76,19 +78,16 @@ module _ (day : ℕ) (xs : List Stream) (bs : List Bank) (g : InRange day xs bs)
   in-streams = refl
 
   in-banks : drop 512 s ≡ tail ++ []
-  in-banks = after s 0 512 (streamBlock day xs blocks) tail in-streams (stream-long day xs blocks (g .few-streams)) ∙ sym (append-nil tail)
+  in-banks = after s 0 512 (streamBlock day xs blocks) tail in-streams (stream-long day xs blocks (f .few-streams)) ∙ sym (append-nil tail)
 
   pub count : entriesAt s 0 ≡ length xs
-  count = streams-count s day xs blocks tail in-streams (g .few-streams)
+  count = streams-count s day xs blocks tail in-streams (f .few-streams)
 
-  the-banks : Banked s blocks 1 (blocks - 1) bs
+  the-banks : Banked s blocks (length xs) 1 (blocks - 1) bs
   the-banks =
       let e : 1 + (blocks - 1) ≡ blocks = omega (arith, blocks-fit .0) in
-      banked s blocks (length xs) (g .few-streams) count (blocks - 1) 1 0 bs [] (omega arith) e in-banks
-      (g .some-banks) (blocks-fit .2) (blocks-fit .3) (omega (arith, g .few-banks))
-      (right-banks (length xs) bs (g .bank-codes) (g .flags-right) (g .balances-right) (g .limits-right))
-      (rising-first (column Code bs) (g .bank-codes) (g .banks-rise))
-      (sym (before-first s 1 (omega arith)))
+      banked s blocks (length xs) (f .few-streams) count (blocks - 1) 1 bs [] (omega arith) e in-banks
+      (f .some-banks) (blocks-fit .2) (blocks-fit .3) (omega (arith, f .few-banks)) (f .banks-fit)
 
   pub banks-counted : bankCount s blocks ≡ length bs
   unfolding bankCount
@@ -102,22 +101,24 @@ module _ (day : ℕ) (xs : List Stream) (bs : List Bank) (g : InRange day xs bs)
   banks-back = rw (blocks-in, banks-counted) (the-banks .read)
 
   pub streams-back : streamsIn s ≡ xs
-  streams-back = streams-read s day xs blocks tail in-streams (g .few-streams) (g .date) (g .some-streams) (right-streams xs (g .stream-codes) (g .administrators))
+  streams-back = streams-read s day xs blocks tail in-streams (f .few-streams) (f .streams-fit)
 
   pub day-back : dayIn s ≡ day
-  day-back = day-read s day xs blocks tail in-streams (g .few-streams) (g .date)
+  day-back = day-read s day xs blocks tail in-streams (f .few-streams) (f .date)
 
-  total-holds : totalRight s (bankCount s (blocksIn s)) ≡ true
-  unfolding totalRight banksIn
-  total-holds =
-      let n = bankCount s (blocksIn s) in
-      let same : each (balanceOf s) 0 n ≡ column Balance bs = sym (map-each (fieldOf Balance) (λ (i : ℕ). bankAt s (bankPlace i)) 0 n) ∙ ap (column Balance) banks-back in
-      rw same (le-leb (sum (column Balance bs)) mostMoney (g .total))
+  module _ (g : InRange day xs bs) where
+    total-holds : totalRight s (bankCount s (blocksIn s)) ≡ true
+    unfolding totalRight banksIn
+    total-holds =
+        let n = bankCount s (blocksIn s) in
+        let same : each (balanceOf s) 0 n ≡ column Balance bs = sym (map-each (fieldOf Balance) (λ (i : ℕ). bankAt s (bankPlace i)) 0 n) ∙ ap (column Balance) banks-back in
+        rw same (le-leb (sum (column Balance bs)) mostMoney (g .total))
 
-  pub all-hold : AllHold (bookRules s)
-  unfolding bookRules
-  all-hold =
-      let streams : AllHold (streamRules s (blocksIn s)) =
-      rw blocks-in (streams-hold s day xs blocks tail in-streams (g .few-streams) (g .date) (g .some-streams) (right-streams xs (g .stream-codes) (g .administrators)) (g .streams-rise)) in
-      let banks : AllHold (bankBlocks s (blocksIn s) 1 (blocksIn s - 1)) = rw blocks-in (the-banks .rules) in
-      (length-holds, hold-join (streamRules s (blocksIn s)) _ streams (hold-join (bankBlocks s (blocksIn s) 1 (blocksIn s - 1)) _ banks (total-holds, tt)))
+    pub all-hold : AllHold (bookRules s)
+    unfolding bookRules
+    all-hold =
+        let streams : AllHold (streamRules s (blocksIn s)) =
+        rw blocks-in (streams-hold s day xs blocks tail in-streams (f .few-streams) (f .streams-fit) (g .date) (g .some-streams) (all-streams g) (g .streams-rise)) in
+        let banks : AllHold (bankBlocks s (blocksIn s) 1 (blocksIn s - 1)) =
+        rw blocks-in (the-banks .rules 0 (all-banks g) (rising-first (column Code bs) (g .bank-codes) (g .banks-rise)) (sym (before-first s 1 (omega arith)))) in
+        (length-holds, hold-join (streamRules s (blocksIn s)) _ streams (hold-join (bankBlocks s (blocksIn s) 1 (blocksIn s - 1)) _ banks (total-holds, tt)))

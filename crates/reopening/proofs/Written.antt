@@ -1,5 +1,5 @@
--- A book in range that is written: every rule holds of its bytes, and they are read as its day, its streams and its banks.
-use Prim.Native.Nat.{ℕ, zero, suc, _+_, _*_, _-_, _/_, _^_, _≤_, _<_}
+-- A book that is written is read as its day, its streams and its banks, if its bytes can hold them; in range, every rule holds of them.
+use Prim.Native.Nat.{ℕ, zero, suc, _+_, _*_, _-_, _≤_, _<_}
 use mathlib.Core.Path.{_≡_, refl, sym, _∙_, ap}
 use mathlib.Core.Bool.{true, false≢true}
 use mathlib.Core.List.{List, [], _∷_, _++_, map, append-assoc, append-nil}
@@ -18,9 +18,9 @@ use Rattle.scan.proofs.Standing.{number-reads}
 use Rattle.put.specs.Digits.{digitsOf}
 use Rattle.put.proofs.Laws.{digits-length}
 use Rattle.reply.proofs.Digits.{digits-all, value-back}
-use Rattle.book.specs.declared.Field.the-variants.{Code, Flags, Balance, Limit}
+use Rattle.book.specs.declared.Field.the-variants.{Code}
 use Rattle.book.specs.Block.{head, entriesAt, zerosAt}
-use Rattle.book.specs.Book.{mostMoney, dateIn, streamRight, bankRight, streamsCounted, streamRules, banksCounted, codeBefore, bankRules, bankBlocks, each, bankPlace}
+use Rattle.book.specs.Book.{dateIn, streamRight, bankRight, streamsCounted, streamRules, banksCounted, codeBefore, bankRules, bankBlocks, each, bankPlace}
 use Rattle.book.specs.Accounts.{Stream, Bank, streamAt, bankAt, dayIn, streamsIn, fieldOf, column}
 use Rattle.closing.specs.Closing.{streamBytes, bankBytes, joined, streamBlock, bankBlock, bankBlocksOf}
 use Rattle.book.specs.Range.{Each, isShort, Rising, streamCodes}
@@ -29,19 +29,11 @@ use Rattle.book.proofs.Accepted.{AllHold, hold-join}
 use Rattle.closing.proofs.Storing.{stream-length, bank-length}
 use Rattle.closing.proofs.Sealing.{joined-length, sealed-length}
 use Rattle.book.proofs.Ranging.{RightStream, RightBank}
-use Rattle.reopening.proofs.Blocks.{begins-at, after, Stands, stands, entries-stand, header-stands, Along, along, Entry, lastOf, rising-split, entries-right, last-short, each-reads}
-use Rattle.reopening.proofs.Entries.{stream-stands, bank-stands}
+use Rattle.reopening.proofs.Blocks.{begins-at, after, Stands, stands, entries-stand, header-stands, Along, along, Holds, Reads, lastOf, rising-split, entries-right, last-short, each-reads}
+use Rattle.reopening.specs.Fitting.{FitStream, FitBank}
+use Rattle.reopening.proofs.Entries.{stream-reads, stream-holds, bank-reads, bank-holds}
 
--- ---- the range, entry by entry
-
-pub right-streams : (xs : List Stream) → Each (λ x. isShort (x .code) ≡ true) xs → Each (λ x. (1 ≤ x .sender) × (x .sender ≤ 255)) xs → Each RightStream xs
-right-streams [] c a = tt
-right-streams (x ∷ xs) c a = (record { code = c .0; sender = a .0 }, right-streams xs (c .1) (a .1))
-
-pub right-banks : (n : ℕ) (bs : List Bank) → Each (λ x. isShort x ≡ true) (column Code bs) → Each (λ x. x / 2 < 2 ^ n) (column Flags bs)
-    → Each (λ x. x ≤ mostMoney) (column Balance bs) → Each (λ x. x ≤ mostMoney) (column Limit bs) → Each (RightBank n) bs
-right-banks n [] c f b l = tt
-right-banks n (x ∷ bs) c f b l = (record { code = c .0; flags = f .0; balance = b .0; limit = l .0 }, right-banks n bs (c .1) (f .1) (b .1) (l .1))
+-- ---- codes
 
 -- no code is zero
 short-some : (c : ℕ) → isShort c ≡ true → 0 < c
@@ -113,29 +105,29 @@ module _ (s : List ℕ) (day : ℕ) (xs : List Stream) (blocks : ℕ) (r : List 
     unfolding dayIn
     day-read = rw date-stands
 
-    module _ (some : 1 ≤ length xs) where
-      counted : streamsCounted s ≡ true
-      unfolding streamsCounted zerosAt
-      counted = rw (streams-count, le-leb 1 (length xs) some, le-leb (length xs) 8 few, date-stands) (begins-at s 14 (0 ∷ 0 ∷ []) rest in-zeros)
+    counted : 1 ≤ length xs → streamsCounted s ≡ true
+    unfolding streamsCounted zerosAt
+    counted some = rw (streams-count, le-leb 1 (length xs) some, le-leb (length xs) 8 few, date-stands) (begins-at s 14 (0 ∷ 0 ∷ []) rest in-zeros)
 
-      module _ (good : Each RightStream xs) where
-        along-0 : Along (Entry (streamRight s) (streamAt s)) 8 16 xs
-        along-0 = along s 8 streamBytes RightStream (Entry (streamRight s) (streamAt s)) stream-length (stream-stands s) xs 16 (block-0 .rest) in-entries good
+  module _ (fit : Each FitStream xs) where
+    streams-along : Along (Reads (streamAt s)) 8 16 xs
+    streams-along = along s 8 streamBytes FitStream (Reads (streamAt s)) stream-length (stream-reads s) xs 16 (block-0 .rest) in-entries fit
 
-        pub streams-read : streamsIn s ≡ xs
-        unfolding streamsIn
-        streams-read = rw streams-count (each-reads s 8 (streamRight s) (streamAt s) (λ x. x .code) (λ p. refl) (λ i. 8 * i + 16) xs 0 16 (λ j q. omega arith) along-0)
+    pub streams-read : streamsIn s ≡ xs
+    unfolding streamsIn
+    streams-read = rw streams-count (each-reads 8 (streamAt s) (λ i. 8 * i + 16) xs 0 16 (λ j q. omega arith) streams-along)
 
-        pub streams-hold : Rising (streamCodes xs) → AllHold (streamRules s blocks)
-        unfolding streamRules
-        streams-hold rise =
-            let up : Rising (0 ∷ map (λ (x : Stream). x .code) xs) = rw (codes-map xs) at (rising-first (streamCodes xs) (short-codes xs good) rise) in (
-              block-0 .check,
-              (
-                header-stands s 0 83 0 (length xs) blocks (date ++ (0 ∷ 0 ∷ rest)) in-head (streamsCounted s) 16 8 counted (rw (← text-long) (block-0 .unused)),
-                (rw streams-count (entries-right s 8 (streamRight s) (streamAt s) (λ x. x .code) (λ p. refl) xs 0 16 along-0 up), tt),
-              ),
-            )
+    pub streams-hold : day < 36525 → 1 ≤ length xs → Each RightStream xs → Rising (streamCodes xs) → AllHold (streamRules s blocks)
+    unfolding streamRules
+    streams-hold true-date some good rise =
+        let up : Rising (0 ∷ map (λ (x : Stream). x .code) xs) = rw (codes-map xs) at (rising-first (streamCodes xs) (short-codes xs good) rise) in
+        let right = along s 8 streamBytes RightStream (Holds (streamRight s)) stream-length (stream-holds s) xs 16 (block-0 .rest) in-entries good in (
+          block-0 .check,
+          (
+            header-stands s 0 83 0 (length xs) blocks (date ++ (0 ∷ 0 ∷ rest)) in-head (streamsCounted s) 16 8 (counted true-date some) (rw (← text-long) (block-0 .unused)),
+            (rw streams-count (entries-right s 8 (streamAt s) (λ x. x .code) (λ p. refl) (streamRight s) xs 0 16 right streams-along up), tt),
+          ),
+        )
 
 -- ---- a block of banks
 
@@ -165,28 +157,32 @@ module _ (s : List ℕ) (blocks k : ℕ) (bs : List Bank) (r : List ℕ) (h : dr
       let z : 512 * k + 512 ≡ 512 * (k + 1) = omega arith in
       rw z at (after s (512 * k) 512 (bankBlock blocks k bs) r h (sealed-length (top ++ joined bankBytes bs) (omega (arith, block-long))))
 
-  module _ (streams : ℕ) (fit : streams ≤ 8) (good : Each (RightBank streams) bs) where
-    along-k : Along (Entry (bankRight s streams) (bankAt s)) 24 (512 * k + 8) bs
-    along-k = along s 24 bankBytes (RightBank streams) (Entry (bankRight s streams) (bankAt s)) bank-length (bank-stands s streams fit) bs (512 * k + 8) (block-k .rest) at-entries good
+  module _ (fit : Each FitBank bs) where
+    banks-along : Along (Reads (bankAt s)) 24 (512 * k + 8) bs
+    banks-along = along s 24 bankBytes FitBank (Reads (bankAt s)) bank-length (bank-reads s) bs (512 * k + 8) (block-k .rest) at-entries fit
 
     pub block-read : 1 ≤ k → each (λ (i : ℕ). bankAt s (bankPlace i)) (20 * (k - 1)) (length bs) ≡ bs
     unfolding bankPlace
-    block-read p = each-reads s 24 (bankRight s streams) (bankAt s) (fieldOf Code) (λ p. refl) bankPlace bs (20 * (k - 1)) (512 * k + 8) (λ j q. omega arith) along-k
+    block-read p = each-reads 24 (bankAt s) bankPlace bs (20 * (k - 1)) (512 * k + 8) (λ j q. omega arith) banks-along
 
     pub block-last : (c : ℕ) → 1 ≤ k → length bs ≡ 20 → codeBefore s (k + 1) ≡ lastOf c (column Code bs)
     block-last c p l =
         let z : 512 * k + 8 + 24 * (length bs - 1) ≡ 512 * (k + 1) - 48 = omega arith in
-        sym (before-next s (k + 1) (omega arith) (sym (rw z at (last-short s 24 (bankRight s streams) (bankAt s) (fieldOf Code) (λ p. refl) c bs (512 * k + 8) (omega arith) along-k))))
+        sym (before-next s (k + 1) (omega arith) (sym (rw z at (last-short s 24 (bankAt s) (fieldOf Code) (λ p. refl) c bs (512 * k + 8) (omega arith) banks-along))))
 
-    pub block-rules : entriesAt s 0 ≡ streams → banksCounted blocks k (length bs) ≡ true → Rising (codeBefore s k ∷ column Code bs) → AllHold (bankRules s blocks k)
+    pub block-rules : (streams : ℕ) → streams ≤ 8 → entriesAt s 0 ≡ streams → Each (RightBank streams) bs → banksCounted blocks k (length bs) ≡ true
+        → Rising (codeBefore s k ∷ column Code bs) → AllHold (bankRules s blocks k)
     unfolding bankRules
-    block-rules n count rise = (
-      block-k .check,
-      (
-        header-stands s (512 * k) 66 k (length bs) blocks (joined bankBytes bs ++ block-k .rest) at-head _ 8 24 (rw banks-count count) (rw (← block-long) (block-k .unused)),
-        (rw (n, banks-count) (entries-right s 24 (bankRight s streams) (bankAt s) (fieldOf Code) (λ p. refl) bs (codeBefore s k) (512 * k + 8) along-k rise), tt),
-      ),
-    )
+    block-rules streams few-streams n good count rise =
+        let right =
+        along s 24 bankBytes (RightBank streams) (Holds (bankRight s streams)) bank-length
+        (λ x p r h. bank-holds s x p r h streams few-streams) bs (512 * k + 8) (block-k .rest) at-entries good in (
+          block-k .check,
+          (
+            header-stands s (512 * k) 66 k (length bs) blocks (joined bankBytes bs ++ block-k .rest) at-head _ 8 24 (rw banks-count count) (rw (← block-long) (block-k .unused)),
+            (rw (n, banks-count) (entries-right s 24 (bankAt s) (fieldOf Code) (λ p. refl) (bankRight s streams) bs (codeBefore s k) (512 * k + 8) right banks-along rise), tt),
+          ),
+        )
 
 -- ---- blocks of banks one after another
 
@@ -212,10 +208,10 @@ each-parts f i (suc a) b =
     let y : i + suc a ≡ i + 1 + a = omega arith in
     rw (z, y, each-parts f (i + 1) a b)
 
-pub record Banked (s : List ℕ) (blocks k n : ℕ) (bs : List Bank) : Type 0 where
-  pub rules : AllHold (bankBlocks s blocks k n)
+pub record Banked (s : List ℕ) (blocks streams k n : ℕ) (bs : List Bank) : Type 0 where
   pub read : each (λ (i : ℕ). bankAt s (bankPlace i)) (20 * (k - 1)) (length bs) ≡ bs
   pub last : entriesAt s (512 * (k + n - 1)) ≡ length bs - 20 * (n - 1)
+  pub rules : (c : ℕ) → Each (RightBank streams) bs → Rising (c ∷ column Code bs) → codeBefore s k ≡ c → AllHold (bankBlocks s blocks k n)
 
 last-counted : (blocks k n : ℕ) → blocks ≤ k + 1 → 1 ≤ n → n ≤ 20 → 20 * (k - 1) + n ≤ 64 → banksCounted blocks k n ≡ true
 unfolding banksCounted
@@ -231,47 +227,47 @@ one-less a b n e =
     let z : 20 * (suc n - 1) ≡ 20 * n = omega arith in
     rw (e, y, z) (omega arith)
 
-module _ (s : List ℕ) (blocks streams : ℕ) (fit : streams ≤ 8) (here : entriesAt s 0 ≡ streams) where
-  pub banked : (n k c : ℕ) (bs : List Bank) (r : List ℕ) → 1 ≤ k → k + n ≡ blocks → drop (512 * k) s ≡ bankBlocksOf blocks k n bs ++ r
-      → 1 ≤ length bs → length bs ≤ 20 * n → 20 * n < length bs + 20 → 20 * (k - 1) + length bs ≤ 64
-      → Each (RightBank streams) bs → Rising (c ∷ column Code bs) → codeBefore s k ≡ c → Banked s blocks k n bs
+module _ (s : List ℕ) (blocks streams : ℕ) (few-streams : streams ≤ 8) (here : entriesAt s 0 ≡ streams) where
+  pub banked : (n k : ℕ) (bs : List Bank) (r : List ℕ) → 1 ≤ k → k + n ≡ blocks → drop (512 * k) s ≡ bankBlocksOf blocks k n bs ++ r
+      → 1 ≤ length bs → length bs ≤ 20 * n → 20 * n < length bs + 20 → 20 * (k - 1) + length bs ≤ 64 → Each FitBank bs → Banked s blocks streams k n bs
   unfolding bankBlocksOf bankBlocks
-  banked zero k c bs r p e h some few full most good rise before = absurd (omega arith)
-  banked (suc zero) k c bs r p e h some few full most good rise before =
+  banked zero k bs r p e h some few full most fit = absurd (omega arith)
+  banked (suc zero) k bs r p e h some few full most fit =
       let h₀ : drop (512 * k) s ≡ bankBlock blocks k bs ++ r =
       h ∙ ap (λ (l : List ℕ). l ++ r) (append-nil (bankBlock blocks k (take 20 bs))) ∙ ap (λ (b : List Bank). bankBlock blocks k b ++ r) (take-all 20 bs (omega arith)) in
       let z : k + suc zero - 1 ≡ k = omega arith in
       record {
-        rules =
-            hold-join (bankRules s blocks k) []
-            (block-rules s blocks k bs r h₀ (omega arith) streams fit good here (last-counted blocks k (length bs) (omega arith) some (omega arith) most) (rw before rise)) tt;
-        read = block-read s blocks k bs r h₀ (omega arith) streams fit good p;
+        read = block-read s blocks k bs r h₀ (omega arith) fit p;
         last = rw z (banks-count s blocks k bs r h₀ (omega arith) ∙ omega arith);
+        rules = λ c good rise before.
+            hold-join (bankRules s blocks k) []
+            (block-rules s blocks k bs r h₀ (omega arith) fit streams few-streams here good (last-counted blocks k (length bs) (omega arith) some (omega arith) most) (rw before rise)) tt;
       }
-  banked (suc (suc n)) k c bs r p e h some few full most good rise before =
+  banked (suc (suc n)) k bs r p e h some few full most fit =
       let b₀ = take 20 bs in
       let b₁ = drop 20 bs in
       let l₀ : length b₀ ≡ 20 = length-take-le 20 bs (omega arith) in
       let l₁ : length b₁ ≡ length bs - 20 = length-drop 20 bs in
       let h₀ = h ∙ append-assoc (bankBlock blocks k b₀) (bankBlocksOf blocks (k + 1) (suc n) b₁) r in
-      let g = each-first (RightBank streams) 20 bs good in
-      let up = rising-split c (column Code b₀) (column Code b₁) (rw (map-parts (fieldOf Code) 20 bs) at rise) in
+      let g = each-first FitBank 20 bs fit in
       let r₁ = bankBlocksOf blocks (k + 1) (suc n) b₁ ++ r in
-      let next = banked (suc n) (k + 1) (lastOf c (column Code b₀)) b₁ r (omega arith) (omega arith) (past-block s blocks k b₀ r₁ h₀ (omega arith))
-      (omega arith) (omega arith) (omega arith) (omega arith) (g .1) (up .1) (block-last s blocks k b₀ r₁ h₀ (omega arith) streams fit (g .0) c p l₀) in
+      let next = banked (suc n) (k + 1) b₁ r (omega arith) (omega arith) (past-block s blocks k b₀ r₁ h₀ (omega arith))
+      (omega arith) (omega arith) (omega arith) (omega arith) (g .1) in
       let z : k + suc (suc n) - 1 ≡ k + 1 + suc n - 1 = omega arith in
       let i : 20 * (k + 1 - 1) ≡ 20 * (k - 1) + 20 = omega arith in
       let m : length bs ≡ 20 + length b₁ = omega arith in
       let f : ℕ → Bank = λ j. bankAt s (bankPlace j) in
       record {
-        rules =
-            hold-join (bankRules s blocks k) (bankBlocks s blocks (k + 1) (suc n))
-            (block-rules s blocks k b₀ r₁ h₀ (omega arith) streams fit (g .0) here (full-counted blocks k (length b₀) (omega arith) l₀) (rw before (up .0)))
-            (next .rules);
         read =
             ap (each f (20 * (k - 1))) m ∙ each-parts f (20 * (k - 1)) 20 (length b₁)
-            ∙ ap (λ (l : List Bank). l ++ each f (20 * (k - 1) + 20) (length b₁)) (ap (each f (20 * (k - 1))) (sym l₀) ∙ block-read s blocks k b₀ r₁ h₀ (omega arith) streams fit (g .0) p)
+            ∙ ap (λ (l : List Bank). l ++ each f (20 * (k - 1) + 20) (length b₁)) (ap (each f (20 * (k - 1))) (sym l₀) ∙ block-read s blocks k b₀ r₁ h₀ (omega arith) (g .0) p)
             ∙ ap (λ (l : List Bank). b₀ ++ l) (ap (λ (j : ℕ). each f j (length b₁)) (sym i) ∙ next .read)
             ∙ take-append-drop 20 bs;
         last = rw z (next .last ∙ one-less (length bs) (length b₁) n l₁);
+        rules = λ c good rise before.
+            let q = each-first (RightBank streams) 20 bs good in
+            let up = rising-split c (column Code b₀) (column Code b₁) (rw (map-parts (fieldOf Code) 20 bs) at rise) in
+            hold-join (bankRules s blocks k) (bankBlocks s blocks (k + 1) (suc n))
+            (block-rules s blocks k b₀ r₁ h₀ (omega arith) (g .0) streams few-streams here (q .0) (full-counted blocks k (length b₀) (omega arith) l₀) (rw before (up .0)))
+            (next .rules (lastOf c (column Code b₀)) (q .1) (up .1) (block-last s blocks k b₀ r₁ h₀ (omega arith) (g .0) c p l₀));
       }
