@@ -26,7 +26,7 @@ right-banks : (n : ℕ) (bs : List Bank) → Each (λ x. isShort x ≡ true) (co
 right-banks n [] c f b l = tt
 right-banks n (x ∷ bs) c f b l = (record { code = c .0; flags = f .0; balance = b .0; limit = l .0 }, right-banks n bs (c .1) (f .1) (b .1) (l .1))
 
-short-fits : (c : ℕ) → isShort c ≡ true → c < shortEnd
+pub short-fits : (c : ℕ) → isShort c ≡ true → c < shortEnd
 short-fits c h = ltb-true c shortEnd (both (ltb c shortEnd) _ h .0)
 
 pub stream-fits : (x : Stream) → RightStream x → FitStream x

@@ -1,0 +1,173 @@
+-- What a line of an account can tell: numbers that fit into the bytes of a book.
+use Prim.Native.Nat.{ℕ, zero, suc, _+_, _*_, _-_, _≤_, _<_}
+use mathlib.Core.Path.{_≡_, refl}
+use mathlib.Core.Bool.{Bool, true, false, cond}
+use mathlib.Core.List.{List}
+use native.Mathlib.Omega.{arith}
+use lib.Dec.{leb}
+use lib.ListN.{getD, take, drop}
+use borrow.Author.Tests.{leb-true}
+use Rattle.chars.specs.Words.{bytes}
+use Rattle.codes.specs.Codes.{shortEnd, shortAt}
+use Rattle.dates.specs.Dates.{daysOfCentury, dayOf}
+use Rattle.dates.specs.declared.Day.{Day}
+use Rattle.dates.specs.declared.Day.the-variants.{Number, Untrue}
+use Rattle.dates.proofs.Laws.{day-back}
+use Rattle.scan.specs.Scan.{ten, litAt, codeAt, digitsAt, numberAt}
+use Rattle.scan.specs.declared.At.the-variants.{Next}
+use Rattle.scan.specs.declared.Fixed.{Fixed}
+use Rattle.scan.specs.declared.Fixed.the-variants.{Value as Read, No as Unfit}
+use Rattle.scan.specs.Spelling.{valueOf}
+use Rattle.scan.proofs.Laws.{ten-mono}
+use Rattle.scan.proofs.Standing.{digits-sound}
+use Rattle.scan.proofs.Alike.{by-next}
+use Rattle.values.proofs.Alike.{by-cond}
+use Rattle.reply.proofs.Digits.{value-small}
+use Rattle.composing.specs.Account.{lineOver, isPlain}
+use Rattle.book.proofs.Ranging.{short-right}
+use Rattle.book_account.specs.declared.Given.{Given}
+use Rattle.book_account.specs.declared.Given.the-variants.{Value, Ungiven}
+use Rattle.book_account.specs.declared.StreamLine.{StreamLine}
+use Rattle.book_account.specs.declared.StreamLine.the-variants.{Served, Unserved}
+use Rattle.book_account.specs.declared.Money.{Money}
+use Rattle.book_account.specs.declared.Money.the-variants.{Both, Neither}
+use Rattle.book_account.specs.declared.Bits.{Bits}
+use Rattle.book_account.specs.declared.Entry.{Entry}
+use Rattle.book_account.specs.declared.BankLine.{BankLine}
+use Rattle.book_account.specs.declared.BankLine.the-variants.{Held, Unheld}
+use Rattle.book_account.specs.Account.{onRead, onDay, onGiven, onMoney, centsAt, dateAt, administratorAt, streamAt, namedAt, bitOn, bitsAt, standingAt, moneyAt, bankAt}
+use Rattle.book_account.proofs.Laws.{Gathering, gathering-fits, gathering-on, gathering-done}
+use Rattle.reopening.proofs.Fits.{short-fits}
+
+-- ---- what holds of a step's two ends holds of its answer
+
+pub by-test : {A : Type 0} (P : A → Type 0) (b : Bool) {x y : A} → (b ≡ true → P x) → (b ≡ false → P y) → P (cond b x y)
+by-test P true p q = p refl
+by-test P false p q = q refl
+
+by-read : {A : Type 0} (P : A → Type 0) (r : Fixed) {d : A} {k : ℕ → ℕ → A} → P d → ((v e : ℕ) → P (k v e)) → P (onRead r d k)
+by-read P (Read v e) p q = q v e
+by-read P Unfit p q = p
+
+by-day : {A : Type 0} (P : A → Type 0) (r : Day) {d : A} {k : ℕ → A} → P d → ((n : ℕ) → r ≡ Number n → P (k n)) → P (onDay r d k)
+by-day P (Number n) p q = q n refl
+by-day P Untrue p q = p
+
+-- a number below n, if one is given
+abbrev pub Below : ℕ → Given → Type 0
+Below n (Value v e) = v < n
+Below n Ungiven = Unit {0}
+
+pub by-given : {A : Type 0} (P : A → Type 0) (n : ℕ) (g : Given) {d : A} {k : ℕ → ℕ → A} → Below n g → P d → ((v e : ℕ) → v < n → P (k v e)) → P (onGiven g d k)
+by-given P n (Value v e) h p q = q v e h
+by-given P n Ungiven h p q = p
+
+abbrev SmallMoney : Money → Type 0
+SmallMoney (Both b l e) = (b < ten 18) × (l < ten 18)
+SmallMoney Neither = Unit {0}
+
+by-money : {A : Type 0} (P : A → Type 0) (m : Money) {d : A} {k : ℕ → ℕ → ℕ → A} → SmallMoney m → P d → ((b l e : ℕ) → b < ten 18 → l < ten 18 → P (k b l e)) → P (onMoney m d k)
+by-money P (Both b l e) h p q = q b l e (h .0) (h .1)
+by-money P Neither h p q = p
+
+-- ---- numbers, dates, codes
+
+digits-small : (s : List ℕ) (at n : ℕ) → digitsAt s at n .value < ten n
+digits-small s at n =
+    let t = digits-sound s at n refl in
+    let l = take (digitsAt s at n .end - at) (drop at s) in
+    let below : valueOf 0 l < ten (digitsAt s at n .end - at) = rw (t .0 .size) at (value-small l (t .0 .all)) in
+    rw (t .3) (omega (arith, ten-mono (digitsAt s at n .end - at) n (omega (arith, t .2))))
+
+module _ (s : List ℕ) (at : ℕ) where
+  cents-small : Below (ten 18) (centsAt s at)
+  unfolding centsAt
+  cents-small = by-cond (Below (ten 18)) (isPlain s at (digitsAt s at 18 .end)) (digits-small s at 18) tt
+
+  pub date-small : Below daysOfCentury (dateAt s at)
+  unfolding dateAt
+  date-small =
+      let P = Below daysOfCentury in
+      by-next P (litAt s at (bytes "date ")) tt (λ a p.
+      by-read P (numberAt s a 6) tt (λ v b.
+      by-day P (dayOf v) tt (λ k q.
+      by-next P (lineOver s b) tt (λ c r. day-back v k q .1))))
+
+  administrator-small : Below 256 (administratorAt s at)
+  unfolding administratorAt
+  administrator-small =
+      by-given (Below 256) (ten 18) (centsAt s at) cents-small tt (λ v e p.
+      by-test (Below 256) (leb v 255) (λ q. omega (arith, leb-true v 255 q)) (λ q. tt))
+
+  standing-small : Below 2 (standingAt s at)
+  unfolding standingAt
+  standing-small =
+      by-next (Below 2) (litAt s at (bytes " active "))
+      (by-next (Below 2) (litAt s at (bytes " suspended ")) tt (λ a p. omega arith))
+      (λ a p. omega arith)
+
+  code-small : {e : ℕ} → codeAt s at 4 ≡ Next e → shortAt s at < shortEnd
+  code-small q = short-fits (shortAt s at) (short-right s at (rw q))
+
+money-small : (s : List ℕ) (at : ℕ) → SmallMoney (moneyAt s at)
+unfolding moneyAt
+money-small s at =
+    let P = SmallMoney in
+    by-given P (ten 18) (centsAt s at) (cents-small s at) tt (λ balance a p.
+    by-next P (litAt s a (bytes " ")) tt (λ b q.
+    by-given P (ten 18) (centsAt s b) (cents-small s b) tt (λ limit c r. (p, r))))
+
+-- ---- a stream
+
+abbrev pub SmallStream : StreamLine → Type 0
+SmallStream (Served c a e) = (c < shortEnd) × (a < 256)
+SmallStream Unserved = Unit {0}
+
+pub stream-small : (s : List ℕ) (at : ℕ) → SmallStream (streamAt s at)
+unfolding streamAt
+stream-small s at =
+    let P = SmallStream in
+    by-next P (litAt s at (bytes "stream ")) tt (λ a p.
+    by-next P (codeAt s a 4) tt (λ b q.
+    by-next P (litAt s b (bytes " ")) tt (λ c r.
+    by-given P 256 (administratorAt s c) (administrator-small s c) tt (λ v d h.
+    by-next P (lineOver s d) tt (λ e o. (code-small s a q, h))))))
+
+-- ---- a bank
+
+-- the bits of eight streams are a byte
+bit-most : (s : List ℕ) (b : Bits) (code bit : ℕ) → bitOn s b code bit .bits ≤ b .bits + bit
+unfolding bitOn
+bit-most s b code bit = by-next (λ (x : Bits). x .bits ≤ b .bits + bit) (namedAt s (b .at) code) (omega arith) (λ e p. omega arith)
+
+gathered : (left : ℕ) {s : List ℕ} {at : ℕ} {row : List ℕ} {found : Bits} {bit i : ℕ} → Gathering s at row found bit i → left + i ≡ 8 → bitsAt s at row .bits < 256
+gathered zero g e = rw (← gathering-done g (omega arith)) (omega (arith, g .small, gathering-fits g))
+gathered (suc left) {s} {at} {row} {found} {bit} {i} g e =
+    gathered left (gathering-on g (omega arith) refl (bit-most s found (getD row (2 * i) 0) bit)) (omega arith)
+
+bits-small : (s : List ℕ) (at : ℕ) (row : List ℕ) → bitsAt s at row .bits < 256
+unfolding bitsAt
+bits-small s at row =
+    let start : Gathering s at row (record { bits = 0; at = at }) 1 0 = record { few = omega arith; power = refl; small = omega arith; same = refl } in
+    gathered 8 start refl
+
+pub record SmallEntry (b : Entry) : Type 0 where
+  pub code : b .code < shortEnd
+  pub flags : b .flags < 512
+  pub balance : b .balance < ten 18
+  pub limit : b .limit < ten 18
+
+abbrev pub SmallBank : BankLine → Type 0
+SmallBank (Held b e) = SmallEntry b
+SmallBank Unheld = Unit {0}
+
+pub bank-small : (s : List ℕ) (at : ℕ) (row : List ℕ) → SmallBank (bankAt s at row)
+unfolding bankAt
+bank-small s at row =
+    let P = SmallBank in
+    by-next P (litAt s at (bytes "bank ")) tt (λ a p.
+    by-next P (codeAt s a 4) tt (λ b q.
+    by-given P 2 (standingAt s b) (standing-small s b) tt (λ standing c h.
+    by-money P (moneyAt s c) (money-small s c) tt (λ balance limit d m l.
+    by-next P (lineOver s (bitsAt s d row .at)) tt (λ e o.
+    record { code = code-small s a q; flags = omega (arith, bits-small s d row); balance = m; limit = l })))))
