@@ -1,3 +1,4 @@
 pub mod Lines
 pub mod Whole
 pub mod Theorems
+pub mod Examples

@@ -1,20 +1,23 @@
--- What a line of an account can tell: numbers that fit into the bytes of a book.
-use Prim.Native.Nat.{ℕ, zero, suc, _+_, _*_, _-_, _≤_, _<_}
+-- What a line of an account can tell: codes that are short, a day of the century, numbers that fit into the bytes of a book.
+use Prim.Native.Nat.{ℕ, zero, suc, _+_, _*_, _-_, _/_, _^_, _≤_, _<_}
 use mathlib.Core.Path.{_≡_, refl}
 use mathlib.Core.Bool.{Bool, true, false, cond}
 use mathlib.Core.List.{List}
 use native.Mathlib.Omega.{arith}
-use lib.Dec.{leb}
+use lib.Dec.{eqb, leb}
 use lib.ListN.{getD, take, drop}
-use borrow.Author.Tests.{leb-true}
+use lib.Pow.{pow-pos}
+use borrow.Author.Tests.{eqb-true, leb-true}
 use Rattle.chars.specs.Words.{bytes}
-use Rattle.codes.specs.Codes.{shortEnd, shortAt}
+use Rattle.codes.specs.Codes.{shortAt}
+use Rattle.codes.proofs.Laws.{byOrder}
 use Rattle.dates.specs.Dates.{daysOfCentury, dayOf}
 use Rattle.dates.specs.declared.Day.{Day}
 use Rattle.dates.specs.declared.Day.the-variants.{Number, Untrue}
 use Rattle.dates.proofs.Laws.{day-back}
 use Rattle.scan.specs.Scan.{ten, litAt, codeAt, digitsAt, numberAt}
-use Rattle.scan.specs.declared.At.the-variants.{Next}
+use Rattle.scan.specs.declared.At.{At}
+use Rattle.scan.specs.declared.At.the-variants.{Next, No}
 use Rattle.scan.specs.declared.Fixed.{Fixed}
 use Rattle.scan.specs.declared.Fixed.the-variants.{Value as Read, No as Unfit}
 use Rattle.scan.specs.Spelling.{valueOf}
@@ -24,6 +27,7 @@ use Rattle.scan.proofs.Alike.{by-next}
 use Rattle.values.proofs.Alike.{by-cond}
 use Rattle.reply.proofs.Digits.{value-small}
 use Rattle.composing.specs.Account.{lineOver, isPlain}
+use Rattle.book.specs.Range.{isShort}
 use Rattle.book.proofs.Ranging.{short-right}
 use Rattle.book_account.specs.declared.Given.{Given}
 use Rattle.book_account.specs.declared.Given.the-variants.{Value, Ungiven}
@@ -36,8 +40,8 @@ use Rattle.book_account.specs.declared.Entry.{Entry}
 use Rattle.book_account.specs.declared.BankLine.{BankLine}
 use Rattle.book_account.specs.declared.BankLine.the-variants.{Held, Unheld}
 use Rattle.book_account.specs.Account.{onRead, onDay, onGiven, onMoney, centsAt, dateAt, administratorAt, streamAt, namedAt, bitOn, bitsAt, standingAt, moneyAt, bankAt}
-use Rattle.book_account.proofs.Laws.{Gathering, gathering-fits, gathering-on, gathering-done}
-use Rattle.reopening.proofs.Fits.{short-fits}
+use Rattle.book_account.proofs.Laws.{Gathering, gathering-on, gathering-done}
+use Rattle.reopening.proofs.Written.{short-some}
 
 -- ---- what holds of a step's two ends holds of its answer
 
@@ -106,8 +110,8 @@ module _ (s : List ℕ) (at : ℕ) where
       (by-next (Below 2) (litAt s at (bytes " suspended ")) tt (λ a p. omega arith))
       (λ a p. omega arith)
 
-  code-small : {e : ℕ} → codeAt s at 4 ≡ Next e → shortAt s at < shortEnd
-  code-small q = short-fits (shortAt s at) (short-right s at (rw q))
+  code-short : {e : ℕ} → codeAt s at 4 ≡ Next e → isShort (shortAt s at) ≡ true
+  code-short q = short-right s at (rw q)
 
 money-small : (s : List ℕ) (at : ℕ) → SmallMoney (moneyAt s at)
 unfolding moneyAt
@@ -120,7 +124,7 @@ money-small s at =
 -- ---- a stream
 
 abbrev pub SmallStream : StreamLine → Type 0
-SmallStream (Served c a e) = (c < shortEnd) × (a < 256)
+SmallStream (Served c a e) = (isShort c ≡ true) × (a < 256)
 SmallStream Unserved = Unit {0}
 
 pub stream-small : (s : List ℕ) (at : ℕ) → SmallStream (streamAt s at)
@@ -131,43 +135,65 @@ stream-small s at =
     by-next P (codeAt s a 4) tt (λ b q.
     by-next P (litAt s b (bytes " ")) tt (λ c r.
     by-given P 256 (administratorAt s c) (administrator-small s c) tt (λ v d h.
-    by-next P (lineOver s d) tt (λ e o. (code-small s a q, h))))))
+    by-next P (lineOver s d) tt (λ e o. (code-short s a q, h))))))
 
 -- ---- a bank
 
--- the bits of eight streams are a byte
+-- no code is zero: a place past the last stream is never named, and no bit stands for it
+unnamed : (s : List ℕ) (at : ℕ) {e : ℕ} → namedAt s at 0 ≡ Next e → ⊥
+unfolding namedAt
+unnamed s at {e} =
+    let P : At → Type 0 = λ r. r ≡ Next e → ⊥ in
+    let no : P No = λ h. let z : _≡_ {A = ℕ} 0 1 = cc in omega arith in
+    by-next P (litAt s at (bytes " ")) no (λ a p.
+    by-next P (codeAt s a 4) no (λ b q.
+    by-test P (eqb (shortAt s a) 0) (λ t h. omega (arith, eqb-true (shortAt s a) 0 t, short-some (shortAt s a) (code-short s a q))) (λ t. no)))
+
+bit-none : (s : List ℕ) (b : Bits) (bit : ℕ) → bitOn s b 0 bit .bits ≡ b .bits
+unfolding bitOn
+bit-none s b bit = by-next (λ (x : Bits). x .bits ≡ b .bits) (namedAt s (b .at) 0) refl (λ e p. absurd (unnamed s (b .at) p))
+
 bit-most : (s : List ℕ) (b : Bits) (code bit : ℕ) → bitOn s b code bit .bits ≤ b .bits + bit
 unfolding bitOn
 bit-most s b code bit = by-next (λ (x : Bits). x .bits ≤ b .bits + bit) (namedAt s (b .at) code) (omega arith) (λ e p. omega arith)
 
-gathered : (left : ℕ) {s : List ℕ} {at : ℕ} {row : List ℕ} {found : Bits} {bit i : ℕ} → Gathering s at row found bit i → left + i ≡ 8 → bitsAt s at row .bits < 256
-gathered zero g e = rw (← gathering-done g (omega arith)) (omega (arith, g .small, gathering-fits g))
-gathered (suc left) {s} {at} {row} {found} {bit} {i} g e =
-    gathered left (gathering-on g (omega arith) refl (bit-most s found (getD row (2 * i) 0) bit)) (omega arith)
+-- so the bits of n streams are below 2 ^ n
+module _ (s : List ℕ) (at : ℕ) (row : List ℕ) (n : ℕ) (few : n ≤ 8) (past : (i : ℕ) → n ≤ i → getD row (2 * i) 0 ≡ 0) where
+  gathered : (left : ℕ) {found : Bits} {bit i : ℕ} → left + i ≡ 8 → Gathering s at row found bit i → (n ≤ i → found .bits < 2 ^ n) → bitsAt s at row .bits < 2 ^ n
+  gathered zero e g small = rw (← gathering-done g (omega arith)) (small (omega arith))
+  gathered (suc left) {found} {bit} {i} e g small =
+      let next = gathering-on g (omega arith) refl (bit-most s found (getD row (2 * i) 0) bit) in
+      gathered left (omega arith) next (λ h.
+      byOrder i n
+      (λ p.
+      let same : i + 1 ≡ n = omega arith in
+      rw (next .power, same) at (next .small))
+      (λ p. rw (past i (omega arith), bit-none s found bit) (small (omega arith)))
+      (λ p. rw (past i (omega arith), bit-none s found bit) (small (omega arith))))
 
-bits-small : (s : List ℕ) (at : ℕ) (row : List ℕ) → bitsAt s at row .bits < 256
-unfolding bitsAt
-bits-small s at row =
-    let start : Gathering s at row (record { bits = 0; at = at }) 1 0 = record { few = omega arith; power = refl; small = omega arith; same = refl } in
-    gathered 8 start refl
+  bits-small : bitsAt s at row .bits < 2 ^ n
+  unfolding bitsAt
+  bits-small =
+      let start : Gathering s at row (record { bits = 0; at = at }) 1 0 = record { few = omega arith; power = refl; small = omega arith; same = refl } in
+      gathered 8 refl start (λ h. pow-pos n)
 
-pub record SmallEntry (b : Entry) : Type 0 where
-  pub code : b .code < shortEnd
-  pub flags : b .flags < 512
+pub record SmallEntry (n : ℕ) (b : Entry) : Type 0 where
+  pub code : isShort (b .code) ≡ true
+  pub flags : b .flags / 2 < 2 ^ n
   pub balance : b .balance < ten 18
   pub limit : b .limit < ten 18
 
-abbrev pub SmallBank : BankLine → Type 0
-SmallBank (Held b e) = SmallEntry b
-SmallBank Unheld = Unit {0}
+abbrev pub SmallBank : ℕ → BankLine → Type 0
+SmallBank n (Held b e) = SmallEntry n b
+SmallBank n Unheld = Unit {0}
 
-pub bank-small : (s : List ℕ) (at : ℕ) (row : List ℕ) → SmallBank (bankAt s at row)
+pub bank-small : (s : List ℕ) (at : ℕ) (row : List ℕ) (n : ℕ) → n ≤ 8 → ((i : ℕ) → n ≤ i → getD row (2 * i) 0 ≡ 0) → SmallBank n (bankAt s at row)
 unfolding bankAt
-bank-small s at row =
-    let P = SmallBank in
+bank-small s at row n few past =
+    let P = SmallBank n in
     by-next P (litAt s at (bytes "bank ")) tt (λ a p.
     by-next P (codeAt s a 4) tt (λ b q.
     by-given P 2 (standingAt s b) (standing-small s b) tt (λ standing c h.
     by-money P (moneyAt s c) (money-small s c) tt (λ balance limit d m l.
     by-next P (lineOver s (bitsAt s d row .at)) tt (λ e o.
-    record { code = code-small s a q; flags = omega (arith, bits-small s d row); balance = m; limit = l })))))
+    record { code = code-short s a q; flags = omega (arith, bits-small s d row n few past); balance = m; limit = l })))))

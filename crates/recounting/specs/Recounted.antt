@@ -1,14 +1,16 @@
 -- A book that is composed from its account: written from the account's rows, judged by the book's check, read again.
-use Prim.Native.Nat.{ℕ}
+use Prim.Native.Nat.{ℕ, _≤_}
 use mathlib.Core.Path.{_≡_}
 use mathlib.Core.List.{List}
 use mathlib.Core.Logic.{_↔_}
 use lib.ListN.{take}
+use Rattle.dates.specs.Dates.{sum}
 use Rattle.book.specs.declared.Answer.the-variants.{Sound}
 use Rattle.book.specs.declared.Book.{Book}
-use Rattle.book.specs.Book.{bookCheck}
-use Rattle.book.specs.Accounts.{Stream, Bank, Rows}
-use Rattle.book.specs.Range.{InRange}
+use Rattle.book.specs.declared.Field.the-variants.{Code, Balance, Limit}
+use Rattle.book.specs.Book.{mostMoney, bookCheck}
+use Rattle.book.specs.Accounts.{Stream, Bank, Rows, column}
+use Rattle.book.specs.Range.{Each, Rising, streamCodes, InRange}
 use Rattle.book_account.specs.declared.BookAccount.{BookAccount}
 use Rattle.closing.specs.declared.Writing.the-variants.{Written}
 use Rattle.closing.specs.Closing.{streamsOf, banksOf, writeBook}
@@ -38,10 +40,21 @@ toldBanks a = banksOf (rowsOf a) (a .banks .n)
 abbrev pub composed : List ℕ → BookAccount → List ℕ
 composed out a = take (sizeOf (bookOf a)) (writeBook out (bookOf a) (rowsOf a) .out)
 
+-- what the reading of an account leaves to the check
+pub record Orderly (streams : List Stream) (banks : List Bank) : Type 0 where
+  -- "administrator 1 to 255", "Codes rise strictly."
+  pub administrators : Each (λ x. 1 ≤ x .sender) streams
+  pub streams-rise : Rising (streamCodes streams)
+  pub banks-rise : Rising (column Code banks)
+  -- "Balances, their total and sub-limits run from 0 to 6,400,000,000,000,000."
+  pub limits-right : Each (λ x. x ≤ mostMoney) (column Limit banks)
+  pub total : sum (column Balance banks) ≤ mostMoney
+
 pub record Recounted (out : List ℕ) (a : BookAccount) (into : Rows) : Type 0 where
   -- it is written whole: never 06, never 07
   pub written : writeBook out (bookOf a) (rowsOf a) .answer ≡ Written (sizeOf (bookOf a))
-  -- the check refuses just the accounts that are not in the range of a book
+  -- the check refuses just the accounts that are not in the range of a book: those whose streams and banks are not orderly
   pub judged : (bookCheck (composed out a) ≡ Sound) ↔ InRange (a .day) (toldStreams a) (toldBanks a)
+  pub range : InRange (a .day) (toldStreams a) (toldBanks a) ↔ Orderly (toldStreams a) (toldBanks a)
   -- a book that it accepts, read into other rows, says the account's day, streams and banks
   pub read : bookCheck (composed out a) ≡ Sound → Reopened out (bookOf a) (rowsOf a) into

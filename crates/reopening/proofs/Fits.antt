@@ -40,7 +40,7 @@ bank-fits n few x t = record {
   limit = omega (arith, t .limit);
 }
 
-each-so : {A : Type 0} (P Q : A → Type 0) → ((x : A) → P x → Q x) → (l : List A) → Each P l → Each Q l
+pub each-so : {A : Type 0} (P Q : A → Type 0) → ((x : A) → P x → Q x) → (l : List A) → Each P l → Each Q l
 each-so P Q f [] e = tt
 each-so P Q f (x ∷ l) e = (f x (e .0), each-so P Q f l (e .1))
 

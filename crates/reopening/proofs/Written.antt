@@ -36,7 +36,7 @@ use Rattle.reopening.proofs.Entries.{stream-reads, stream-holds, bank-r
 -- ---- codes
 
 -- no code is zero
-short-some : (c : ℕ) → isShort c ≡ true → 0 < c
+pub short-some : (c : ℕ) → isShort c ≡ true → 0 < c
 unfolding shortText unpacked isCode isLetter isDigit
 short-some zero h = absurd (false≢true h)
 short-some (suc c) h = omega arith
