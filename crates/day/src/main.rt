@@ -30,6 +30,21 @@ enum Deed {
     NotACall,
 }
 
+// A line's deed, and how many bytes of input it has.
+struct Read {
+    deed: Deed,
+    n: usize,
+}
+
+// The next line: its deed, its length, how many bytes of input it has, what is ahead in the script, and whether it is there at all.
+struct Next {
+    deed: Deed,
+    length: usize,
+    n: usize,
+    ahead: Ahead,
+    more: bool,
+}
+
 // What a line leaves: the desk, what is ahead in the script, and whether there may be more lines.
 struct Turn {
     desk: Desk,
@@ -140,7 +155,7 @@ fn give(s: &[u8], asked: Asked, answer: Answer, out: &[u8], n: usize) {
     }
 }
 
-fn tell(s: &[u8], asked: Asked, told: Told, out: &[u8], tries: &[u64]) {
+fn tell_call(s: &[u8], asked: Asked, told: Told, out: &[u8], tries: &[u64]) {
     let action = asked.action;
     let answer = told.answer;
     tell_command(action);
@@ -173,28 +188,84 @@ fn read_input(s: &[u8], asked: Asked, input: &mut [u8]) -> Got {
     }
 }
 
-fn perform(
+// The line's deed, and how many bytes of a call's text or book were read. A file that cannot be read makes it no call.
+fn read_deed(s: &[u8], input: &mut [u8]) -> Read {
+    let deed = deed_of(scripts::read_line(s));
+    match deed {
+        Deed::Call(asked) => match read_input(s, asked, input) {
+            Got::Unread => Read {
+                deed: Deed::NotACall,
+                n: 0,
+            },
+            Got::Bytes(n) => Read { deed, n },
+        },
+        _ => Read { deed, n: 0 },
+    }
+}
+
+fn no_line(ahead: Ahead) -> Next {
+    Next {
+        deed: Deed::Nothing,
+        length: 0,
+        n: 0,
+        ahead,
+        more: false,
+    }
+}
+
+// Takes the next line of the script and reads the file that it names.
+fn read_next(fd: i32, buf: &mut [u8], line: &mut [u8], input: &mut [u8], before: Ahead) -> Next {
+    let taken = lines::take(fd, buf, line, before);
+    let length = taken.n;
+    let ahead = taken.ahead;
+    if !taken.is_there {
+        return no_line(ahead);
+    }
+    if line.len() < length {
+        return no_line(ahead);
+    }
+    let read = read_deed(&line[..length], input);
+    let deed = read.deed;
+    Next {
+        deed,
+        length,
+        n: read.n,
+        ahead,
+        more: true,
+    }
+}
+
+// What is told of a line that asks nothing of the engine.
+fn nothing(desk: Desk) -> Told {
+    Told {
+        answer: Answer::Done,
+        written: 0,
+        tried: 0,
+        desk,
+    }
+}
+
+fn call(
     quick: bool,
-    s: &[u8],
     asked: Asked,
     input: &[u8],
     n: usize,
     desk: Desk,
-    codes: &mut [u64],
-    flags: &mut [u64],
-    balances: &mut [u64],
-    limits: &mut [u64],
-    batches: &mut [u64],
-    references: &mut [u64],
-    bins: &mut [u64],
-    out: &mut [u8],
-    tries: &mut [u64],
-) -> Desk {
+    codes: &mut [u64; 64],
+    flags: &mut [u64; 64],
+    balances: &mut [u64; 64],
+    limits: &mut [u64; 64],
+    batches: &mut [u64; 11168],
+    references: &mut [u64; 6144],
+    bins: &mut [u64; 1536],
+    out: &mut [u8; 33705],
+    tries: &mut [u64; 528],
+) -> Told {
     if input.len() < n {
-        return desk;
+        return nothing(desk);
     }
     let action = asked.action;
-    let told = calls::call(
+    calls::call(
         quick,
         asked.clock,
         action,
@@ -209,38 +280,69 @@ fn perform(
         bins,
         out,
         tries,
-    );
-    tell(s, asked, told, out, tries);
-    let after = told.desk;
-    after
+    )
 }
 
-fn call(
-    quick: bool,
-    number: u64,
-    s: &[u8],
-    asked: Asked,
+fn clear(
     desk: Desk,
-    codes: &mut [u64],
-    flags: &mut [u64],
-    balances: &mut [u64],
-    limits: &mut [u64],
-    batches: &mut [u64],
-    references: &mut [u64],
-    bins: &mut [u64],
-    out: &mut [u8],
-    tries: &mut [u64],
-) -> Desk {
-    let mut space = io::large_buffer();
-    let input: &mut [u8] = &mut space;
-    match read_input(s, asked, input) {
-        Got::Unread => {
-            not_a_call(number);
-            desk
-        }
-        Got::Bytes(n) => perform(
+    codes: &mut [u64; 64],
+    flags: &mut [u64; 64],
+    balances: &mut [u64; 64],
+    limits: &mut [u64; 64],
+    batches: &mut [u64; 11168],
+    references: &mut [u64; 6144],
+    bins: &mut [u64; 1536],
+) -> Told {
+    let start = clearing::clear(
+        desk,
+        codes,
+        flags,
+        balances,
+        limits,
+        batches,
+        references,
+        bins,
+    );
+    let answer = start.answer;
+    let after = start.desk;
+    Told {
+        answer,
+        written: 0,
+        tried: 0,
+        desk: after,
+    }
+}
+
+// Has the engine do what a line asks of it.
+fn perform(
+    quick: bool,
+    deed: Deed,
+    input: &[u8],
+    n: usize,
+    desk: Desk,
+    codes: &mut [u64; 64],
+    flags: &mut [u64; 64],
+    balances: &mut [u64; 64],
+    limits: &mut [u64; 64],
+    batches: &mut [u64; 11168],
+    references: &mut [u64; 6144],
+    bins: &mut [u64; 1536],
+    out: &mut [u8; 33705],
+    tries: &mut [u64; 528],
+) -> Told {
+    match deed {
+        Deed::Clear => clear(
+            desk,
+            codes,
+            flags,
+            balances,
+            limits,
+            batches,
+            references,
+            bins,
+        ),
+        Deed::Call(asked) => call(
             quick,
-            s,
             asked,
             input,
             n,
@@ -255,135 +357,76 @@ fn call(
             out,
             tries,
         ),
+        _ => nothing(desk),
     }
 }
 
-fn clear(
-    desk: Desk,
-    codes: &mut [u64],
-    flags: &mut [u64],
-    balances: &mut [u64],
-    limits: &mut [u64],
-    batches: &mut [u64],
-    references: &mut [u64],
-    bins: &mut [u64],
-) -> Desk {
-    let start = clearing::clear(
-        desk,
-        codes,
-        flags,
-        balances,
-        limits,
-        batches,
-        references,
-        bins,
-    );
-    let answer = start.answer;
-    let after = start.desk;
+fn tell_clear(answer: Answer) {
     printing::text(b"clear ");
     printing::two_digits(answer.number());
     printing::text(b" tries bytes 0\n");
-    after
 }
 
-fn do_line(
-    quick: bool,
+// What a line has to tell, once it is done.
+fn tell(
     number: u64,
-    s: &[u8],
-    desk: Desk,
-    codes: &mut [u64],
-    flags: &mut [u64],
-    balances: &mut [u64],
-    limits: &mut [u64],
-    batches: &mut [u64],
-    references: &mut [u64],
-    bins: &mut [u64],
-    out: &mut [u8],
-    tries: &mut [u64],
-) -> Desk {
-    match deed_of(scripts::read_line(s)) {
-        Deed::Nothing => desk,
-        Deed::NotACall => {
-            not_a_call(number);
-            desk
+    line: &[u8],
+    length: usize,
+    deed: Deed,
+    told: Told,
+    codes: &[u64; 64],
+    flags: &[u64; 64],
+    balances: &[u64; 64],
+    limits: &[u64; 64],
+    batches: &[u64; 11168],
+    bins: &[u64; 1536],
+    out: &[u8; 33705],
+    tries: &[u64; 528],
+) {
+    let desk = told.desk;
+    let answer = told.answer;
+    match deed {
+        Deed::Nothing => {}
+        Deed::NotACall => not_a_call(number),
+        Deed::Show => showing::show(desk, codes, flags, balances, limits, batches, bins),
+        Deed::Why => showing::tell_why(desk.date, codes, balances, limits, batches, bins),
+        Deed::Clear => tell_clear(answer),
+        Deed::Call(asked) => {
+            if length <= line.len() {
+                tell_call(&line[..length], asked, told, out, tries);
+            }
         }
-        Deed::Show => {
-            showing::show(desk, codes, flags, balances, limits, batches, bins);
-            desk
-        }
-        Deed::Why => {
-            showing::tell_why(desk.date, codes, balances, limits, batches, bins);
-            desk
-        }
-        Deed::Clear => clear(
-            desk,
-            codes,
-            flags,
-            balances,
-            limits,
-            batches,
-            references,
-            bins,
-        ),
-        Deed::Call(asked) => call(
-            quick,
-            number,
-            s,
-            asked,
-            desk,
-            codes,
-            flags,
-            balances,
-            limits,
-            batches,
-            references,
-            bins,
-            out,
-            tries,
-        ),
     }
 }
 
-// Takes the next line of the script and does what it asks for.
+// The next line of the script: read, done and told.
 fn do_next(
     quick: bool,
     number: u64,
     fd: i32,
-    buf: &mut [u8],
-    line: &mut [u8],
+    buf: &mut [u8; 65536],
+    line: &mut [u8; 65536],
+    input: &mut [u8; 65536],
     ahead: Ahead,
     desk: Desk,
-    codes: &mut [u64],
-    flags: &mut [u64],
-    balances: &mut [u64],
-    limits: &mut [u64],
-    batches: &mut [u64],
-    references: &mut [u64],
-    bins: &mut [u64],
-    out: &mut [u8],
-    tries: &mut [u64],
+    codes: &mut [u64; 64],
+    flags: &mut [u64; 64],
+    balances: &mut [u64; 64],
+    limits: &mut [u64; 64],
+    batches: &mut [u64; 11168],
+    references: &mut [u64; 6144],
+    bins: &mut [u64; 1536],
+    out: &mut [u8; 33705],
+    tries: &mut [u64; 528],
 ) -> Turn {
-    let taken = lines::take(fd, buf, line, ahead);
-    let n = taken.n;
-    let rest = taken.ahead;
-    if !taken.is_there {
-        return Turn {
-            desk,
-            ahead: rest,
-            more: false,
-        };
-    }
-    if line.len() < n {
-        return Turn {
-            desk,
-            ahead: rest,
-            more: false,
-        };
-    }
-    let after = do_line(
+    let next = read_next(fd, buf, line, input, ahead);
+    let deed = next.deed;
+    let rest = next.ahead;
+    let told = perform(
         quick,
-        number,
-        &line[..n],
+        deed,
+        input,
+        next.n,
         desk,
         codes,
         flags,
@@ -395,63 +438,34 @@ fn do_next(
         out,
         tries,
     );
+    tell(
+        number,
+        line,
+        next.length,
+        deed,
+        told,
+        codes,
+        flags,
+        balances,
+        limits,
+        batches,
+        bins,
+        out,
+        tries,
+    );
+    let after = told.desk;
     Turn {
         desk: after,
         ahead: rest,
-        more: true,
+        more: next.more,
     }
 }
 
 // No script has so many lines that the numbers run out.
-fn do_lines(
-    quick: bool,
-    fd: i32,
-    buf: &mut [u8],
-    line: &mut [u8],
-    start: Desk,
-    codes: &mut [u64],
-    flags: &mut [u64],
-    balances: &mut [u64],
-    limits: &mut [u64],
-    batches: &mut [u64],
-    references: &mut [u64],
-    bins: &mut [u64],
-    out: &mut [u8],
-    tries: &mut [u64],
-) {
-    let mut desk = start;
-    let mut ahead = lines::nothing_ahead();
-    let mut number = 0;
-    let mut more = true;
-    while number < u64::MAX && more {
-        number += 1;
-        let turn = do_next(
-            quick,
-            number,
-            fd,
-            buf,
-            line,
-            ahead,
-            desk,
-            codes,
-            flags,
-            balances,
-            limits,
-            batches,
-            references,
-            bins,
-            out,
-            tries,
-        );
-        desk = turn.desk;
-        ahead = turn.ahead;
-        more = turn.more;
-    }
-}
-
 fn run(quick: bool, fd: i32) {
     let mut buf = io::large_buffer();
     let mut line = io::large_buffer();
+    let mut input = io::large_buffer();
     let mut codes = [0u64; 64];
     let mut flags = [0u64; 64];
     let mut balances = [0u64; 64];
@@ -461,7 +475,7 @@ fn run(quick: bool, fd: i32) {
     let mut bins = [0u64; 1536];
     let mut out = [0u8; 33705];
     let mut tries = [0u64; 528];
-    let no_day = Desk {
+    let mut desk = Desk {
         phase: Phase::Fresh,
         date: 0,
         clock: 0,
@@ -470,22 +484,34 @@ fn run(quick: bool, fd: i32) {
         streams: [0u64; 16],
         n: 0,
     };
-    do_lines(
-        quick,
-        fd,
-        &mut buf,
-        &mut line,
-        no_day,
-        &mut codes,
-        &mut flags,
-        &mut balances,
-        &mut limits,
-        &mut batches,
-        &mut references,
-        &mut bins,
-        &mut out,
-        &mut tries,
-    );
+    let mut ahead = lines::nothing_ahead();
+    let mut number = 0;
+    let mut more = true;
+    while number < u64::MAX && more {
+        number += 1;
+        let turn = do_next(
+            quick,
+            number,
+            fd,
+            &mut buf,
+            &mut line,
+            &mut input,
+            ahead,
+            desk,
+            &mut codes,
+            &mut flags,
+            &mut balances,
+            &mut limits,
+            &mut batches,
+            &mut references,
+            &mut bins,
+            &mut out,
+            &mut tries,
+        );
+        desk = turn.desk;
+        ahead = turn.ahead;
+        more = turn.more;
+    }
 }
 
 fn usage() {
