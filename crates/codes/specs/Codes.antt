@@ -19,6 +19,10 @@ packed w l = packOn w 0 l
 abbrev pub shortEnd : ℕ
 shortEnd = 4294967296
 
+-- of a field that is not there
+abbrev pub noCode : Code
+noCode = record { high = 0; low = 0 }
+
 -- a bank or a stream: four characters as one number
 unfoldable pub shortAt : List ℕ → ℕ → ℕ
 shortAt s at = packed 4 (drop at s)
