@@ -6,7 +6,7 @@ use mathlib.Core.List.{List, [], _∷_, _++_}
 use lib.Dec.{eqb, ltb}
 use lib.ListN.{length, getD}
 use lib.Seq.{sets}
-use Rattle.chars.specs.Words.{bytes}
+use Rattle.chars.specs.Words.{bytes, line}
 use Rattle.chars.specs.Chars.{isCode}
 use Rattle.clock.specs.Clock.{minutesOfDay, hhmmOf}
 use Rattle.codes.specs.Codes.{shortEnd, shortText, longText, spelled}
@@ -15,7 +15,7 @@ use Rattle.put.specs.Digits.{digitsOf}
 use Rattle.response.specs.Texts.{written, after}
 use Rattle.response.specs.declared.Written.{Written}
 use Rattle.response.specs.declared.Written.the-variants.{Unfit}
-use Rattle.scan.specs.Scan.{crlf, ten}
+use Rattle.scan.specs.Scan.{ten}
 use Rattle.terms.specs.declared.Activation.{Activation}
 use Rattle.terms.specs.declared.Activation.the-variants.{AtOnce, Minute}
 use Rattle.request.specs.Request.{requestAt}
@@ -96,9 +96,8 @@ valueText DebitSide = bytes "DR"
 valueText (Amount c) = amountText c
 valueText (Count n) = countText n
 
--- "A line is `:tag:value` and CR LF."
 unfoldable pub lineText : List ℕ → Given → List ℕ
-lineText tag given = tag ++ (valueText given ++ crlf)
+lineText tag given = line tag (valueText given)
 
 -- 20, 12, 77E, 22A and 119
 unfoldable pub headText : Order → List ℕ

@@ -6,10 +6,10 @@ use mathlib.Core.Bool.{Bool, true, false, cond, _||_}
 use native.Mathlib.Omega.{arith}
 use borrow.Author.Tests.{lt-ltb, le-ltb}
 use lib.Dec.{eqb, ltb}
-use lib.ListN.{length, drop, take, length-drop, length-append}
-use Rattle.chars.specs.Words.{bytes}
+use lib.ListN.{length, getD, drop, take, length-drop, length-append}
+use Rattle.chars.specs.Words.{bytes, crlf}
 use Rattle.chars.specs.Refusals.{numberOf}
-use Rattle.scan.specs.Scan.{crlf, onNext, begins, litAt, lineEndAt}
+use Rattle.scan.specs.Scan.{onNext, begins, litAt, lineEndAt}
 use Rattle.scan.specs.declared.At.{At}
 use Rattle.scan.specs.declared.At.the-variants.{Next, No}
 use Rattle.scan.proofs.Laws.{lit-yes, lit-not}

@@ -9,11 +9,11 @@ use native.Mathlib.Omega.{arith}
 use lib.Dec.{eqb}
 use lib.ListN.{length, getD, drop, length-drop, length-append}
 use lib.Seq.{drop-append-seam, drop-drop}
-use Rattle.chars.specs.Words.{bytes}
+use Rattle.chars.specs.Words.{bytes, crlf}
 use Rattle.chars.specs.Refusals.{numberOf}
 use Rattle.chars.specs.declared.Refusal.{Refusal}
 use Rattle.chars.specs.declared.Refusal.the-variants.{Malformed, WrongEsa, WrongLetter}
-use Rattle.scan.specs.Scan.{crlf, onNext, begins, litAt, lineEndAt}
+use Rattle.scan.specs.Scan.{onNext, begins, litAt, lineEndAt}
 use Rattle.scan.specs.Spelling.{All}
 use Rattle.scan.specs.declared.At.{At}
 use Rattle.scan.specs.declared.At.the-variants.{Next, No}

@@ -2,7 +2,7 @@
 use Prim.Native.Nat.{ℕ}
 use mathlib.Core.Path.{_≡_}
 use mathlib.Core.List.{List, _++_}
-use Rattle.scan.specs.Scan.{crlf}
+use Rattle.chars.specs.Words.{crlf}
 use Rattle.values.specs.Values.{textOf}
 use Rattle.values.specs.Grammar.{IsEmpty, IsReference, IsNumeral, IsWord, IsBin, IsNumbers, IsDate, IsTime, IsSide, IsAmount, IsLetters, IsCount}
 use Rattle.fields.specs.declared.Kind.{Kind}

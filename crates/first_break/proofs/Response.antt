@@ -9,7 +9,7 @@ use native.Mathlib.Omega.{arith}
 use borrow.Author.Tests.{eqb-true, eqb-false}
 use lib.Dec.{eqb}
 use lib.ListN.{length, drop}
-use Rattle.chars.specs.Words.{bytes, member}
+use Rattle.chars.specs.Words.{bytes, member, crlf}
 use Rattle.chars.specs.Chars.{isDigit, digitValue}
 use Rattle.chars.specs.declared.Refusal.the-variants.{OtherSubType}
 use Rattle.clock.specs.Clock.{secondOf}
@@ -19,7 +19,7 @@ use Rattle.dates.specs.Dates.{dayOf}
 use Rattle.dates.specs.declared.Day.{Day}
 use Rattle.dates.specs.declared.Day.the-variants.{Number, Untrue}
 use Rattle.put.specs.Digits.{digitsOf}
-use Rattle.scan.specs.Scan.{onNext, crlf, begins, litAt}
+use Rattle.scan.specs.Scan.{onNext, begins, litAt}
 use Rattle.scan.specs.declared.At.{At}
 use Rattle.scan.specs.declared.At.the-variants.{Next, No}
 use Rattle.scan.specs.declared.Cursor.{Cursor}

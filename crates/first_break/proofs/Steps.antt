@@ -10,7 +10,8 @@ use borrow.Author.Tests.{ltb-true, ltb-false}
 use lib.Dec.{ltb}
 use lib.ListN.{length, drop, length-drop, drop-of-length-le}
 use Rattle.chars.specs.Chars.{isDigit}
-use Rattle.scan.specs.Scan.{crlf, begins}
+use Rattle.chars.specs.Words.{crlf}
+use Rattle.scan.specs.Scan.{begins}
 use Rattle.scan.specs.declared.Cursor.{Cursor}
 use Rattle.scan.proofs.Laws.{lit-yes}
 use Rattle.scan.proofs.Standing.{lit-reads}

@@ -9,9 +9,8 @@ use borrow.Author.Tests.{eqb-true}
 use lib.Dec.{eqb}
 use lib.ListN.{length, take, drop, length-append}
 use lib.Seq.{take-append-seam, drop-append-seam}
-use Rattle.chars.specs.Words.{bytes}
+use Rattle.chars.specs.Words.{bytes, crlf}
 use Rattle.chars.specs.Chars.{isCode, isLetter, isDigit}
-use Rattle.scan.specs.Scan.{crlf}
 use Rattle.scan.specs.Spelling.{All}
 use Rattle.values.specs.Grammar.{IsBin, IsNumbers, IsSide, IsAmount}
 use Rattle.fields.specs.Grammar.{Line}

@@ -8,10 +8,10 @@ use native.Mathlib.Omega.{arith}
 use borrow.Author.Tests.{eqb-true, le-ltb, ltb-false}
 use lib.Dec.{eqb, ltb}
 use lib.ListN.{length, drop, length-drop, drop-of-length-le}
-use Rattle.chars.specs.Words.{bytes, member}
+use Rattle.chars.specs.Words.{bytes, member, crlf}
 use Rattle.chars.specs.declared.Refusal.the-variants.{OtherSubType}
 use Rattle.codes.specs.Codes.{packed, longOf}
-use Rattle.scan.specs.Scan.{onNext, crlf, begins, litAt}
+use Rattle.scan.specs.Scan.{onNext, begins, litAt}
 use Rattle.scan.specs.declared.At.{At}
 use Rattle.scan.specs.declared.At.the-variants.{Next, No}
 use Rattle.scan.specs.declared.Cursor.{Cursor}

@@ -7,7 +7,7 @@ use native.Mathlib.Omega.{arith}
 use borrow.Author.Tests.{eqb-true}
 use lib.Dec.{eqb, ltb}
 use lib.ListN.{length, drop}
-use Rattle.chars.specs.Words.{bytes}
+use Rattle.chars.specs.Words.{bytes, crlf}
 use Rattle.chars.specs.declared.Refusal.the-variants.{OtherSubType}
 use Rattle.clock.specs.Clock.{secondOf}
 use Rattle.clock.specs.declared.Second.{Second}
@@ -19,7 +19,7 @@ use Rattle.dates.specs.declared.Day.{Day}
 use Rattle.dates.specs.declared.Day.the-variants.{Number, Untrue}
 use Rattle.dates.proofs.Laws.{day-back}
 use Rattle.put.specs.Digits.{digitsOf}
-use Rattle.scan.specs.Scan.{onNext, crlf, litAt}
+use Rattle.scan.specs.Scan.{onNext, litAt}
 use Rattle.scan.specs.declared.At.{At}
 use Rattle.scan.specs.declared.At.the-variants.{Next, No}
 use Rattle.scan.specs.declared.Cursor.{Cursor}

@@ -2,12 +2,13 @@
 use Prim.Native.Nat.{ℕ}
 use mathlib.Core.Path.{_≡_, refl, ap, sym, _∙_}
 use mathlib.Core.Bool.{Bool, true, false, not, false≢true}
-use mathlib.Core.List.{List, [], _∷_, _++_, append-assoc}
+use mathlib.Core.List.{List, [], _∷_, _++_}
 use borrow.Author.Tests.{eqb-true, not-true, eq-eqb}
 use lib.Dec.{eqb}
 use lib.ListN.{length, drop, take}
 use lib.Seq.{drop-append-seam, take-at, drop-at}
-use Rattle.scan.specs.Scan.{crlf}
+use Rattle.chars.specs.Words.{crlf}
+use Rattle.chars.proofs.Laws.{line-apart}
 use Rattle.scan.specs.Spelling.{All}
 use Rattle.fields.specs.Grammar.{Line}
 use Rattle.administrator.specs.Orders.{valueText, lineText}
@@ -51,7 +52,7 @@ split-size v w r q e h =
 -- a line that is written, and what follows it
 pub line-opens : (tag : List ℕ) (given : Given) (q : List ℕ) → lineText tag given ++ q ≡ tag ++ (valueText given ++ (crlf ++ q))
 unfolding lineText
-line-opens tag given q = append-assoc tag (valueText given ++ crlf) q ∙ ap (λ (l : List ℕ). tag ++ l) (append-assoc (valueText given) crlf q)
+line-opens tag given q = line-apart tag (valueText given) q
 
 module _ (tag : List ℕ) {P : List ℕ → Type 0} {l r : List ℕ} (g : Line tag P l r) (given : Given) (q : List ℕ) (h : l ≡ lineText tag given ++ q) where
   untagged : g .value ++ (crlf ++ r) ≡ valueText given ++ (crlf ++ q)

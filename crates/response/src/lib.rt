@@ -8,10 +8,10 @@ ghost use Prim.Native.Nat.{_+_, _≤_};
 ghost use lib.ListN.{length};
 ghost use lib.Dec.{leb};
 ghost use lib.Seq.{sets};
-ghost use Rattle.chars.specs.Words.{bytes};
+ghost use Rattle.chars.specs.Words.{bytes, line};
 ghost use Rattle.codes.specs.Codes.{shortText, longText};
 ghost use Rattle.put.specs.Digits.{digitsOf};
-ghost use Rattle.response.specs.Texts.{line, headText, batchText, settledText, rejectedText, outcomeText, settlementText, answerText, recallText};
+ghost use Rattle.response.specs.Texts.{headText, batchText, settledText, rejectedText, outcomeText, settlementText, answerText, recallText};
 ghost use Rattle.response.specs.Values.{isOutcome, isAnswer, isSettlement, isRecall, writtenIf, afterIf};
 
 // How a batch ended: settled on a day at a second of it, or rejected with a number.
@@ -82,7 +82,7 @@ const RECALL: u64 = 134;
 // 20: the number of the response.
 fn put_number(out: &mut [u8], at: usize, number: u64)
     requires { ⌜ at + 14 ≤ length (now out) ⌝ }
-    ensures { λ _. ⌜ now (out .exit) ≡ sets (now (out .entry)) at (line ":20:B" (digitsOf 7 number)) ⌝ }
+    ensures { λ _. ⌜ now (out .exit) ≡ sets (now (out .entry)) at (line (bytes ":20:B") (digitsOf 7 number)) ⌝ }
 {
     put::bytes(out, at, b":20:B");
     put::digits(out, at + 5, number, 7);
@@ -92,7 +92,7 @@ fn put_number(out: &mut [u8], at: usize, number: u64)
 // 12 and 77E.
 fn put_sub_type(out: &mut [u8], at: usize, kind: u64)
     requires { ⌜ at + 16 ≤ length (now out) ⌝ }
-    ensures { λ _. ⌜ now (out .exit) ≡ sets (now (out .entry)) at (line ":12:" (digitsOf 3 kind) ++ line ":77E:" []) ⌝ }
+    ensures { λ _. ⌜ now (out .exit) ≡ sets (now (out .entry)) at (line (bytes ":12:") (digitsOf 3 kind) ++ line (bytes ":77E:") []) ⌝ }
 {
     put::bytes(out, at, b":12:");
     put::digits(out, at + 4, kind, 3);
@@ -102,7 +102,7 @@ fn put_sub_type(out: &mut [u8], at: usize, kind: u64)
 // 21: the reference of the request.
 fn put_reference(out: &mut [u8], at: usize, reference: Code, n: usize)
     requires { ⌜ (n ≡ length (longText reference)) × (at + (6 + n) ≤ length (now out)) ⌝ }
-    ensures { λ _. ⌜ now (out .exit) ≡ sets (now (out .entry)) at (line ":21:" (longText reference)) ⌝ }
+    ensures { λ _. ⌜ now (out .exit) ≡ sets (now (out .entry)) at (line (bytes ":21:") (longText reference)) ⌝ }
 {
     put::bytes(out, at, b":21:");
     put::long_code(out, at + 4, reference);
@@ -112,7 +112,7 @@ fn put_reference(out: &mut [u8], at: usize, reference: Code, n: usize)
 // 22A: the stream.
 fn put_stream(out: &mut [u8], at: usize, stream: u64)
     requires { ⌜ at + 11 ≤ length (now out) ⌝ }
-    ensures { λ _. ⌜ now (out .exit) ≡ sets (now (out .entry)) at (line ":22A:" (shortText stream)) ⌝ }
+    ensures { λ _. ⌜ now (out .exit) ≡ sets (now (out .entry)) at (line (bytes ":22A:") (shortText stream)) ⌝ }
 {
     put::bytes(out, at, b":22A:");
     put::short_code(out, at + 5, stream);
@@ -122,7 +122,7 @@ fn put_stream(out: &mut [u8], at: usize, stream: u64)
 // 119: the BIN.
 fn put_bin(out: &mut [u8], at: usize, bin: Code, n: usize)
     requires { ⌜ (n ≡ length (longText bin)) × (at + (7 + n) ≤ length (now out)) ⌝ }
-    ensures { λ _. ⌜ now (out .exit) ≡ sets (now (out .entry)) at (line ":119:" (longText bin)) ⌝ }
+    ensures { λ _. ⌜ now (out .exit) ≡ sets (now (out .entry)) at (line (bytes ":119:") (longText bin)) ⌝ }
 {
     put::bytes(out, at, b":119:");
     put::long_code(out, at + 5, bin);
