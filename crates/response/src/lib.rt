@@ -181,10 +181,9 @@ fn put_settled(out: &mut [u8], at: usize, day: u64, second: u64)
     requires { ⌜ at + 27 ≤ length (now out) ⌝ }
     ensures { λ _. ⌜ now (out .exit) ≡ sets (now (out .entry)) at (settledText day second) ⌝ }
 {
-    let clock = Clock { seconds: second };
     put::bytes(out, at, b":451:0\r\n:13E:");
     put::digits(out, at + DATE_AT, dates::date_of(day), DATE);
-    put::digits(out, at + TIME_AT, clock.digits(), TIME);
+    put::digits(out, at + TIME_AT, clock::hhmmss_of(second), TIME);
     put::bytes(out, at + TIME_END, b"\r\n");
 }
 

@@ -49,13 +49,13 @@ fn is_opening(action: Action) -> bool
 fn right_clock(desk: Desk, clock: u64, action: Action) -> bool
     ensures { λ r. ⌜ r ≡ rightClock action (dayOn desk) clock ⌝ }
 {
-    if Clock::DAY <= clock {
+    let clock::Moment::At(given) = Clock::new(clock) else {
         return false;
-    }
+    };
     if is_opening(action) {
         return true;
     }
-    desk.clock <= clock
+    desk.clock <= given.seconds
 }
 
 fn is_open(phase: Phase) -> bool
