@@ -1,5 +1,5 @@
 -- The text of a request that an administrator writes, and the answer that the reader gives of it.
-use Prim.Native.Nat.{ℕ, zero, suc, _+_, _/_, _%_}
+use Prim.Native.Nat.{ℕ, zero, suc, _+_, _/_, _%_, _≤_}
 use mathlib.Core.Path.{_≡_}
 use mathlib.Core.Bool.{Bool, true, _&&_, cond}
 use mathlib.Core.List.{List, [], _∷_, _++_}
@@ -166,3 +166,16 @@ leftOf Recall out at text = after out at text
 pub record Wrote (out : List ℕ) (at : ℕ) (o : Order) (w : Written) (left : List ℕ) : Type 0 where
   pub answer : w ≡ answerOf (requestAt (orderText o) .outcome) out at (orderText o)
   pub result : left ≡ leftOf (requestAt (orderText o) .outcome) out at (orderText o)
+
+-- what a text is that is no refused one
+abbrev pub Accepted : Outcome → Type 0
+Accepted Settlement = Unit {0}
+Accepted Recall = Unit {0}
+Accepted (Refused b) = ⊥
+
+-- a text that is written is one that the reader accepts, it stands in its place whole, and nothing else changes
+pub record Whole (out : List ℕ) (at : ℕ) (text : List ℕ) (e : ℕ) (left : List ℕ) (r : Outcome) : Type 0 where
+  pub accepted : Accepted r
+  pub end : e ≡ at + length text
+  pub fits : at + length text ≤ length out
+  pub there : left ≡ sets out at text

@@ -63,7 +63,7 @@ use Rattle.reply.specs.declared.Reply.the-variants.{Settlement, Recall, 
 use Rattle.reply.specs.declared.ReadResponse.{ReadResponse}
 use Rattle.reply.specs.Reply.{onSecond, onOf, onHow, onWith, ending, refused, responseNumberAt, requestReferenceAt, batchAt, settledAt, rejectedAt, endedAt, answerAt, settlementOf, recallOf, settlementAt, recallAt, head, responseAt}
 use Rattle.reply.proofs.Digits.{value-small, digits-back, moment-digits}
-use Rattle.reply.specs.Sound.{Referred, Named, Sound, SoundRecall}
+use Rattle.reply.specs.Sound.{Referred, Named, Sound, SoundRecall, Back, Shortness}
 use Rattle.reply.proofs.Allowed.{referred-text, stream-text, bin-text, sound-settlement, sound-recall}
 use Rattle.reply.proofs.RoundTrip.{zero-status, one-status, settlement-lines, recall-lines, settlement-short, recall-short}
 use Rattle.reply.proofs.Lines.{forbidden-there}
@@ -406,12 +406,6 @@ module _ (s : List ℕ) where
 
 -- ---- the whole
 
--- a text that is accepted is the text of its response, and the response is sound
-abbrev pub Back : List ℕ → Reply → Type 0
-Back s (Settlement r) = (s ≡ settlementText r) × Sound r
-Back s (Recall r) = (s ≡ recallText r) × SoundRecall r
-Back s (Refused b) = Unit {0}
-
 module _ (P : ReadResponse → Type 0) (bad : (b : Break) → P (refused b)) where
   by-good : (f : Field) {k : Item → Cursor → ReadResponse} → ((i : Item) (c : Cursor) → f ≡ Good i c → P (k i c)) → P (onGood f refused k)
   by-good (Good i c) go = go i c refl
@@ -514,12 +508,6 @@ one-settlement s t r h k = settlement-written s r h .0 ∙ sym (settlement-writt
 
 pub one-recall : (s t : List ℕ) (r : Response134) → responseAt s .reply ≡ Recall r → responseAt t .reply ≡ Recall r → s ≡ t
 one-recall s t r h k = recall-written s r h .0 ∙ sym (recall-written t r k .0)
-
--- no text of more than 105 bytes is accepted
-abbrev pub Shortness : List ℕ → Reply → Type 0
-Shortness s (Settlement r) = length s ≤ 105
-Shortness s (Recall r) = length s ≤ 69
-Shortness s (Refused b) = Unit {0}
 
 pub accepted-short : (s : List ℕ) → Shortness s (responseAt s .reply)
 accepted-short s = go (responseAt s .reply) (accepted-back s)

@@ -11,9 +11,8 @@ use Rattle.chars.specs.Words.{bytes}
 use Rattle.chars.specs.Chars.{isCode}
 use Rattle.clock.specs.Clock.{hhmmOf, minuteOf}
 use Rattle.clock.proofs.Laws.{hhmm-back}
-use Rattle.codes.specs.Codes.{spelled}
+use Rattle.codes.specs.Codes.{spelled, filled}
 use Rattle.codes.specs.declared.Code.{Code}
-use Rattle.codes.proofs.Laws.{filled}
 use Rattle.dates.specs.Dates.{dayOf, dateOf}
 use Rattle.dates.proofs.Laws.{date-back, date-small}
 use Rattle.put.specs.Digits.{digitsOf}

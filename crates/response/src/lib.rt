@@ -12,7 +12,7 @@ ghost use Rattle.chars.specs.Words.{bytes, line};
 ghost use Rattle.codes.specs.Codes.{shortText, longText};
 ghost use Rattle.put.specs.Digits.{digitsOf};
 ghost use Rattle.response.specs.Texts.{headText, batchText, settledText, rejectedText, outcomeText, settlementText, answerText, recallText};
-ghost use Rattle.response.specs.Values.{isOutcome, isAnswer, isSettlement, isRecall, writtenIf, afterIf};
+ghost use Rattle.response.specs.Values.{isOutcome, isAnswer, isSettlement, isRecall, Wrote};
 
 // How a batch ended: settled on a day at a second of it, or rejected with a number.
 pub enum Outcome {
@@ -305,7 +305,7 @@ fn is_settlement(r: Settlement) -> bool
 
 // 132: written whole from a place on, or not at all: 87 for what no text can hold, then 07.
 pub fn write_settlement(out: &mut [u8], at: usize, r: Settlement) -> Written
-    ensures { λ w. ⌜ (w ≡ writtenIf (isSettlement r) (now (out .entry)) at (settlementText r)) × (now (out .exit) ≡ afterIf (isSettlement r) (now (out .entry)) at (settlementText r)) ⌝ }
+    ensures { λ w. ⌜ Wrote (isSettlement r) (now (out .entry)) at (settlementText r) w (now (out .exit)) ⌝ }
 {
     if !is_settlement(r) {
         return Written::Unfit(Refusal::Malformed);
@@ -387,7 +387,7 @@ fn is_recall(r: Recall) -> bool
 
 // 134: written whole from a place on, or not at all: 87 for what no text can hold, then 07.
 pub fn write_recall(out: &mut [u8], at: usize, r: Recall) -> Written
-    ensures { λ w. ⌜ (w ≡ writtenIf (isRecall r) (now (out .entry)) at (recallText r)) × (now (out .exit) ≡ afterIf (isRecall r) (now (out .entry)) at (recallText r)) ⌝ }
+    ensures { λ w. ⌜ Wrote (isRecall r) (now (out .entry)) at (recallText r) w (now (out .exit)) ⌝ }
 {
     if !is_recall(r) {
         return Written::Unfit(Refusal::Malformed);
