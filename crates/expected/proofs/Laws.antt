@@ -7,7 +7,7 @@ use native.Mathlib.Omega.{arith}
 use borrow.Author.Tests.{ne-eqb, lt-ltb, le-ltb}
 use lib.Dec.{eqb, ltb}
 use lib.ListN.{length, getD, drop, take, length-drop, length-append}
-use Rattle.chars.specs.Words.{bytes, crlf}
+use Rattle.chars.specs.Words.{bytes}
 use Rattle.chars.specs.Refusals.{numberOf}
 use Rattle.scan.specs.Scan.{onNext, begins, litAt, lineEndAt}
 use Rattle.scan.specs.declared.At.{At}

@@ -63,7 +63,7 @@ use Rattle.reply.specs.declared.Reply.the-variants.{Settlement, Recall, 
 use Rattle.reply.specs.declared.ReadResponse.{ReadResponse}
 use Rattle.reply.specs.Reply.{onSecond, onOf, onHow, onWith, ending, refused, responseNumberAt, requestReferenceAt, batchAt, settledAt, rejectedAt, endedAt, answerAt, settlementOf, recallOf, settlementAt, recallAt, head, responseAt}
 use Rattle.reply.proofs.Digits.{value-small, digits-back, moment-digits}
-use Rattle.reply.specs.Sound.{Referred, Named, Sound, SoundRecall, Back, Shortness}
+use Rattle.reply.specs.Sound.{Referred, Named, Back, Shortness}
 use Rattle.reply.proofs.Allowed.{referred-text, stream-text, bin-text, sound-settlement, sound-recall}
 use Rattle.reply.proofs.RoundTrip.{zero-status, one-status, settlement-lines, recall-lines, settlement-short, recall-short}
 use Rattle.reply.proofs.Lines.{forbidden-there}
