@@ -199,8 +199,8 @@ uint64_t purmagheli_explain_response(const uint8_t *text, size_t text_length, ui
 uint64_t purmagheli_write_request(const uint64_t *row, size_t row_length, uint8_t *out, size_t out_length, uint64_t *told, size_t told_length);
 
 /*
- * Writes the text of a response likewise, from a row as purmagheli_read_response fills it: 7 for too few words, 87 for a status or
- * another value that no response holds, 88 for a sub type that is neither 132 nor 134, then 7 for a buffer that does not hold the text.
+ * Writes the text of a response likewise, from a row as purmagheli_read_response fills it: 7 for too few words, 88 for a sub type that
+ * is neither 132 nor 134, 87 for a status or another value that no response holds, then 7 for a buffer that does not hold the text.
  */
 #define PURMAGHELI_RESPONSE_LONGEST 105
 uint64_t purmagheli_write_response(const uint64_t *row, size_t row_length, uint8_t *out, size_t out_length, uint64_t *told, size_t told_length);

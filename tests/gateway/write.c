@@ -132,8 +132,8 @@ static uint64_t plain_request(const uint64_t *row, struct text *t) {
 static uint64_t plain_response(const uint64_t *row, struct text *t) {
     uint64_t read[PURMAGHELI_RESPONSE_WORDS], kind = value(row, PURMAGHELI_RESPONSE_SUB_TYPE), status = value(row, PURMAGHELI_RESPONSE_STATUS), date;
     t->length = 0;
-    if (status > 1) return 87;
     if (kind != 132 && kind != 134) return 88;
+    if (status > 1) return 87;
     add_string(t, ":20:B");
     add_digits(t, value(row, PURMAGHELI_RESPONSE_NUMBER), 7, 10000000);
     add_string(t, kind == 132 ? "\r\n:12:132\r\n:77E:\r\n:21:" : "\r\n:12:134\r\n:77E:\r\n:21:");

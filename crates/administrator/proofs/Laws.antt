@@ -10,7 +10,7 @@ use borrow.Author.Tests.{le-leb, lt-leb, lt-ltb, le-ltb, ltb-true, ltb-false, eq
 use lib.Dec.{eqb, ltb}
 use lib.ListN.{length, getD, drop, take, replicate, length-append, drop-of-length-le}
 use lib.Seq.{sets, sets-eq, take-at, drop-cons}
-use Rattle.chars.specs.Words.{bytes}
+use Rattle.chars.specs.Words.{bytes, crlf}
 use Rattle.chars.specs.Chars.{isCode}
 use Rattle.clock.specs.Clock.{hhmmOf}
 use Rattle.codes.specs.Codes.{shortText, longText, spelled}
@@ -172,12 +172,12 @@ numbers-put n m {o₁ = o₁} {o₂ = o₂} {a = a} f p g =
     let i : Puts o₁ a (bytes "/") (a + 1) o₂ = record { past = refl; there = p } in
     put-then f (put-then i g)
 
-pub line-put : (tag : List ℕ) (given : Given) {out o₁ o₂ o₃ : List ℕ} {at e : ℕ} → o₁ ≡ sets out at tag → Puts o₁ (at + length tag) (valueText given) e o₂ → o₃ ≡ sets o₂ e (bytes "\r\n")
+pub line-put : (tag : List ℕ) (given : Given) {out o₁ o₂ o₃ : List ℕ} {at e : ℕ} → o₁ ≡ sets out at tag → Puts o₁ (at + length tag) (valueText given) e o₂ → o₃ ≡ sets o₂ e crlf
     → Puts out at (lineText tag given) (e + 2) o₃
 unfolding lineText
 line-put tag given {out = out} {o₁ = o₁} {o₂ = o₂} {o₃ = o₃} {at = at} {e = e} p f q =
     let g : Puts out at tag (at + length tag) o₁ = record { past = refl; there = p } in
-    let i : Puts o₂ e (bytes "\r\n") (e + 2) o₃ = record { past = refl; there = q } in
+    let i : Puts o₂ e crlf (e + 2) o₃ = record { past = refl; there = q } in
     put-then g (put-then f i)
 
 -- ---- a whole text

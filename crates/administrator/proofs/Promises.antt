@@ -1,5 +1,5 @@
 -- What follows from the contract of the request writer.
-use Prim.Native.Nat.{ℕ, _+_, _≤_}
+use Prim.Native.Nat.{ℕ, _+_}
 use mathlib.Core.Path.{_≡_, refl, sym, _∙_}
 use mathlib.Core.Bool.{Bool, true, false, cond}
 use mathlib.Core.List.{List}
@@ -15,25 +15,12 @@ use Rattle.response.specs.declared.Written.the-variants.{End, Unfit}
 use Rattle.request.specs.Request.{requestAt}
 use Rattle.request.specs.declared.Outcome.{Outcome}
 use Rattle.request.specs.declared.Outcome.the-variants.{Settlement, Recall, Refused}
-use Rattle.administrator.specs.Orders.{orderText, answerOf, leftOf, Wrote}
+use Rattle.administrator.specs.Orders.{orderText, answerOf, leftOf, Wrote, Accepted, Whole}
 use Rattle.administrator.specs.declared.Order.{Order}
 
 -- any two outcomes that satisfy the contract are equal
 pub only-one : {out : List ℕ} {at : ℕ} {o : Order} {w w′ : Written} {l l′ : List ℕ} → Wrote out at o w l → Wrote out at o w′ l′ → (w ≡ w′) × (l ≡ l′)
 only-one f g = (f .answer ∙ sym (g .answer), f .result ∙ sym (g .result))
-
--- what a text is that is no refused one
-abbrev pub Accepted : Outcome → Type 0
-Accepted Settlement = Unit {0}
-Accepted Recall = Unit {0}
-Accepted (Refused b) = ⊥
-
--- a text that is written is one that the reader accepts, it stands in its place whole, and nothing else changes
-pub record Whole (out : List ℕ) (at : ℕ) (text : List ℕ) (e : ℕ) (left : List ℕ) (r : Outcome) : Type 0 where
-  pub accepted : Accepted r
-  pub end : e ≡ at + length text
-  pub fits : at + length text ≤ length out
-  pub there : left ≡ sets out at text
 
 fitting : (out : List ℕ) (at : ℕ) (text : List ℕ) (e : ℕ) (left : List ℕ) (r : Outcome) → Accepted r → End e ≡ written out at text → left ≡ after out at text → Whole out at text e left r
 fitting out at text e left r a p q = go (leb (at + length text) (length out)) refl p q

@@ -1,12 +1,12 @@
 -- The text of a request that an administrator writes, and the answer that the reader gives of it.
-use Prim.Native.Nat.{ℕ, zero, suc, _+_, _/_, _%_}
+use Prim.Native.Nat.{ℕ, zero, suc, _+_, _/_, _%_, _≤_}
 use mathlib.Core.Path.{_≡_}
 use mathlib.Core.Bool.{Bool, true, _&&_, cond}
 use mathlib.Core.List.{List, [], _∷_, _++_}
 use lib.Dec.{eqb, ltb}
 use lib.ListN.{length, getD}
 use lib.Seq.{sets}
-use Rattle.chars.specs.Words.{bytes}
+use Rattle.chars.specs.Words.{bytes, line}
 use Rattle.chars.specs.Chars.{isCode}
 use Rattle.clock.specs.Clock.{minutesOfDay, hhmmOf}
 use Rattle.codes.specs.Codes.{shortEnd, shortText, longText, spelled}
@@ -15,7 +15,7 @@ use Rattle.put.specs.Digits.{digitsOf}
 use Rattle.response.specs.Texts.{written, after}
 use Rattle.response.specs.declared.Written.{Written}
 use Rattle.response.specs.declared.Written.the-variants.{Unfit}
-use Rattle.scan.specs.Scan.{crlf, ten}
+use Rattle.scan.specs.Scan.{ten}
 use Rattle.terms.specs.declared.Activation.{Activation}
 use Rattle.terms.specs.declared.Activation.the-variants.{AtOnce, Minute}
 use Rattle.request.specs.Request.{requestAt}
@@ -96,9 +96,8 @@ valueText DebitSide = bytes "DR"
 valueText (Amount c) = amountText c
 valueText (Count n) = countText n
 
--- "A line is `:tag:value` and CR LF."
 unfoldable pub lineText : List ℕ → Given → List ℕ
-lineText tag given = tag ++ (valueText given ++ crlf)
+lineText tag given = line tag (valueText given)
 
 -- 20, 12, 77E, 22A and 119
 unfoldable pub headText : Order → List ℕ
@@ -167,3 +166,16 @@ leftOf Recall out at text = after out at text
 pub record Wrote (out : List ℕ) (at : ℕ) (o : Order) (w : Written) (left : List ℕ) : Type 0 where
   pub answer : w ≡ answerOf (requestAt (orderText o) .outcome) out at (orderText o)
   pub result : left ≡ leftOf (requestAt (orderText o) .outcome) out at (orderText o)
+
+-- what a text is that is no refused one
+abbrev pub Accepted : Outcome → Type 0
+Accepted Settlement = Unit {0}
+Accepted Recall = Unit {0}
+Accepted (Refused b) = ⊥
+
+-- a text that is written is one that the reader accepts, it stands in its place whole, and nothing else changes
+pub record Whole (out : List ℕ) (at : ℕ) (text : List ℕ) (e : ℕ) (left : List ℕ) (r : Outcome) : Type 0 where
+  pub accepted : Accepted r
+  pub end : e ≡ at + length text
+  pub fits : at + length text ≤ length out
+  pub there : left ≡ sets out at text

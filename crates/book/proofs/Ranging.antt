@@ -11,8 +11,8 @@ use borrow.Author.Tests.{leb-true, ltb-true, ltb-false, eqb-true, lt-ltb}
 use Rattle.chars.specs.Words.{within}
 use Rattle.chars.specs.Chars.{isCode, isLetter}
 use Rattle.chars.proofs.Laws.{range-low, range-high, digit-high}
-use Rattle.codes.specs.Codes.{packed, packOn, shortAt}
-use Rattle.codes.proofs.Laws.{Bytes, pack-take, short-text}
+use Rattle.codes.specs.Codes.{packed, packOn, shortAt, Bytes}
+use Rattle.codes.proofs.Laws.{pack-take, short-text}
 use Rattle.dates.specs.Dates.{dayOf, sum}
 use Rattle.dates.specs.declared.Day.{Day}
 use Rattle.dates.specs.declared.Day.the-variants.{Number, Untrue}

@@ -1,15 +1,19 @@
--- Laws of ranges and of lists of keys.
+-- Laws of a line, of ranges and of lists of keys.
 use Prim.Native.Nat.{ℕ, _-_, _≤_, _<_}
-use mathlib.Core.Path.{_≡_, refl}
-use mathlib.Core.List.{List, [], _∷_}
+use mathlib.Core.Path.{_≡_, refl, _∙_, ap}
+use mathlib.Core.List.{List, [], _∷_, _++_, append-assoc}
 use mathlib.Core.Bool.{Bool, true, false, _&&_, cond, and-false, or-true, false≢true}
 use mathlib.Core.Logic.{inl, inr}
 use native.Mathlib.Omega.{arith}
 use borrow.Author.Tests.{le-leb, lt-leb, eq-eqb, ne-eqb, leb-true}
 use types.Run.{OneOf}
 use lib.Dec.{leb}
-use Rattle.chars.specs.Words.{within, member}
+use Rattle.chars.specs.Words.{crlf, line, within, member}
 use Rattle.chars.specs.Chars.{isDigit, digitValue}
+
+-- a line and what follows it
+pub line-apart : (tag v rest : List ℕ) → line tag v ++ rest ≡ tag ++ (v ++ (crlf ++ rest))
+line-apart tag v rest = append-assoc tag (v ++ crlf) rest ∙ ap (λ (l : List ℕ). tag ++ l) (append-assoc v crlf rest)
 
 pub in-range : (lo hi b : ℕ) → lo ≤ b → b ≤ hi → within lo hi b ≡ true
 in-range lo hi b p q = simp (le-leb lo b p, le-leb b hi q)

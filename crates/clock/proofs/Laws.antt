@@ -5,6 +5,8 @@ use mathlib.Core.Bool.{Bool, true, false, and-false}
 use native.Mathlib.Omega.{arith}
 use lib.Dec.{leb, ltb}
 use borrow.Author.Tests.{lt-ltb, le-ltb, le-leb, lt-leb, leb-true, leb-false, ltb-true, ltb-false}
+use Rattle.clock.specs.declared.Clock.{Clock}
+use Rattle.clock.specs.declared.Moment.{Moment}
 use Rattle.clock.specs.declared.Moment.the-variants.{At, Never}
 use Rattle.clock.specs.declared.Minute.the-variants.{Number as MinuteNumber, Untrue as NoMinute}
 use Rattle.clock.specs.declared.Second.the-variants.{Number as SecondNumber, Untrue as NoSecond}
@@ -18,6 +20,24 @@ pub clock-never : (s : ℕ) → 86400 ≤ s → Never ≡ clockOf s
 unfolding clockOf
 clock-never s h = rw (le-ltb s 86400 h)
 
+-- what its answer tells
+module _ (s : ℕ) {m : Moment} (e : m ≡ clockOf s) where
+  pub clock-is : {k : Clock} → m ≡ At k → (k .seconds ≡ s) × (s < 86400)
+  clock-is {k = k} f = go (ltb s 86400) refl
+    where
+      go : (t : Bool) → ltb s 86400 ≡ t → (k .seconds ≡ s) × (s < 86400)
+      go true h =
+          let z : k ≡ record { seconds = s } = cc (clock-there s (ltb-true s 86400 h)) in
+          (ap (λ (c : Clock). c .seconds) z, ltb-true s 86400 h)
+      go false h = let z : _≡_ {A = ℕ} 0 1 = cc (clock-never s (ltb-false s 86400 h)) in absurd (omega arith)
+
+  pub clock-not : m ≡ Never → 86400 ≤ s
+  clock-not f = go (ltb s 86400) refl
+    where
+      go : (t : Bool) → ltb s 86400 ≡ t → 86400 ≤ s
+      go true h = let z : _≡_ {A = ℕ} 0 1 = cc (clock-there s (ltb-true s 86400 h)) in absurd (omega arith)
+      go false h = ltb-false s 86400 h
+
 pub begun : (s m : ℕ) → leb m (s / 60) ≡ hasBegun s m
 unfolding hasBegun
 begun s m = go (leb m (s / 60)) refl
@@ -30,9 +50,16 @@ pub digits-in : (s : ℕ) → s < 86400 → 10000 * (s / 3600) + (100 * (s / 60 
 unfolding hhmmssOf
 digits-in s h = rw (lt-ltb s 86400 h)
 
-pub digits-out : (s : ℕ) → 86400 ≤ s → 0 ≡ hhmmssOf s
+digits-out : (s : ℕ) → 86400 ≤ s → 0 ≡ hhmmssOf s
 unfolding hhmmssOf
 digits-out s h = rw (le-ltb s 86400 h)
+
+module _ (s : ℕ) {m : Moment} (e : m ≡ clockOf s) where
+  pub digits-at : {k : Clock} → m ≡ At k → 10000 * (k .seconds / 3600) + (100 * (k .seconds / 60 % 60) + k .seconds % 60) ≡ hhmmssOf s
+  digits-at f = let i = clock-is s e f in rw (i .0) (digits-in s (i .1))
+
+  pub digits-never : m ≡ Never → 0 ≡ hhmmssOf s
+  digits-never f = digits-out s (clock-not s e f)
 
 pub hhmm-in : (m : ℕ) → m < 1440 → 100 * (m / 60) + m % 60 ≡ hhmmOf m
 unfolding hhmmOf

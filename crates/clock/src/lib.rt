@@ -46,18 +46,6 @@ impl Clock {
     {
         minute <= self.seconds / Clock::MINUTE
     }
-
-    // HHMMSS as a number; 0 past the day's end.
-    pub fn digits(self) -> u64
-        ensures { λ r. ⌜ r ≡ hhmmssOf (self .seconds) ⌝ }
-    {
-        let s = self.seconds;
-        if s < Clock::DAY {
-            10_000 * (s / Clock::HOUR) + (100 * (s / Clock::MINUTE % 60) + s % Clock::MINUTE)
-        } else {
-            0
-        }
-    }
 }
 
 // The minute of HHMM, 00 to 23 and 00 to 59.
@@ -103,4 +91,15 @@ pub fn second_of(hhmmss: u64) -> Second
         return Second::Untrue;
     }
     Second::Number(Clock::HOUR * hour + (Clock::MINUTE * minute + second))
+}
+
+// HHMMSS of a second of the day; 0 past the last.
+pub fn hhmmss_of(second: u64) -> u64
+    ensures { λ r. ⌜ r ≡ hhmmssOf second ⌝ }
+{
+    let Moment::At(clock) = Clock::new(second) else {
+        return 0;
+    };
+    let s = clock.seconds;
+    10_000 * (s / Clock::HOUR) + (100 * (s / Clock::MINUTE % 60) + s % Clock::MINUTE)
 }

@@ -10,7 +10,7 @@ use borrow.Author.Tests.{eq-eqb, ne-eqb, lt-ltb, le-ltb, ltb-true, ltb-false}
 use lib.Dec.{eqb, ltb}
 use lib.ListN.{length, getD, take, drop, length-append, length-take, length-drop, drop-of-length-le, List·getD-append, List·getD-eq-default}
 use lib.Seq.{drop-cons, getD-drop, getD-take, getD-at, getD-append-add}
-use Rattle.codes.specs.Codes.{packOn, packed, shortAt, longOf, longAt, unpacked, named, shortText, spelled, longText, before, codeBefore}
+use Rattle.codes.specs.Codes.{Bytes, NoZero, filled, packOn, packed, shortAt, longOf, longAt, unpacked, named, shortText, spelled, longText, before, codeBefore}
 use Rattle.codes.specs.declared.Code.{Code}
 
 -- ---- the bytes that stand at a place
@@ -192,17 +192,6 @@ long-is s at n p q = simp (p, q)
 
 -- ---- the two directions undo each other
 
--- a list of bytes
-abbrev pub Bytes : List ℕ → Type 0
-Bytes [] = Unit {0}
-Bytes (x ∷ l) = (x < 256) × Bytes l
-
--- the first w of a list, filled up with zeros
-abbrev pub filled : ℕ → List ℕ → List ℕ
-filled zero l = []
-filled (suc w) [] = 0 ∷ filled w []
-filled (suc w) (x ∷ l) = x ∷ filled w l
-
 unpack-one : (k v x : ℕ) → x < 256 → unpacked (suc k) (v * 256 + x) ≡ unpacked k v ++ (x ∷ [])
 unfolding unpacked
 unpack-one k v x h =
@@ -318,11 +307,6 @@ module _ (a b : List ℕ) (la : length a ≡ 16) (lb : length b ≡ 16) (ba : By
       (λ e. simp (le-ltb (packed 8 a) (packed 8 b) (omega arith), ne-eqb (packed 8 a) (packed 8 b) (omega arith)) (sym (le-ltb _ _ (le-of-lt (pack-less 8 (packed 8 b) (packed 8 a) (drop 8 b) (drop 8 a) e (bytes-drop 8 b bb)))) ∙ whole))
 
 -- ---- the text of a code
-
--- characters: no byte is zero
-abbrev pub NoZero : List ℕ → Type 0
-NoZero [] = Unit {0}
-NoZero (x ∷ l) = (0 < x) × NoZero l
 
 named-filled : (w : ℕ) (l : List ℕ) → length l ≤ w → NoZero l → named (filled w l) ≡ l
 unfolding named

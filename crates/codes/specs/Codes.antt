@@ -1,10 +1,26 @@
 -- Codes as numbers: the characters big-endian, so that order by code is order by number.
-use Prim.Native.Nat.{ℕ, zero, suc, _+_, _*_, _/_, _%_}
+use Prim.Native.Nat.{ℕ, zero, suc, _+_, _*_, _/_, _%_, _<_}
 use mathlib.Core.Bool.{Bool, true, false, cond}
 use mathlib.Core.List.{List, [], _∷_, _++_}
 use lib.Dec.{eqb, ltb}
 use lib.ListN.{take, drop}
 use Rattle.codes.specs.declared.Code.{Code}
+
+-- a list of bytes
+abbrev pub Bytes : List ℕ → Type 0
+Bytes [] = Unit {0}
+Bytes (x ∷ l) = (x < 256) × Bytes l
+
+-- characters: no byte is zero
+abbrev pub NoZero : List ℕ → Type 0
+NoZero [] = Unit {0}
+NoZero (x ∷ l) = (0 < x) × NoZero l
+
+-- the first w of a list, filled up with zeros
+abbrev pub filled : ℕ → List ℕ → List ℕ
+filled zero l = []
+filled (suc w) [] = 0 ∷ filled w []
+filled (suc w) (x ∷ l) = x ∷ filled w l
 
 -- the number v followed by the first w bytes of a list, which is filled up with zeros
 unfoldable pub packOn : ℕ → ℕ → List ℕ → ℕ
@@ -18,6 +34,10 @@ packed w l = packOn w 0 l
 -- four characters as one number stay below it
 abbrev pub shortEnd : ℕ
 shortEnd = 4294967296
+
+-- of a field that is not there
+abbrev pub noCode : Code
+noCode = record { high = 0; low = 0 }
 
 -- a bank or a stream: four characters as one number
 unfoldable pub shortAt : List ℕ → ℕ → ℕ

@@ -2,7 +2,7 @@
 ghost use mathlib.Core.Path.{_≡_};
 ghost use Prim.Native.Nat.{_+_, _≤_, _<_, _^_};
 ghost use lib.ListN.{length, getD, take, drop};
-ghost use Rattle.codes.specs.Codes.{packed, shortAt, longAt, unpacked, shortText, spelled, longText};
+ghost use Rattle.codes.specs.Codes.{noCode, packed, shortAt, longAt, unpacked, shortText, spelled, longText};
 
 // A reference or a BIN: its characters filled up to sixteen with zeros, eight in each number.
 pub struct Code {
@@ -16,6 +16,13 @@ impl Code {
     pub const HALF: usize = 8;
 
     pub const SHORT: usize = 4;
+
+    // Of a field that is not there.
+    pub fn nothing() -> Code
+        ensures { λ r. ⌜ r ≡ noCode ⌝ }
+    {
+        Code { high: 0, low: 0 }
+    }
 }
 
 // The i-th of the n bytes that stand at a place, 0 where there is none.

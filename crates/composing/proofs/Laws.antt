@@ -9,14 +9,14 @@ use lib.Dec.{eqb}
 use lib.ListN.{length, getD, take, drop, set, length-set, List·getD-eq-default, drop-of-length-le}
 use lib.Seq.{drop-cons, take-all}
 use borrow.Author.Tests.{lt-ltb, le-ltb, le-leb, lt-leb, eq-eqb, ne-eqb, not-true, not-false}
-use Rattle.chars.specs.Words.{bytes}
+use Rattle.chars.specs.Words.{bytes, crlf}
 use Rattle.chars.specs.Chars.{isLetter}
-use Rattle.codes.specs.Codes.{shortAt, longAt}
+use Rattle.codes.specs.Codes.{noCode, shortAt, longAt}
 use Rattle.codes.specs.declared.Code.{Code}
 use Rattle.clock.specs.Clock.{minuteOf}
 use Rattle.clock.specs.declared.Minute.{Minute as Clocked}
 use Rattle.clock.specs.declared.Minute.the-variants.{Number as Begins, Untrue}
-use Rattle.scan.specs.Scan.{crlf, litAt, codesAt, codeAt, digitsAt, numberAt}
+use Rattle.scan.specs.Scan.{litAt, codesAt, codeAt, digitsAt, numberAt}
 use Rattle.scan.specs.declared.At.{At}
 use Rattle.scan.specs.declared.At.the-variants.{Next, No}
 use Rattle.scan.specs.declared.Run.{Run}
@@ -388,9 +388,9 @@ pub headed-is : (h : ToldHead) (e : Extent) {o : Account} → o ≡ asked h (rec
 unfolding headed
 headed-is h e p = p
 
-pub unread-is : (at : ℕ) (x : Expected) {o : Account} → o ≡ headed (record { subtype = 0; reference = record { high = 0; low = 0 }; stream = 0; bin = record { high = 0; low = 0 } }) (Unread at x) → o ≡ unread at x
+pub unread-is : (at : ℕ) (x : Expected) {c : Code} {o : Account} → c ≡ noCode → o ≡ headed (record { subtype = 0; reference = c; stream = 0; bin = c }) (Unread at x) → o ≡ unread at x
 unfolding unread
-unread-is at x p = p
+unread-is at x e p = rw (← e) p
 
 -- ---- the next line
 

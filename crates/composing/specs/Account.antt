@@ -4,14 +4,14 @@ use mathlib.Core.Bool.{Bool, true, _&&_, _||_, cond}
 use mathlib.Core.List.{List, [], _∷_}
 use lib.Dec.{eqb, leb, ltb}
 use lib.ListN.{length, getD, take, drop, set, replicate}
-use Rattle.chars.specs.Words.{bytes}
+use Rattle.chars.specs.Words.{bytes, crlf}
 use Rattle.chars.specs.Chars.{isLetter}
-use Rattle.codes.specs.Codes.{shortAt, longAt}
+use Rattle.codes.specs.Codes.{noCode, shortAt, longAt}
 use Rattle.codes.specs.declared.Code.{Code}
 use Rattle.clock.specs.Clock.{minuteOf}
 use Rattle.clock.specs.declared.Minute.{Minute as Clocked}
 use Rattle.clock.specs.declared.Minute.the-variants.{Number as Begins, Untrue}
-use Rattle.scan.specs.Scan.{onNext, crlf, litAt, codesAt, codeAt, digitsAt, numberAt}
+use Rattle.scan.specs.Scan.{onNext, litAt, codesAt, codeAt, digitsAt, numberAt}
 use Rattle.scan.specs.declared.At.{At}
 use Rattle.scan.specs.declared.At.the-variants.{Next, No}
 use Rattle.scan.specs.declared.Fixed.{Fixed}
@@ -256,9 +256,6 @@ asked h t p = record {
 
 abbrev pub noTerms : ToldTerms
 noTerms = record { number = 0; count = 0; date = 0; activation = AtOnce }
-
-abbrev pub noCode : Code
-noCode = record { high = 0; low = 0 }
 
 abbrev pub noHead : ToldHead
 noHead = record { subtype = 0; reference = noCode; stream = 0; bin = noCode }

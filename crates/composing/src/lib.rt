@@ -555,7 +555,7 @@ fn headed(h: ToldHead, ending: Extent) -> Account
 fn unread(at: usize, expected: Expected) -> Account
     ensures { λ r. ⌜ r ≡ unread at expected ⌝ }
 {
-    let none = Code { high: 0, low: 0 };
+    let none = Code::nothing();
     let head = ToldHead {
         subtype: 0,
         reference: none,

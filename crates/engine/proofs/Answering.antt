@@ -17,7 +17,8 @@ use Rattle.chars.specs.declared.Refusal.the-variants.{Unsettled}
 use Rattle.response.specs.declared.Outcome.{Outcome}
 use Rattle.response.specs.declared.Outcome.the-variants.{Settled, Rejected}
 use Rattle.queue.proofs.MemoryLaws.{byBool}
-use Rattle.engine.specs.State.{at, onFound, sameCode, noCode, isFree, hasBin, Day, Message, Batch, Place, free, live, Batches, Known, Entry, State, placeAt, placeMessages, placeBin, batchOf}
+use Rattle.codes.specs.Codes.{noCode}
+use Rattle.engine.specs.State.{at, onFound, sameCode, isFree, hasBin, Day, Message, Batch, Place, free, live, Batches, Known, Entry, State, placeAt, placeMessages, placeBin, batchOf}
 use Rattle.engine.specs.Replies.{Reply, repliesTo}
 use Rattle.engine.specs.Messages.{Acted, today, bin, arrived, withReference, withMessage, ended, firstBatch}
 use Rattle.engine.specs.Changes.{withLetter}

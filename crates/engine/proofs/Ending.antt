@@ -14,7 +14,8 @@ use Rattle.chars.specs.Refusals.{numberOf}
 use Rattle.chars.specs.declared.Refusal.the-variants.{Unsettled}
 use Rattle.response.specs.declared.Outcome.the-variants.{Settled, Rejected}
 use Rattle.queue.proofs.MemoryLaws.{byBool}
-use Rattle.engine.specs.State.{at, nowhere, onFound, seekFrom, sameCode, noCode, hasBin, Day, Message, Batch, Place, free, live, Batches, Entry, placeAt, placeMessages, placeBin, batchOf}
+use Rattle.codes.specs.Codes.{noCode}
+use Rattle.engine.specs.State.{at, nowhere, onFound, seekFrom, sameCode, hasBin, Day, Message, Batch, Place, free, live, Batches, Entry, placeAt, placeMessages, placeBin, batchOf}
 use Rattle.engine.specs.Replies.{Reply, repliesTo}
 use Rattle.engine.specs.Ending.{emptied, settledReplies, closeReplies}
 use Rattle.engine.specs.Rules.{isBin, remembered, AllUnlike, has}

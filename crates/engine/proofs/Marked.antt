@@ -5,7 +5,7 @@ use mathlib.Core.Path.{_≡_, refl}
 use mathlib.Core.Bool.{cond}
 use mathlib.Core.List.{List, [], _∷_, _++_, map}
 use lib.ListN.{getD, replicate}
-use Rattle.chars.specs.Words.{bytes}
+use Rattle.chars.specs.Words.{bytes, line}
 use Rattle.chars.specs.Chars.{isDigit, digitValue}
 use Rattle.chars.specs.Refusals.{numberOf}
 use Rattle.checksum.specs.Sum.{wordOf, sumWords, blockSum}
@@ -51,7 +51,7 @@ cover balance limit letters amount = cond (covered (lettered (bytes letters)) ba
 -- an amount as 32B has it
 abbrev pub amount : String → Said
 amount a =
-    onGood (fieldAt (bytes ":32B:AUD" ++ (bytes a ++ bytes "\r\n")) 0 (bytes ":32B:") Amount) (λ b. refusal (numberOf (b .refusal))) (λ i c. cents (i .number))
+    onGood (fieldAt (line (bytes ":32B:AUD") (bytes a)) 0 (bytes ":32B:") Amount) (λ b. refusal (numberOf (b .refusal))) (λ i c. cents (i .number))
 
 -- a reference of one date on another
 abbrev pub reference : (day today : ℕ) → Said

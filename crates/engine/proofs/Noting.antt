@@ -12,7 +12,8 @@ use Rattle.codes.specs.declared.Code.{Code}
 use Rattle.dates.specs.Dates.{isRemembered}
 pub use Rattle.names.proofs.Laws.{same-self}
 use Rattle.queue.proofs.MemoryLaws.{byBool}
-use Rattle.engine.specs.State.{at, sameCode, noCode, noEntry, Entry}
+use Rattle.codes.specs.Codes.{noCode}
+use Rattle.engine.specs.State.{at, sameCode, noEntry, Entry}
 use Rattle.engine.specs.Memory.{holds, isUsed, isVacant, vacant, note}
 use Rattle.engine.specs.Messages.{isThere}
 use Rattle.book.specs.Range.{Each}

@@ -22,7 +22,8 @@ use Rattle.engine.specs.declared.Action.the-variants.{Close}
 use Rattle.engine.specs.declared.Answer.{Answer}
 use Rattle.engine.specs.declared.Answer.the-variants.{Done, Refused}
 use Rattle.engine.specs.Kinds.{Kind, opens, steps, gives, kindOf, isClose, ownOf}
-use Rattle.engine.specs.State.{sameCode, noCode, noEntry, Place, Entry, State, noBatches}
+use Rattle.codes.specs.Codes.{noCode}
+use Rattle.engine.specs.State.{sameCode, noEntry, Place, Entry, State, noBatches}
 use Rattle.engine.specs.Joining.{join}
 use Rattle.engine.specs.Messages.{Acted, today}
 use Rattle.engine.specs.Ending.{afterTest, settledReplies}

@@ -16,7 +16,8 @@ use Rattle.book.specs.Range.{Each}
 use Rattle.engine.specs.declared.Answer.{Answer}
 use Rattle.engine.specs.declared.Answer.the-variants.{Done, Refused}
 use Rattle.engine.specs.Kinds.{Kind, opens, steps, gives, kindOf, isClose}
-use Rattle.engine.specs.State.{sameCode, noCode, Entry, State}
+use Rattle.codes.specs.Codes.{noCode}
+use Rattle.engine.specs.State.{sameCode, Entry, State}
 use Rattle.engine.specs.Replies.{Reply, settlement, recall, binStream, textOf}
 use Rattle.engine.specs.Messages.{Acted, today}
 use Rattle.engine.specs.Calls.{Call, Engine, judge, begun, replies, lastReplies, dayFor}

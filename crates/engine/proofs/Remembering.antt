@@ -7,13 +7,13 @@ use mathlib.Core.List.{List, [], _∷_}
 use native.Mathlib.Omega.{arith}
 use lib.ListN.{getD, set}
 use lib.Seq.{getD-set-same}
-use Rattle.codes.specs.Codes.{unpacked, named, spelled, longText, longOf, packOn}
+use Rattle.codes.specs.Codes.{unpacked, named, spelled, longText, longOf, packOn, noCode}
 use Rattle.codes.specs.declared.Code.{Code}
 pub use Rattle.names.proofs.Laws.{same-code}
 use Rattle.request.specs.declared.Outcome.the-variants.{Settlement, Recall}
 use Rattle.request.specs.declared.Reading.{Reading}
 use Rattle.queue.proofs.MemoryLaws.{byBool}
-use Rattle.engine.specs.State.{sameCode, noCode, Batch, Place, free, live, Batches, Known, State, placeAt}
+use Rattle.engine.specs.State.{sameCode, Batch, Place, free, live, Batches, Known, State, placeAt}
 use Rattle.engine.specs.Messages.{Acted, today, reference, bin, withReference, withMessage, ended, firstBatch}
 use Rattle.engine.specs.Changes.{withLetter}
 use Rattle.engine.specs.Ending.{emptied}

@@ -9,7 +9,8 @@ use Rattle.queue.specs.Tests.{Outcome}
 use Rattle.engine.specs.declared.Answer.{Answer}
 use Rattle.engine.specs.declared.Answer.the-variants.{Done, Refused}
 use Rattle.engine.specs.Kinds.{Kind, kindOf, onKind, isClose, ownOf}
-use Rattle.engine.specs.State.{sameCode, noCode, Message, Place, Entry, State, placeMessages}
+use Rattle.codes.specs.Codes.{noCode}
+use Rattle.engine.specs.State.{sameCode, Message, Place, Entry, State, placeMessages}
 use Rattle.engine.specs.Replies.{Reply, settlement, recall}
 use Rattle.engine.specs.Messages.{Acted}
 use Rattle.engine.specs.Days.{openingAnswer}

@@ -5,7 +5,8 @@ use mathlib.Core.List.{List, [], _∷_}
 use lib.ListN.{set}
 use Rattle.codes.specs.declared.Code.{Code}
 use Rattle.dates.specs.Dates.{isRemembered}
-use Rattle.engine.specs.State.{Entry, Found, seek, onFound, sameCode, noCode}
+use Rattle.codes.specs.Codes.{noCode}
+use Rattle.engine.specs.State.{Entry, Found, seek, onFound, sameCode}
 
 -- "today or on one of the 14 days before"
 abbrev pub holds : ℕ → Code → Entry → Bool

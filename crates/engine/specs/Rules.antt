@@ -7,7 +7,7 @@ use mathlib.Core.List.{List, [], _∷_, _++_}
 use lib.Dec.{eqb}
 use lib.ListN.{length, getD, take, drop}
 use Rattle.chars.specs.Words.{member}
-use Rattle.codes.specs.Codes.{shortEnd, shortText}
+use Rattle.codes.specs.Codes.{shortEnd, shortText, noCode}
 use Rattle.codes.specs.declared.Code.{Code}
 use Rattle.dates.specs.Dates.{daysOfCentury, isRemembered}
 use Rattle.clock.specs.Clock.{secondsOfDay, minutesOfDay}
@@ -22,7 +22,7 @@ use Rattle.settle.specs.Rules.{All, NoRepeats, mostCents, sum, credits, debits,
 use Rattle.queue.specs.Promise.{Once}
 use Rattle.engine.specs.declared.Phase.{Phase}
 use Rattle.engine.specs.declared.Phase.the-variants.{Fresh, Open, Closed}
-use Rattle.engine.specs.State.{House, Message, Batch, Place, free, live, Batches, Entry, mostReferences, mostBins, Known, State, fresh, sameCode, noCode, noEntry, paymentsOf, placePayments, placeMessages, placeAt}
+use Rattle.engine.specs.State.{House, Message, Batch, Place, free, live, Batches, Entry, mostReferences, mostBins, Known, State, fresh, sameCode, noEntry, paymentsOf, placePayments, placeMessages, placeAt}
 use Rattle.engine.specs.Changes.{hasDebit}
 
 -- ---- "each stored value one that book, text or clock allows"

@@ -3,6 +3,7 @@ use Prim.Native.Nat.{ℕ, _+_}
 use mathlib.Core.Bool.{Bool, true, false, cond}
 use mathlib.Core.List.{List, [], _∷_, _++_}
 use lib.ListN.{getD, set, replicate}
+use Rattle.codes.specs.Codes.{noCode}
 use Rattle.codes.specs.declared.Code.{Code}
 pub use Rattle.names.specs.Names.{sameCode}
 use Rattle.terms.specs.declared.Activation.{Activation}
@@ -30,9 +31,6 @@ seekFrom is i (x ∷ xs) = cond (is x) (at i) (seekFrom is (i + 1) xs)
 
 abbrev pub seek : {A : Type 0} → (A → Bool) → List A → Found
 seek is xs = seekFrom is 0 xs
-
-abbrev pub noCode : Code
-noCode = record { high = 0; low = 0 }
 
 -- ---- the parts of the state
 

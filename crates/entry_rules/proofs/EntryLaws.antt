@@ -13,7 +13,8 @@ use Rattle.chars.specs.Words.{Says}
 use Rattle.codes.specs.declared.Code.{Code}
 use Rattle.book.specs.Range.{Each}
 use Rattle.queue.proofs.MemoryLaws.{byBool}
-use Rattle.engine.specs.State.{Entry, noEntry, sameCode, noCode}
+use Rattle.codes.specs.Codes.{noCode}
+use Rattle.engine.specs.State.{Entry, noEntry, sameCode}
 use Rattle.engine.specs.Rules.{isReference, isBin, RightEntry, remembered, Unlike, AllUnlike, notedToday}
 use Rattle.dates.specs.Dates.{isRemembered}
 use Rattle.tables.specs.Rows.{entriesIn}

@@ -7,7 +7,8 @@ use mathlib.Core.List.{List}
 use lib.ListN.{getD}
 use Rattle.chars.specs.Words.{Says}
 use Rattle.dates.specs.Dates.{isRemembered}
-use Rattle.engine.specs.State.{sameCode, noCode}
+use Rattle.codes.specs.Codes.{noCode}
+use Rattle.engine.specs.State.{sameCode}
 use Rattle.engine.specs.Rules.{remembered, Unlike}
 use Rattle.entry_rules.specs.EntryRules.{entryOf, codeOf, entriesFrom}
 

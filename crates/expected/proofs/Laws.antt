@@ -4,12 +4,12 @@ use mathlib.Core.Path.{_≡_, refl, ap, sym, _∙_}
 use mathlib.Core.List.{List, [], _∷_}
 use mathlib.Core.Bool.{Bool, true, false, cond, _||_}
 use native.Mathlib.Omega.{arith}
-use borrow.Author.Tests.{lt-ltb, le-ltb}
+use borrow.Author.Tests.{ne-eqb, lt-ltb, le-ltb}
 use lib.Dec.{eqb, ltb}
-use lib.ListN.{length, drop, take, length-drop, length-append}
+use lib.ListN.{length, getD, drop, take, length-drop, length-append}
 use Rattle.chars.specs.Words.{bytes}
 use Rattle.chars.specs.Refusals.{numberOf}
-use Rattle.scan.specs.Scan.{crlf, onNext, begins, litAt, lineEndAt}
+use Rattle.scan.specs.Scan.{onNext, begins, litAt, lineEndAt}
 use Rattle.scan.specs.declared.At.{At}
 use Rattle.scan.specs.declared.At.the-variants.{Next, No}
 use Rattle.scan.proofs.Laws.{lit-yes, lit-not}
@@ -40,25 +40,39 @@ by-tags p q = rw p q
 pub by-after : (t : Tag) (v : Said) {x y : Stage} {r : Stage} → x ≡ y → r ≡ after y t v → r ≡ after x t v
 by-after t v p q = rw p q
 
--- a tag's bytes
+-- a tag's bytes: a zero stands behind four, and no fifth is zero
+size-told : (t : Tag) → length (tagText t) ≡ cond (eqb (getD (padded (tagText t)) 4 0) 0) 4 5
+size-told T20 = refl
+size-told T12 = refl
+size-told T77E = refl
+size-told T22A = refl
+size-told T119 = refl
+size-told T16A = refl
+size-told T171 = refl
+size-told T175 = refl
+size-told T127 = refl
+size-told T32B = refl
+size-told T113 = refl
+size-told T102 = refl
+size-told T203 = refl
+size-told T21 = refl
+size-told T451 = refl
+size-told T13E = refl
+size-told T432 = refl
+
+module _ (t : Tag) {l : List ℕ} (e : l ≡ padded (tagText t)) where
+  pub size-four : getD l 4 0 ≡ 0 → 4 ≡ length (tagText t)
+  size-four z = sym (size-told t ∙ rw (← e, z))
+
+  pub size-five : (getD l 4 0 ≡ 0 → ⊥) → 5 ≡ length (tagText t)
+  size-five n = sym (size-told t ∙ rw (← e, ne-eqb (getD l 4 0) 0 n))
+
 pub tag-size : (t : Tag) → (4 ≤ length (tagText t)) × (length (tagText t) ≤ 5)
-tag-size T20 = (omega arith, omega arith)
-tag-size T12 = (omega arith, omega arith)
-tag-size T77E = (omega arith, omega arith)
-tag-size T22A = (omega arith, omega arith)
-tag-size T119 = (omega arith, omega arith)
-tag-size T16A = (omega arith, omega arith)
-tag-size T171 = (omega arith, omega arith)
-tag-size T175 = (omega arith, omega arith)
-tag-size T127 = (omega arith, omega arith)
-tag-size T32B = (omega arith, omega arith)
-tag-size T113 = (omega arith, omega arith)
-tag-size T102 = (omega arith, omega arith)
-tag-size T203 = (omega arith, omega arith)
-tag-size T21 = (omega arith, omega arith)
-tag-size T451 = (omega arith, omega arith)
-tag-size T13E = (omega arith, omega arith)
-tag-size T432 = (omega arith, omega arith)
+tag-size t = go (eqb (getD (padded (tagText t)) 4 0) 0) (size-told t)
+  where
+    go : (b : Bool) → length (tagText t) ≡ cond b 4 5 → (4 ≤ length (tagText t)) × (length (tagText t) ≤ 5)
+    go true e = (omega arith, omega arith)
+    go false e = (omega arith, omega arith)
 
 cut : (t : Tag) → take (length (tagText t)) (padded (tagText t)) ≡ tagText t
 cut T20 = refl

@@ -71,25 +71,8 @@ impl Tag {
     pub fn size(self) -> usize
         ensures { λ r. ⌜ r ≡ length (tagText self) ⌝ }
     {
-        match self {
-            Tag::T20 => 4,
-            Tag::T12 => 4,
-            Tag::T21 => 4,
-            Tag::T77E => 5,
-            Tag::T22A => 5,
-            Tag::T119 => 5,
-            Tag::T16A => 5,
-            Tag::T171 => 5,
-            Tag::T175 => 5,
-            Tag::T127 => 5,
-            Tag::T32B => 5,
-            Tag::T113 => 5,
-            Tag::T102 => 5,
-            Tag::T203 => 5,
-            Tag::T451 => 5,
-            Tag::T13E => 5,
-            Tag::T432 => 5,
-        }
+        let text = self.text();
+        if text[4] == 0 { 4 } else { 5 }
     }
 
     // Whether a payment begins with it.

@@ -9,17 +9,18 @@ use native.Mathlib.Omega.{arith}
 use lib.Dec.{eqb}
 use lib.ListN.{length, getD, drop, length-drop, length-append}
 use lib.Seq.{drop-append-seam, drop-drop}
-use Rattle.chars.specs.Words.{bytes}
+use Rattle.chars.specs.Words.{bytes, crlf}
 use Rattle.chars.specs.Refusals.{numberOf}
 use Rattle.chars.specs.declared.Refusal.{Refusal}
 use Rattle.chars.specs.declared.Refusal.the-variants.{Malformed, WrongEsa, WrongLetter}
-use Rattle.scan.specs.Scan.{crlf, onNext, begins, litAt, lineEndAt}
+use Rattle.scan.specs.Scan.{onNext, begins, litAt, lineEndAt}
 use Rattle.scan.specs.Spelling.{All}
 use Rattle.scan.specs.declared.At.{At}
 use Rattle.scan.specs.declared.At.the-variants.{Next, No}
 use Rattle.scan.proofs.Standing.{lit-sound, line-end-reads}
 use Rattle.values.specs.Letters.{isStatus}
 use Rattle.fields.specs.Grammar.{Line}
+use Rattle.fields.proofs.Grammar.{line-text}
 use Rattle.fields.specs.declared.Break.{Break}
 use Rattle.first_break.specs.Rows.{Row, f20, f12, f77E, f22A, f119, f16A, f171, f175, f127, f32B, f113, no113, f102, f203, fB20, f21, f451, f13E, f432, tagOf, Is, known, fourCharacters, refusalOf}
 use Rattle.first_break.specs.Order.{Choice, choice}
@@ -159,7 +160,7 @@ module _ (E : Type 0) (may : E → List (Choice E)) (first last : E) (stageOf : 
       go : Mirrored E may stageOf Clean e s p c → (stepAt s (place p n (stageOf e)) ≡ Onto (place q (n + 1) (stageOf (c .next v)))) × Clean (c .next v)
       go (mirrored t x y w) =
           let i = w v (drop q s) o (g .is) k in
-          let a : drop (p + length (tagText t)) s ≡ v ++ (crlf ++ drop q s) = sym (drop-drop (length (tagText t)) p s) ∙ ap (drop (length (tagText t))) (g .text ∙ ap (λ (l : List ℕ). l ++ (v ++ (crlf ++ drop q s))) (sym x)) ∙ drop-append-seam (tagText t) (v ++ (crlf ++ drop q s)) in
+          let a : drop (p + length (tagText t)) s ≡ v ++ (crlf ++ drop q s) = sym (drop-drop (length (tagText t)) p s) ∙ ap (drop (length (tagText t))) (line-text g ∙ ap (λ (l : List ℕ). l ++ (v ++ (crlf ++ drop q s))) (sym x)) ∙ drop-append-seam (tagText t) (v ++ (crlf ++ drop q s)) in
           let z : length v ≤ length s = omega (arith, simp (length-drop, length-append) at (ap length a)) in
           let u : p + length (tagText t) + length v + 2 ≡ q = ap (λ (l : List ℕ). p + length l + length v + 2) x ∙ sym j in
           (stepped s (place p n (stageOf e)) t (p + length (tagText t)) (p + length (tagText t) + length v) q (stageOf (c .next v)) y (line-end-reads s (p + length (tagText t)) (length s) v (drop q s) a (i .1 .0) z) u (ap (λ (l : List ℕ). after (stageOf e) t (saidIn l)) a ∙ i .0), i .1 .1)

@@ -6,8 +6,8 @@ use mathlib.Core.Bool.{Bool, true, false, cond}
 use mathlib.Core.Option.{some}
 use lib.Dec.{eqb}
 use lib.ListN.{drop}
-use Rattle.chars.specs.Words.{bytes}
-use Rattle.scan.specs.Scan.{crlf, begins}
+use Rattle.chars.specs.Words.{bytes, crlf}
+use Rattle.scan.specs.Scan.{begins}
 use Rattle.scan.specs.Spelling.{All, valueOf}
 use Rattle.fields.specs.declared.Break.{Break}
 use Rattle.reply.specs.Reply.{responseAt}

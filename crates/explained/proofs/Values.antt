@@ -7,8 +7,8 @@ use mathlib.Core.Logic.{inl, inr}
 use borrow.Author.Tests.{eqb-true}
 use lib.Dec.{eqb}
 use lib.ListN.{length}
-use Rattle.chars.specs.Words.{bytes, member}
-use Rattle.scan.specs.Scan.{crlf, begins}
+use Rattle.chars.specs.Words.{bytes, member, crlf}
+use Rattle.scan.specs.Scan.{begins}
 use Rattle.scan.specs.Spelling.{valueOf}
 use Rattle.put.specs.Digits.{digitsOf}
 use Rattle.values.specs.Grammar.{IsNumeral, IsSide}

@@ -9,7 +9,8 @@ use borrow.Author.Tests.{leb-true, leb-false}
 use lib.Dec.{leb}
 use lib.ListN.{length}
 use Rattle.chars.specs.declared.Refusal.{Refusal}
-use Rattle.scan.specs.Scan.{litAt, crlf}
+use Rattle.chars.specs.Words.{crlf}
+use Rattle.scan.specs.Scan.{litAt}
 use Rattle.scan.specs.declared.Cursor.{Cursor}
 use Rattle.scan.proofs.Standing.{lit-next}
 use Rattle.scan.proofs.Alike.{Alike, lit-alike, by-next, same-next}

@@ -1,10 +1,12 @@
 -- A line as a grammar: a tag, a value of its kind and CR LF; that such a line is read, and that nothing else is.
 use Prim.Native.Nat.{ℕ, _+_, _-_}
-use mathlib.Core.Path.{_≡_, refl, ap, _∙_}
+use mathlib.Core.Path.{_≡_, refl, ap, _∙_, sym}
 use mathlib.Core.List.{List, [], _++_}
 use native.Mathlib.Omega.{arith}
 use lib.ListN.{length, drop}
-use Rattle.scan.specs.Scan.{onNext, crlf, litAt}
+use Rattle.chars.specs.Words.{crlf}
+use Rattle.chars.proofs.Laws.{line-apart}
+use Rattle.scan.specs.Scan.{onNext, litAt}
 use Rattle.scan.specs.declared.At.{At}
 use Rattle.scan.specs.declared.At.the-variants.{Next, No}
 use Rattle.scan.specs.declared.Cursor.{Cursor}
@@ -57,12 +59,15 @@ pub record Passed (s : List ℕ) (at : ℕ) (tag : List ℕ) (k : Kind) (v r : L
   pub rest : drop (at + length tag + length v + 2) s ≡ r
   pub part : drop (at + length tag) s ≡ v ++ (crlf ++ r)
 
+pub line-text : {tag : List ℕ} {P : List ℕ → Type 0} {l r : List ℕ} (g : Line tag P l r) → l ≡ tag ++ (g .value ++ (crlf ++ r))
+line-text {tag} {P} {l} {r} g = g .text ∙ line-apart tag (g .value) r
+
 -- complete: a line that stands there is read
 pub line-complete : (s : List ℕ) (at : ℕ) (tag : List ℕ) (k : Kind) (b : ℕ) → Fine b k → {l r : List ℕ} → drop at s ≡ l → (g : Line tag (Spelt s k) l r) → Passed s at tag k (g .value) r
 unfolding fieldAt
 line-complete s at tag k b f {l} {r} h g =
     let v = g .value in
-    let h₁ = h ∙ g .text in
+    let h₁ = h ∙ line-text g in
     let h₂ = past s at tag (v ++ (crlf ++ r)) h₁ in
     let h₃ = past s (at + length tag) v (crlf ++ r) h₂ in
     let l₁ = lit-reads s at tag (v ++ (crlf ++ r)) h₁ in
@@ -91,7 +96,7 @@ line-sound s at tag k {i} {c} h = go₁ (litAt s at tag) refl h
         let w = value-sound s a k g in
         rw (← z) (record {
           value = w .value;
-          text = lit-sound s at tag l ∙ ap (λ (m : List ℕ). tag ++ m) (w .text ∙ ap (λ (m : List ℕ). w .value ++ m) (lit-sound s e crlf u));
+          text = lit-sound s at tag l ∙ ap (λ (m : List ℕ). tag ++ m) (w .text ∙ ap (λ (m : List ℕ). w .value ++ m) (lit-sound s e crlf u)) ∙ sym (line-apart tag (w .value) (drop n s));
           is = w .is;
         })
 

@@ -4,7 +4,8 @@ use mathlib.Core.Path.{_≡_, refl}
 use mathlib.Core.List.{List}
 use Rattle.chars.specs.declared.Refusal.{Refusal}
 use Rattle.chars.specs.declared.Refusal.the-variants.{Malformed}
-use Rattle.scan.specs.Scan.{litAt, crlf}
+use Rattle.chars.specs.Words.{crlf}
+use Rattle.scan.specs.Scan.{litAt}
 use Rattle.scan.specs.declared.At.{At}
 use Rattle.scan.specs.declared.At.the-variants.{Next, No}
 use Rattle.values.specs.Values.{noPart}

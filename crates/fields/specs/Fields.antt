@@ -4,7 +4,8 @@ use mathlib.Core.List.{List}
 use mathlib.Core.Bool.{true, false}
 use Rattle.chars.specs.declared.Refusal.{Refusal}
 use Rattle.chars.specs.declared.Refusal.the-variants.{Malformed}
-use Rattle.scan.specs.Scan.{onNext, litAt, crlf}
+use Rattle.chars.specs.Words.{crlf}
+use Rattle.scan.specs.Scan.{onNext, litAt}
 use Rattle.scan.specs.declared.Cursor.{Cursor}
 use Rattle.values.specs.Values.{noPart, referenceAt, numeralAt, wordAt, binAt, numbersAt, dateAt, timeAt, sideAt, amountAt, countAt}
 use Rattle.values.specs.Letters.{lettersAt}

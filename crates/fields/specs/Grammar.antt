@@ -2,7 +2,7 @@
 use Prim.Native.Nat.{ℕ}
 use mathlib.Core.Path.{_≡_}
 use mathlib.Core.List.{List, _++_}
-use Rattle.scan.specs.Scan.{crlf}
+use Rattle.chars.specs.Words.{line}
 use Rattle.values.specs.Values.{textOf}
 use Rattle.values.specs.Grammar.{IsEmpty, IsReference, IsNumeral, IsWord, IsBin, IsNumbers, IsDate, IsTime, IsSide, IsAmount, IsLetters, IsCount}
 use Rattle.fields.specs.declared.Kind.{Kind}
@@ -26,5 +26,5 @@ Spelt s (Count n) v = IsCount n v
 -- "A line is `:tag:value` and CR LF": l is such a line, and then r
 pub record Line (tag : List ℕ) (P : List ℕ → Type 0) (l r : List ℕ) : Type 0 where
   pub value : List ℕ
-  pub text : l ≡ tag ++ (value ++ (crlf ++ r))
+  pub text : l ≡ line tag value ++ r
   pub is : P value

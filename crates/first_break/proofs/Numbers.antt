@@ -10,13 +10,13 @@ use borrow.Author.Tests.{eq-eqb, ne-eqb, eqb-true, eqb-false}
 use lib.Dec.{eqb}
 use lib.ListN.{length, getD, drop}
 use lib.Seq.{getD-drop}
-use Rattle.chars.specs.Words.{bytes}
+use Rattle.chars.specs.Words.{bytes, crlf}
 use Rattle.chars.specs.declared.Refusal.{Refusal}
 use Rattle.chars.specs.declared.Refusal.the-variants.{Malformed, WrongEsa, WrongLetter}
 use Rattle.clock.specs.Clock.{minuteOf}
 use Rattle.codes.specs.Codes.{shortAt}
 use Rattle.dates.specs.Dates.{dayOf}
-use Rattle.scan.specs.Scan.{onNext, crlf, begins, litAt, codesAt, codeAt, digitsAt, numberAt, lineEnd, lineEndAt}
+use Rattle.scan.specs.Scan.{onNext, begins, litAt, codesAt, codeAt, digitsAt, numberAt, lineEnd, lineEndAt}
 use Rattle.scan.specs.declared.At.{At}
 use Rattle.scan.specs.declared.At.the-variants.{Next, No}
 use Rattle.scan.proofs.Alike.{by-next}

@@ -20,13 +20,9 @@ use Rattle.reply.specs.declared.Reply.the-variants.{Refused}
 use Rattle.first_break.specs.Rows.{Row, f20, f12, f77E, f22A, f119, f16A, f171, f175, f127, f32B, f113, no113, f102, f203, fB20, f21, f451, f13E, f432, tagOf, fourCharacters, refusalOf}
 use Rattle.first_break.specs.Order.{Choice, choice}
 use Rattle.first_break.specs.Replies.{Awaiting, on20, on12, on77E, on21, on22A, on119, on451, on13E, on432, on-end, replies}
-use Rattle.first_break.specs.Breaks.{standing, Breaks, missing, wrong, other}
+use Rattle.first_break.specs.Breaks.{standing, Breaks, missing, wrong, other, OneOf}
 use Rattle.first_break.proofs.Request.{first-break as request-break}
 use Rattle.first_break.proofs.Response.{first-break as response-break}
-
--- a refusal's number is one of these
-abbrev pub OneOf : List ℕ → Refusal → Type 0
-OneOf numbers r = member (numberOf r) numbers ≡ true
 
 letters-number : (l : List ℕ) → OneOf (80 ∷ 81 ∷ 87 ∷ 88 ∷ []) (refusalOf f113 l)
 letters-number l = go (fourCharacters l) (isStatus (getD l 0 0)) (isStatus (getD l 1 0) && isStatus (getD l 2 0))

@@ -9,7 +9,7 @@ use native.Mathlib.Omega.{arith}
 use borrow.Author.Tests.{eqb-true, eqb-false}
 use lib.Dec.{eqb}
 use lib.ListN.{length, drop}
-use Rattle.chars.specs.Words.{bytes, member}
+use Rattle.chars.specs.Words.{bytes, member, crlf}
 use Rattle.chars.specs.Chars.{isDigit, digitValue}
 use Rattle.chars.specs.declared.Refusal.the-variants.{OtherSubType}
 use Rattle.clock.specs.Clock.{secondOf}
@@ -19,7 +19,7 @@ use Rattle.dates.specs.Dates.{dayOf}
 use Rattle.dates.specs.declared.Day.{Day}
 use Rattle.dates.specs.declared.Day.the-variants.{Number, Untrue}
 use Rattle.put.specs.Digits.{digitsOf}
-use Rattle.scan.specs.Scan.{onNext, crlf, begins, litAt}
+use Rattle.scan.specs.Scan.{onNext, begins, litAt}
 use Rattle.scan.specs.declared.At.{At}
 use Rattle.scan.specs.declared.At.the-variants.{Next, No}
 use Rattle.scan.specs.declared.Cursor.{Cursor}
@@ -109,7 +109,7 @@ module _ (s : List ℕ) where
           let z : c ≡ place (a + 1 + length (g .line .value) + 2) = cc (q, w .is) in
           step {p = 0} {e = on20} (choice fB20 (λ v. on12)) (rw (lit-yes s 0 (bytes ":20:") l)) (record { value = bytes "B" ++ g .line .value; text = lit-sound s 0 (bytes ":20:") l ∙ ap (λ (m : List ℕ). bytes ":20:" ++ m) (g .line .text); is = record { digits = g .line .value; is = refl; seven = g .line .is } }) refl (ap (λ (x : Cursor). x .at) z ∙ omega (arith, lit-next s 0 (bytes ":20:") l)) (on (item a (i .part .end) (i .number)) c)
       read a l (Bad b) q = stop {e = on20} (wrongAt 0) (ok (wrongAt 0)) (wrong (choice fB20 (λ v. on12)) refl (rw (lit-yes s 0 (bytes ":20:") l)) (λ r g.
-          let h = ap (λ (k : ℕ). drop k s) (lit-next s 0 (bytes ":20:") l) ∙ past s 0 (bytes ":20:") (g .value ++ (crlf ++ r)) (g .text) ∙ ap (λ (v : List ℕ). v ++ (crlf ++ r)) (g .is .is) in
+          let h = ap (λ (k : ℕ). drop k s) (lit-next s 0 (bytes ":20:") l) ∙ past s 0 (bytes ":20:") ((g .value ++ crlf) ++ r) (g .text) ∙ ap (λ (v : List ℕ). (v ++ crlf) ++ r) (g .is .is) in
           read-and-not (line-complete s a (bytes "B") (Numeral 7) 0 (omega arith) refl (record { value = g .is .digits; text = h; is = g .is .seven }) .is) q))
 
       go : (r : At) → litAt s 0 (bytes ":20:") ≡ r → Walk (answer (onNext r (Bad (absent 0)) (λ a. onGood (fieldAt s a (bytes "B") (Numeral 7)) (λ b. Bad (wrongAt 0)) (λ i c. Good (item a (i .part .end) (i .number)) c)))) 0 on20

@@ -10,7 +10,8 @@ use borrow.Author.Tests.{ltb-true, ltb-false}
 use lib.Dec.{ltb}
 use lib.ListN.{length, drop, length-drop, drop-of-length-le}
 use Rattle.chars.specs.Chars.{isDigit}
-use Rattle.scan.specs.Scan.{crlf, begins}
+use Rattle.chars.specs.Words.{crlf}
+use Rattle.scan.specs.Scan.{begins}
 use Rattle.scan.specs.declared.Cursor.{Cursor}
 use Rattle.scan.proofs.Laws.{lit-yes}
 use Rattle.scan.proofs.Standing.{lit-reads}
@@ -26,7 +27,7 @@ use Rattle.fields.specs.declared.Kind.{Kind}
 use Rattle.fields.specs.declared.Kind.the-variants.{Empty, Reference, Numeral, Word, Bin, Numbers, Date, Time, Side, Amount, Letters, Count}
 use Rattle.fields.proofs.Alike.{Fine}
 use Rattle.fields.specs.Grammar.{Spelt}
-use Rattle.fields.proofs.Grammar.{line-complete}
+use Rattle.fields.proofs.Grammar.{line-complete, line-text}
 use Rattle.grammar.proofs.Meanings.{LineRead, line-read}
 use Rattle.first_break.specs.Rows.{Row, f20, f12, f77E, f22A, f119, f16A, f171, f175, f127, f32B, f113, f102, f203, f21, f451, f13E, f432, IsOutcome, tagOf, Is, known, refusalOf}
 use Rattle.first_break.specs.Order.{Choice}
@@ -140,7 +141,7 @@ module _ {E : Type 0} {may : E → List (Choice E)} {first last : E} {ends : may
           let g = line-read s p (tagOf (c .row)) k (fit .bound) (fit .fine) q in
           let w = line-complete s p (tagOf (c .row)) k (fit .bound) (fit .fine) refl (g .line) in
           let z : d ≡ place (p + length (tagOf (c .row)) + length (g .line .value) + 2) = cc (q, w .is) in
-          let t = ask .yes (lit-yes s p (tagOf (c .row)) (lit-reads s p (tagOf (c .row)) (g .line .value ++ (crlf ++ drop (d .at) s)) (g .line .text))) in
+          let t = ask .yes (lit-yes s p (tagOf (c .row)) (lit-reads s p (tagOf (c .row)) (g .line .value ++ (crlf ++ drop (d .at) s)) (line-text (g .line)))) in
           on i d q g t (λ o is n v. step c t (record { value = g .line .value; text = g .line .text; is = is }) n (ap (λ (x : Cursor). x .at) z) v)
       go (Bad b) q = broke (field-bad s p (tagOf (c .row)) k (refusalOf (c .row) (drop (p + length (tagOf (c .row))) s)) (fit .told (p + length (tagOf (c .row)))) q)
         where

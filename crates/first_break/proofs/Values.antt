@@ -9,12 +9,12 @@ use borrow.Author.Tests.{eqb-true}
 use lib.Dec.{eqb}
 use lib.ListN.{length, take, drop, length-append}
 use lib.Seq.{take-append-seam, drop-append-seam}
-use Rattle.chars.specs.Words.{bytes}
+use Rattle.chars.specs.Words.{bytes, crlf}
 use Rattle.chars.specs.Chars.{isCode, isLetter, isDigit}
-use Rattle.scan.specs.Scan.{crlf}
 use Rattle.scan.specs.Spelling.{All}
 use Rattle.values.specs.Grammar.{IsBin, IsNumbers, IsSide, IsAmount}
 use Rattle.fields.specs.Grammar.{Line}
+use Rattle.fields.proofs.Grammar.{line-text}
 use Rattle.reply.proofs.Digits.{all-append}
 use Rattle.first_break.specs.Rows.{Row, f20, f12, f77E, f22A, f119, f16A, f171, f175, f127, f32B, f113, no113, f102, f203, fB20, f21, f451, f13E, f432, IsResponseNumber, IsOutcome, tagOf, Is}
 
@@ -102,8 +102,8 @@ behind-tag : (t x y : List ℕ) → t ++ x ≡ t ++ y → x ≡ y
 behind-tag t x y h = sym (drop-append-seam t x) ∙ ap (drop (length t)) h ∙ drop-append-seam t y
 
 pub same-value : (f : Row) {l a b : List ℕ} (g : Line (tagOf f) (Is f) l a) (k : Line (tagOf f) (Is f) l b) → g .value ≡ k .value
-same-value f {l} {a} {b} g k = one-value f (g .value) (k .value) a b (g .is) (k .is) (behind-tag (tagOf f) (g .value ++ (crlf ++ a)) (k .value ++ (crlf ++ b)) (sym (g .text) ∙ k .text))
+same-value f {l} {a} {b} g k = one-value f (g .value) (k .value) a b (g .is) (k .is) (behind-tag (tagOf f) (g .value ++ (crlf ++ a)) (k .value ++ (crlf ++ b)) (sym (line-text g) ∙ line-text k))
 
 -- and so have two lines with values of one length
 pub same-long : (tag : List ℕ) {P Q : List ℕ → Type 0} {l a b : List ℕ} (g : Line tag P l a) (k : Line tag Q l b) → length (g .value) ≡ length (k .value) → g .value ≡ k .value
-same-long tag {a = a} {b = b} g k e = alike (g .value) (k .value) (crlf ++ a) (crlf ++ b) e (behind-tag tag (g .value ++ (crlf ++ a)) (k .value ++ (crlf ++ b)) (sym (g .text) ∙ k .text))
+same-long tag {a = a} {b = b} g k e = alike (g .value) (k .value) (crlf ++ a) (crlf ++ b) e (behind-tag tag (g .value ++ (crlf ++ a)) (k .value ++ (crlf ++ b)) (sym (line-text g) ∙ line-text k))

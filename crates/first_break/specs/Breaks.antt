@@ -5,6 +5,9 @@ use mathlib.Core.List.{List, [], _∷_}
 use mathlib.Core.Bool.{true, false, cond}
 use mathlib.Core.Option.{Option, none, some}
 use lib.ListN.{length, drop}
+use Rattle.chars.specs.Words.{member}
+use Rattle.chars.specs.Refusals.{numberOf}
+use Rattle.chars.specs.declared.Refusal.{Refusal}
 use Rattle.chars.specs.declared.Refusal.the-variants.{OtherSubType}
 use Rattle.scan.specs.Scan.{begins}
 use Rattle.fields.specs.Fields.{absent, broken}
@@ -48,3 +51,7 @@ RequestBreaks s b = FirstBreak Expecting choices at20 at-end s b
 
 abbrev pub ResponseBreaks : List ℕ → Break → Type 0
 ResponseBreaks s b = FirstBreak Awaiting replies on20 on-end s b
+
+-- a refusal's number is one of these
+abbrev pub OneOf : List ℕ → Refusal → Type 0
+OneOf numbers r = member (numberOf r) numbers ≡ true

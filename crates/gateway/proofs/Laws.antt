@@ -26,6 +26,7 @@ use Rattle.chars.specs.declared.Refusal.{Refusal}
 use Rattle.chars.specs.declared.Refusal.the-variants.{ShortBuffer}
 use Rattle.gateway.specs.Rows.{fieldWords, itemWords, codeWords, breakWords, numberIn, rowAfter}
 use Rattle.gateway.specs.Requests.{namedWords, addressWords, headWords, activationMinute, activationGiven, termsWords, paymentWords, paymentsWords, acceptedWords, reachedNumber, refusedWords, readingNumber, readingWords}
+use Rattle.codes.specs.Codes.{noCode}
 use Rattle.codes.specs.declared.Code.{Code}
 use Rattle.response.specs.declared.Settlement.{Settlement as Response132}
 use Rattle.response.specs.declared.Recall.{Recall as Response134}
@@ -156,8 +157,8 @@ unfolding settlementWords
 settlement-row row p s e f g =
     three row (numberWords p (s .number) 132 (s .reference)) (batchWords p (s .stream) (s .bin)) (statusWords p (outcomeStatus (s .outcome)) (outcomeFirst (s .outcome)) (outcomeSecond (s .outcome))) 0 e f g refl refl
 
-pub recall-row : (row : List ℕ) (p : Parts) (r : Response134) {o₁ o₂ o₃ : List ℕ} → o₁ ≡ sets row 0 (numberWords p (r .number) 134 (r .reference)) → o₂ ≡ sets o₁ 12 (batchWords p 0 (record { high = 0; low = 0 }))
+pub recall-row : (row : List ℕ) (p : Parts) (r : Response134) {c : Code} {o₁ o₂ o₃ : List ℕ} → c ≡ noCode → o₁ ≡ sets row 0 (numberWords p (r .number) 134 (r .reference)) → o₂ ≡ sets o₁ 12 (batchWords p 0 c)
     → o₃ ≡ sets o₂ 20 (statusWords p (answerStatus (r .answer)) (answerNumber (r .answer)) 0) → o₃ ≡ sets row 0 (recallWords p r)
 unfolding recallWords
-recall-row row p r e f g =
-    three row (numberWords p (r .number) 134 (r .reference)) (batchWords p 0 (record { high = 0; low = 0 })) (statusWords p (answerStatus (r .answer)) (answerNumber (r .answer)) 0) 0 e f g refl refl
+recall-row row p r n e f g =
+    three row (numberWords p (r .number) 134 (r .reference)) (batchWords p 0 noCode) (statusWords p (answerStatus (r .answer)) (answerNumber (r .answer)) 0) 0 e (rw n at f) g refl refl

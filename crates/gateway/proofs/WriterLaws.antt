@@ -1,10 +1,11 @@
 -- The writers of rows: one law for each return.
 use Prim.Native.Nat.{ℕ, _+_, _*_, _≤_, _<_}
 use mathlib.Core.Path.{_≡_, refl, sym}
-use mathlib.Core.Bool.{Bool}
+use mathlib.Core.Bool.{Bool, true, false, not, _&&_}
 use mathlib.Core.List.{List, [], _∷_}
 use native.Mathlib.Nat.{add-zero}
-use borrow.Author.Tests.{le-leb, lt-leb, lt-ltb, le-ltb, eq-eqb, ne-eqb}
+use borrow.Author.Tests.{le-leb, lt-leb, ne-eqb, not-true, not-false}
+use lib.Dec.{leb}
 use lib.ListN.{length, getD, set, List·getD-eq-default}
 use Rattle.chars.specs.Refusals.{numberOf}
 use Rattle.chars.specs.declared.Refusal.{Refusal}
@@ -14,7 +15,7 @@ use Rattle.dates.specs.Dates.{dateOf}
 use Rattle.terms.specs.declared.Activation.{Activation}
 use Rattle.terms.specs.declared.Activation.the-variants.{AtOnce, Minute}
 use Rattle.response.specs.Texts.{settlementText, recallText}
-use Rattle.response.specs.Values.{isSettlement, isRecall, writtenIf, afterIf}
+use Rattle.response.specs.Values.{isSettlement, isRecall, Wrote}
 use Rattle.response.specs.declared.Outcome.{Outcome}
 use Rattle.response.specs.declared.Outcome.the-variants.{Settled, Rejected}
 use Rattle.response.specs.declared.Answer.{Answer}
@@ -23,12 +24,12 @@ use Rattle.response.specs.declared.Settlement.{Settlement}
 use Rattle.response.specs.declared.Recall.{Recall}
 use Rattle.response.specs.declared.Written.{Written}
 use Rattle.response.specs.declared.Written.the-variants.{End, Unfit}
-use Rattle.administrator.specs.Orders.{Wrote}
+use Rattle.administrator.specs.Orders.{Wrote as WroteOrder}
 use Rattle.administrator.specs.declared.Payable.{Payable}
 use Rattle.administrator.specs.declared.Order.{Order}
 use Rattle.administrator.specs.declared.Side.{Side}
 use Rattle.administrator.specs.declared.Side.the-variants.{Credit, Debit}
-use Rattle.gateway.specs.Writers.{valueIn, secondIn, codeIn, activationIn, sideIn, payableIn, payablesIn, orderIn, outcomeIn, answerIn, settlementIn, recallIn, numberBy, toldBy, orderWritten, orderLeft, kindWritten, kindLeft, responseWritten, responseLeft, isReady, numberFor, leftFor, toldFor}
+use Rattle.gateway.specs.Writers.{valueIn, secondIn, codeIn, activationIn, sideIn, payableIn, payablesIn, orderIn, outcomeIn, answerIn, settlementIn, recallIn, numberBy, toldBy, orderWritten, orderLeft, hasStatus, holdsSettlement, holdsRecall, responseWritten, responseLeft, isReady, numberFor, leftFor, toldFor}
 
 -- ---- the values of a row
 
@@ -94,33 +95,40 @@ module _ (row : List ℕ) where
 
 -- ---- texts
 
+pub status-told : (row : List ℕ) {v : ℕ} → v ≡ valueIn row 20 → leb v 1 ≡ hasStatus row
+status-told row p = rw p
+
+-- a status past 1 is 87; of another the writer of the response answers
+module _ (row out : List ℕ) {q : Bool} (e : q ≡ hasStatus row) where
+  pub no-status : (holds : Bool) (text : List ℕ) → not q ≡ true → Wrote (hasStatus row && holds) out 0 text (Unfit Malformed) out
+  no-status holds text f = rw (← e, not-true q f) (refl, refl)
+
+  module _ (f : not q ≡ false) {w : Written} {left : List ℕ} where
+    pub settlement-writes : {s : Settlement} → s ≡ settlementIn row → Wrote (isSettlement s) out 0 (settlementText s) w left → Wrote (holdsSettlement row) out 0 (settlementText (settlementIn row)) w left
+    settlement-writes g k = rw (← e, not-false q f, ← g) k
+
+    pub recall-writes : {r : Recall} → r ≡ recallIn row → Wrote (isRecall r) out 0 (recallText r) w left → Wrote (holdsRecall row) out 0 (recallText (recallIn row)) w left
+    recall-writes g k = rw (← e, not-false q f, ← g) k
+
 module _ (row out : List ℕ) {w : Written} {left : List ℕ} where
-  pub settlement-kind : {k : ℕ} {s : Settlement} → k ≡ valueIn row 4 → k ≡ 132 → s ≡ settlementIn row → (w ≡ writtenIf (isSettlement s) out 0 (settlementText s)) × (left ≡ afterIf (isSettlement s) out 0 (settlementText s))
-      → (w ≡ kindWritten row out) × (left ≡ kindLeft row out)
-  unfolding kindWritten kindLeft
-  settlement-kind p e q g = rw (← p, e, ← q) g
-
-  pub recall-kind : {k : ℕ} {r : Recall} → k ≡ valueIn row 4 → k ≡ 134 → r ≡ recallIn row → (w ≡ writtenIf (isRecall r) out 0 (recallText r)) × (left ≡ afterIf (isRecall r) out 0 (recallText r))
-      → (w ≡ kindWritten row out) × (left ≡ kindLeft row out)
-  unfolding kindWritten kindLeft
-  recall-kind p e q g = rw (← p, e, ← q) g
-
-  pub status-right : {v : ℕ} → v ≡ valueIn row 20 → v ≤ 1 → (w ≡ kindWritten row out) × (left ≡ kindLeft row out) → (w ≡ responseWritten row out) × (left ≡ responseLeft row out)
+  pub settlement-kind : {k : ℕ} → k ≡ valueIn row 4 → k ≡ 132 → Wrote (holdsSettlement row) out 0 (settlementText (settlementIn row)) w left
+      → (w ≡ responseWritten row out) × (left ≡ responseLeft row out)
   unfolding responseWritten responseLeft
-  status-right p h g = rw (← p, le-ltb _ _ h) g
+  settlement-kind p e g = rw (← p, e) g
 
-  pub order-writes : {o : Order} → o ≡ orderIn row → Wrote out 0 o w left → (w ≡ orderWritten (orderIn row) out) × (left ≡ orderLeft (orderIn row) out)
+  pub recall-kind : {k : ℕ} → k ≡ valueIn row 4 → k ≡ 134 → Wrote (holdsRecall row) out 0 (recallText (recallIn row)) w left
+      → (w ≡ responseWritten row out) × (left ≡ responseLeft row out)
+  unfolding responseWritten responseLeft
+  recall-kind p e g = rw (← p, e) g
+
+  pub order-writes : {o : Order} → o ≡ orderIn row → WroteOrder out 0 o w left → (w ≡ orderWritten (orderIn row) out) × (left ≡ orderLeft (orderIn row) out)
   unfolding orderWritten orderLeft
   order-writes e g = rw (← e) (g .answer, g .result)
 
 module _ (row out : List ℕ) where
-  pub other-kind : {k : ℕ} → k ≡ valueIn row 4 → (k ≡ 132 → ⊥) → (k ≡ 134 → ⊥) → (Unfit OtherSubType ≡ kindWritten row out) × (out ≡ kindLeft row out)
-  unfolding kindWritten kindLeft
-  other-kind p e f = rw (← p, ne-eqb _ _ e, ne-eqb _ _ f) (refl, refl)
-
-  pub status-wrong : {v : ℕ} → v ≡ valueIn row 20 → 1 < v → (Unfit Malformed ≡ responseWritten row out) × (out ≡ responseLeft row out)
+  pub other-kind : {k : ℕ} → k ≡ valueIn row 4 → (k ≡ 132 → ⊥) → (k ≡ 134 → ⊥) → (Unfit OtherSubType ≡ responseWritten row out) × (out ≡ responseLeft row out)
   unfolding responseWritten responseLeft
-  status-wrong p h = rw (← p, lt-ltb _ _ h) (refl, refl)
+  other-kind p e f = rw (← p, ne-eqb _ _ e, ne-eqb _ _ f) (refl, refl)
 
 -- ---- what is told
 

@@ -2,6 +2,7 @@
 use Prim.Native.Nat.{ℕ}
 use mathlib.Core.List.{List, _++_}
 use Rattle.chars.specs.Refusals.{numberOf}
+use Rattle.codes.specs.Codes.{noCode}
 use Rattle.codes.specs.declared.Code.{Code}
 use Rattle.response.specs.declared.Outcome.{Outcome}
 use Rattle.response.specs.declared.Outcome.the-variants.{Settled, Rejected}
@@ -60,7 +61,7 @@ settlementWords p s =
 unfoldable pub recallWords : Parts → Response134 → List ℕ
 recallWords p r =
     numberWords p (r .number) 134 (r .reference)
-    ++ (batchWords p 0 (record { high = 0; low = 0 })
+    ++ (batchWords p 0 noCode
     ++ statusWords p (answerStatus (r .answer)) (answerNumber (r .answer)) 0)
 
 abbrev pub numberOfReply : Reply → ℕ

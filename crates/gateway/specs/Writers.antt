@@ -1,11 +1,11 @@
 -- What the entry points of the writers answer and leave: the text of the values in a row, as the readers fill it.
 use Prim.Native.Nat.{ℕ, _+_, _*_}
-use mathlib.Core.Bool.{Bool, _&&_, cond, not}
+use mathlib.Core.Bool.{Bool, _&&_, cond}
 use mathlib.Core.List.{List, [], _∷_}
-use lib.Dec.{eqb, ltb, leb}
+use lib.Dec.{eqb, leb}
 use lib.ListN.{length, getD, set}
 use Rattle.chars.specs.Refusals.{numberOf}
-use Rattle.chars.specs.declared.Refusal.the-variants.{ShortBuffer, Malformed, OtherSubType}
+use Rattle.chars.specs.declared.Refusal.the-variants.{ShortBuffer, OtherSubType}
 use Rattle.codes.specs.declared.Code.{Code}
 use Rattle.dates.specs.Dates.{dateOf}
 use Rattle.terms.specs.declared.Activation.{Activation}
@@ -97,29 +97,33 @@ settlementIn row = record { number = valueIn row 0; reference = codeIn row 8; st
 unfoldable pub recallIn : List ℕ → Recall
 recallIn row = record { number = valueIn row 0; reference = codeIn row 8; answer = answerIn row }
 
+-- "451 (0 or 1)"
+abbrev pub hasStatus : List ℕ → Bool
+hasStatus row = leb (valueIn row 20) 1
+
+-- what a text can hold
+abbrev pub holdsSettlement : List ℕ → Bool
+holdsSettlement row = hasStatus row && isSettlement (settlementIn row)
+
+abbrev pub holdsRecall : List ℕ → Bool
+holdsRecall row = hasStatus row && isRecall (recallIn row)
+
 -- 132, 134, or "88 for another sub type"
-unfoldable pub kindWritten : List ℕ → List ℕ → Written
-kindWritten row out =
+unfoldable pub responseWritten : List ℕ → List ℕ → Written
+responseWritten row out =
     cond (eqb (valueIn row 4) 132)
-    (writtenIf (isSettlement (settlementIn row)) out 0 (settlementText (settlementIn row)))
+    (writtenIf (holdsSettlement row) out 0 (settlementText (settlementIn row)))
     (cond (eqb (valueIn row 4) 134)
-    (writtenIf (isRecall (recallIn row)) out 0 (recallText (recallIn row)))
+    (writtenIf (holdsRecall row) out 0 (recallText (recallIn row)))
     (Unfit OtherSubType))
 
-unfoldable pub kindLeft : List ℕ → List ℕ → List ℕ
-kindLeft row out =
-    cond (eqb (valueIn row 4) 132)
-    (afterIf (isSettlement (settlementIn row)) out 0 (settlementText (settlementIn row)))
-    (cond (eqb (valueIn row 4) 134)
-    (afterIf (isRecall (recallIn row)) out 0 (recallText (recallIn row)))
-    out)
-
--- "451 (0 or 1)"
-unfoldable pub responseWritten : List ℕ → List ℕ → Written
-responseWritten row out = cond (ltb 1 (valueIn row 20)) (Unfit Malformed) (kindWritten row out)
-
 unfoldable pub responseLeft : List ℕ → List ℕ → List ℕ
-responseLeft row out = cond (ltb 1 (valueIn row 20)) out (kindLeft row out)
+responseLeft row out =
+    cond (eqb (valueIn row 4) 132)
+    (afterIf (holdsSettlement row) out 0 (settlementText (settlementIn row)))
+    (cond (eqb (valueIn row 4) 134)
+    (afterIf (holdsRecall row) out 0 (recallText (recallIn row)))
+    out)
 
 -- 07 before all else, and nothing touched, where the row or what is to be told has too few words
 abbrev pub isReady : ℕ → List ℕ → List ℕ → Bool

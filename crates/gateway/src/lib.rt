@@ -399,7 +399,7 @@ fn put_recall(row: &mut [u64], p: Parts, r: Recall) -> u64
     let reference = r.reference;
     let answer = r.answer;
     put_number(row, p, r.number, 134, reference);
-    put_batch(row, p, 0, Code { high: 0, low: 0 });
+    put_batch(row, p, 0, Code::nothing());
     put_answer(row, p, answer);
     0
 }

@@ -13,7 +13,9 @@ use terms::Activation;
 ghost use mathlib.Core.Path.{_≡_};
 ghost use Prim.Native.Nat.{_+_, _≤_};
 ghost use lib.ListN.{length, getD};
-ghost use Rattle.gateway.specs.Writers.{valueIn, secondIn, codeIn, activationIn, sideIn, payableIn, payablesIn, orderIn, outcomeIn, answerIn, settlementIn, recallIn, numberBy, toldBy, orderWritten, orderLeft, kindWritten, kindLeft, responseWritten, responseLeft, isReady, numberFor, leftFor, toldFor};
+ghost use Rattle.response.specs.Texts.{settlementText, recallText};
+ghost use Rattle.response.specs.Values.{Wrote};
+ghost use Rattle.gateway.specs.Writers.{valueIn, secondIn, codeIn, activationIn, sideIn, payableIn, payablesIn, orderIn, outcomeIn, answerIn, settlementIn, recallIn, numberBy, toldBy, orderWritten, orderLeft, hasStatus, holdsSettlement, holdsRecall, responseWritten, responseLeft, isReady, numberFor, leftFor, toldFor};
 
 // Words of what is told of a text that was written: its length.
 pub const TOLD_WORDS: usize = 1;
@@ -21,7 +23,7 @@ pub const TOLD_WORDS: usize = 1;
 // Bytes of a request and of a response at the most.
 pub const REQUEST_LONGEST: usize = 649;
 
-pub const RESPONSE_LONGEST: usize = 105;
+pub const RESPONSE_LONGEST: usize = Settlement::LONGEST;
 
 // A word of a row; 0 past its end.
 fn word(row: &[u64], at: usize) -> u64
@@ -169,25 +171,41 @@ fn recall(row: &[u64]) -> Recall
     }
 }
 
-// The text of a row whose status is 0 or 1, by its sub type.
-fn write_kind(row: &[u64], out: &mut [u8]) -> Written
-    ensures { λ w. ⌜ (w ≡ kindWritten (now (row .entry)) (now (out .entry))) × (now (out .exit) ≡ kindLeft (now (row .entry)) (now (out .entry))) ⌝ }
+// "451 (0 or 1)"
+fn has_status(row: &[u64]) -> bool
+    ensures { λ r. ⌜ r ≡ hasStatus (now (row .entry)) ⌝ }
 {
-    let kind = value(row, crate::RESPONSE_SUB_TYPE);
-    match kind {
-        132 => response::write_settlement(out, 0, settlement(row)),
-        134 => response::write_recall(out, 0, recall(row)),
-        _ => Written::Unfit(Refusal::OtherSubType),
-    }
+    value(row, crate::RESPONSE_STATUS) <= 1
 }
 
+fn write_settlement(row: &[u64], out: &mut [u8]) -> Written
+    ensures { λ w. ⌜ Wrote (holdsSettlement (now (row .entry))) (now (out .entry)) 0 (settlementText (settlementIn (now (row .entry)))) w (now (out .exit)) ⌝ }
+{
+    if !has_status(row) {
+        return Written::Unfit(Refusal::Malformed);
+    }
+    response::write_settlement(out, 0, settlement(row))
+}
+
+fn write_recall(row: &[u64], out: &mut [u8]) -> Written
+    ensures { λ w. ⌜ Wrote (holdsRecall (now (row .entry))) (now (out .entry)) 0 (recallText (recallIn (now (row .entry)))) w (now (out .exit)) ⌝ }
+{
+    if !has_status(row) {
+        return Written::Unfit(Refusal::Malformed);
+    }
+    response::write_recall(out, 0, recall(row))
+}
+
+// The text of a row by its sub type, which is judged first, as its reader judges it.
 fn write_response(row: &[u64], out: &mut [u8]) -> Written
     ensures { λ w. ⌜ (w ≡ responseWritten (now (row .entry)) (now (out .entry))) × (now (out .exit) ≡ responseLeft (now (row .entry)) (now (out .entry))) ⌝ }
 {
-    if 1 < value(row, crate::RESPONSE_STATUS) {
-        return Written::Unfit(Refusal::Malformed);
+    let kind = value(row, crate::RESPONSE_SUB_TYPE);
+    match kind {
+        132 => write_settlement(row, out),
+        134 => write_recall(row, out),
+        _ => Written::Unfit(Refusal::OtherSubType),
     }
-    write_kind(row, out)
 }
 
 // The number of a refusal, or 0 and the text's length as what is told.
@@ -219,7 +237,7 @@ pub extern "C" fn purmagheli_write_request(row: &[u64], out: &mut [u8], told: &m
     tell(administrator::write_request(out, 0, order(row)), told)
 }
 
-// Writes the response of a row likewise: 87 for a status or values that no text can hold, 88 for a sub type that is neither 132 nor 134, then 07.
+// Writes the response of a row likewise: 88 for a sub type that is neither 132 nor 134, 87 for a status or values that no text can hold, then 07.
 #[no_mangle]
 pub extern "C" fn purmagheli_write_response(row: &[u64], out: &mut [u8], told: &mut [u64]) -> u64
     ensures { λ r. ⌜ (r ≡ numberFor (isReady 28 (now (row .entry)) (now (told .entry))) (responseWritten (now (row .entry)) (now (out .entry)))) × (now (out .exit) ≡ leftFor (isReady 28 (now (row .entry)) (now (told .entry))) (responseLeft (now (row .entry)) (now (out .entry))) (now (out .entry))) × (now (told .exit) ≡ toldFor (isReady 28 (now (row .entry)) (now (told .entry))) (responseWritten (now (row .entry)) (now (out .entry))) (now (told .entry))) ⌝ }

@@ -8,11 +8,11 @@ use borrow.Author.Tests.{eqb-true, leb-true}
 use lib.Dec.{eqb, leb}
 use lib.ListN.{length, getD, take, drop}
 use lib.Seq.{take-append-seam, take-at}
-use Rattle.chars.specs.Words.{bytes}
+use Rattle.chars.specs.Words.{bytes, crlf}
 use Rattle.chars.specs.declared.Refusal.the-variants.{WrongEsa, WrongLetter}
 use Rattle.codes.specs.Codes.{packed, shortAt}
 use Rattle.codes.proofs.Laws.{pack-take}
-use Rattle.scan.specs.Scan.{onNext, crlf, litAt, codeAt, digitsAt, lineEndAt}
+use Rattle.scan.specs.Scan.{onNext, litAt, codeAt, digitsAt, lineEndAt}
 use Rattle.scan.specs.declared.At.{At}
 use Rattle.scan.specs.declared.At.the-variants.{Next, No}
 use Rattle.scan.specs.declared.Cursor.{Cursor}

@@ -9,9 +9,9 @@ use borrow.Author.Tests.{eq-eqb, ne-eqb, eqb-true, eqb-false}
 use lib.Dec.{eqb}
 use lib.ListN.{length, getD, drop, set, length-set}
 use lib.Seq.{getD-set-same, getD-set-other}
-use Rattle.chars.specs.Words.{bytes}
+use Rattle.chars.specs.Words.{bytes, crlf}
 use Rattle.codes.specs.Codes.{packed}
-use Rattle.scan.specs.Scan.{onNext, crlf, begins, litAt}
+use Rattle.scan.specs.Scan.{onNext, begins, litAt}
 use Rattle.scan.specs.declared.At.{At}
 use Rattle.scan.specs.declared.At.the-variants.{Next, No}
 use Rattle.scan.specs.declared.Cursor.{Cursor}
@@ -28,7 +28,7 @@ use Rattle.fields.specs.declared.Field.the-variants.{Good, Bad}
 use Rattle.fields.specs.declared.Kind.{Kind}
 use Rattle.fields.specs.declared.Kind.the-variants.{Word, Side, Amount, Letters}
 use Rattle.fields.specs.Grammar.{Line}
-use Rattle.fields.proofs.Grammar.{line-complete}
+use Rattle.fields.proofs.Grammar.{line-complete, line-text}
 use Rattle.payments.specs.Payments.{none, noPayment, payment, bankAt, creditAt, debitAt, paymentAt, moreAt, onPaid, ended, paymentsOn, paymentsAt}
 use Rattle.payments.specs.declared.Payment.{Payment}
 use Rattle.payments.specs.declared.Paid.{Paid}
@@ -70,7 +70,7 @@ payment-complete s at h (credit {m = m} {r = r} g₁ g₂ g₃) =
     let n = at + 5 + length (g₁ .value) + 2 + 5 + length (g₂ .value) + 2 in
     let c = line-complete s n (bytes ":102:") (Word 4) 0 (omega arith) (b .rest) g₃ in
     let z : a .number ≡ 0 = number-is (a .value) (side-cr s (at + 5) (crlf ++ m) (a .part ∙ ap (λ (l : List ℕ). l ++ (crlf ++ m)) (g₁ .is))) in
-    let x : litAt s n (bytes ":113:") ≡ No = not-there s n (bytes ":113:") (bytes ":102:") (g₃ .value ++ (crlf ++ r)) (b .rest ∙ g₃ .text) refl in
+    let x : litAt s n (bytes ":113:") ≡ No = not-there s n (bytes ":113:") (bytes ":102:") (g₃ .value ++ (crlf ++ r)) (b .rest ∙ line-text g₃) refl in
     record {
       payment = payment (item (at + 5) (at + 5 + length (g₁ .value)) (a .number)) (item (at + 5 + length (g₁ .value) + 2 + 5) (at + 5 + length (g₁ .value) + 2 + 5 + length (g₂ .value)) (b .number)) nothing (item (n + 5) (n + 5 + length (g₃ .value)) (c .number));
       next = n + 5 + length (g₃ .value) + 2;
@@ -178,7 +178,7 @@ pub side-number : (s : List ℕ) (at : ℕ) {i : Item} {d : Cursor} → fieldAt 
 side-number s at {i} {d} q g = go (g .is)
   where
     here : {w : List ℕ} → g .value ≡ w → drop (at + 5) s ≡ w ++ (crlf ++ drop (d .at) s)
-    here e = past s at (bytes ":127:") (g .value ++ (crlf ++ drop (d .at) s)) (g .text) ∙ ap (λ (l : List ℕ). l ++ (crlf ++ drop (d .at) s)) e
+    here e = past s at (bytes ":127:") (g .value ++ (crlf ++ drop (d .at) s)) (line-text g) ∙ ap (λ (l : List ℕ). l ++ (crlf ++ drop (d .at) s)) e
 
     go : IsSide (g .value) → ((g .value ≡ bytes "CR") × (i .number ≡ 0)) ⊎ ((g .value ≡ bytes "DR") × (i .number ≡ 1))
     go (inl e) = inl (e, number-is (field-value s at (bytes ":127:") Side q .0) (side-cr s (at + 5) (crlf ++ drop (d .at) s) (here e)))

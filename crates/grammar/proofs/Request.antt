@@ -8,10 +8,10 @@ use native.Mathlib.Omega.{arith}
 use borrow.Author.Tests.{eqb-true, le-ltb, ltb-false}
 use lib.Dec.{eqb, ltb}
 use lib.ListN.{length, drop, length-drop, drop-of-length-le}
-use Rattle.chars.specs.Words.{bytes, member}
+use Rattle.chars.specs.Words.{bytes, member, crlf, line}
 use Rattle.chars.specs.declared.Refusal.the-variants.{OtherSubType}
 use Rattle.codes.specs.Codes.{packed, longOf}
-use Rattle.scan.specs.Scan.{onNext, crlf, begins, litAt}
+use Rattle.scan.specs.Scan.{onNext, begins, litAt}
 use Rattle.scan.specs.declared.At.{At}
 use Rattle.scan.specs.declared.At.the-variants.{Next, No}
 use Rattle.scan.specs.declared.Cursor.{Cursor}
@@ -29,7 +29,7 @@ use Rattle.fields.specs.declared.Field.the-variants.{Good, Bad}
 use Rattle.fields.specs.declared.Kind.{Kind}
 use Rattle.fields.specs.declared.Kind.the-variants.{Empty, Reference, Numeral, Word, Bin, Numbers, Date, Time, Count}
 use Rattle.fields.specs.Grammar.{Line, Spelt}
-use Rattle.fields.proofs.Grammar.{line-complete, line-sound}
+use Rattle.fields.proofs.Grammar.{line-complete, line-sound, line-text}
 use Rattle.terms.specs.Terms.{activationAt, onGiven, onWhole, terms, termsAt}
 use Rattle.terms.specs.declared.Terms.{Terms}
 use Rattle.terms.specs.declared.Activation.{Activation}
@@ -116,7 +116,7 @@ unfolding activationAt
 activation-complete s at h (inl e) n = record { of = AtOnce; part = noPart; next = at; is = simp (lit-none s at (bytes ":175:") (h ∙ e) n); rest = h ∙ e }
 activation-complete s at {r = r} h (inr g) n =
     let a = line-complete s at (bytes ":175:") Time 0 tt h g in
-    record { of = Minute (a .number); part = record { start = at + 5; end = at + 5 + length (g .value) }; next = at + 5 + length (g .value) + 2; is = simp (lit-reads s at (bytes ":175:") (g .value ++ (crlf ++ r)) (h ∙ g .text), a .is); rest = a .rest }
+    record { of = Minute (a .number); part = record { start = at + 5; end = at + 5 + length (g .value) }; next = at + 5 + length (g .value) + 2; is = simp (lit-reads s at (bytes ":175:") (g .value ++ (crlf ++ r)) (h ∙ line-text g), a .is); rest = a .rest }
 
 -- nothing is left of the text
 ended-here : (s : List ℕ) (at : ℕ) → drop at s ≡ [] → ltb at (length s) ≡ false
@@ -397,7 +397,7 @@ module _ (o : Outcome) (ok : (b : Break) → Refused b ≡ o → ⊥) where
                 least = w .least (omega arith);
                 most = w .most;
                 payments = w .text;
-                count = record { value = k .value; text = k .text ∙ ap (λ (l : List ℕ). bytes ":203:" ++ (k .value ++ (crlf ++ l))) nil; is = subst (λ (m : ℕ). IsCount m (k .value)) n (k .is) };
+                count = record { value = k .value; text = k .text ∙ ap (λ (l : List ℕ). line (bytes ":203:") (k .value) ++ l) nil; is = subst (λ (m : ℕ). IsCount m (k .value)) n (k .is) };
               };
               number = g .number-is;
               count = g .count-is;

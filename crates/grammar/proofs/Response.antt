@@ -7,7 +7,7 @@ use native.Mathlib.Omega.{arith}
 use borrow.Author.Tests.{eqb-true}
 use lib.Dec.{eqb, ltb}
 use lib.ListN.{length, drop}
-use Rattle.chars.specs.Words.{bytes}
+use Rattle.chars.specs.Words.{bytes, crlf}
 use Rattle.chars.specs.declared.Refusal.the-variants.{OtherSubType}
 use Rattle.clock.specs.Clock.{secondOf}
 use Rattle.clock.specs.declared.Second.{Second}
@@ -19,7 +19,7 @@ use Rattle.dates.specs.declared.Day.{Day}
 use Rattle.dates.specs.declared.Day.the-variants.{Number, Untrue}
 use Rattle.dates.proofs.Laws.{day-back}
 use Rattle.put.specs.Digits.{digitsOf}
-use Rattle.scan.specs.Scan.{onNext, crlf, litAt}
+use Rattle.scan.specs.Scan.{onNext, litAt}
 use Rattle.scan.specs.declared.At.{At}
 use Rattle.scan.specs.declared.At.the-variants.{Next, No}
 use Rattle.scan.specs.declared.Cursor.{Cursor}
@@ -29,6 +29,7 @@ use Rattle.values.specs.declared.Part.{Part}
 use Rattle.values.proofs.Alike.{by-cond}
 use Rattle.values.specs.Grammar.{IsBin}
 use Rattle.fields.specs.Fields.{absent, broken, wrong, item, onGood, fieldAt}
+use Rattle.fields.proofs.Grammar.{line-text}
 use Rattle.fields.specs.declared.Item.{Item}
 use Rattle.fields.specs.declared.Field.{Field}
 use Rattle.fields.specs.declared.Field.the-variants.{Good, Bad}
@@ -73,7 +74,7 @@ module _ (s : List ℕ) where
           let g = line-read s a (bytes "B") (Numeral 7) 0 (omega arith) q in
           let v = g .line .value in
           let z : i .part .end ≡ a + length (bytes "B" ++ v) = ap (λ (p : Part). p .end) (g .span) ∙ omega arith in
-          part-is s a (i .part .end) (bytes "B" ++ v) (crlf ++ drop (c .at) s) (g .line .text) z ∙ ap (λ (l : List ℕ). bytes "B" ++ l) (sym (g .text) ∙ numeral-part a (bytes "B") 7 (omega arith) q)
+          part-is s a (i .part .end) (bytes "B" ++ v) (crlf ++ drop (c .at) s) (line-text (g .line)) z ∙ ap (λ (l : List ℕ). bytes "B" ++ l) (sym (g .text) ∙ numeral-part a (bytes "B") 7 (omega arith) q)
       read a (Bad b) q = tt
 
       go : (r : At) → NumberPart (onNext r (Bad (absent 0)) (λ a. onGood (fieldAt s a (bytes "B") (Numeral 7)) (λ b. Bad (wrong 0)) (λ i c. Good (item a (i .part .end) (i .number)) c)))

@@ -13,9 +13,9 @@ use Rattle.chars.specs.Words.{bytes, member}
 use Rattle.chars.specs.Chars.{isCode, isLetter, isDigit}
 use Rattle.chars.proofs.Laws.{range-high}
 use Rattle.clock.proofs.Laws.{minute-back}
-use Rattle.codes.specs.Codes.{packOn, packed, longOf, shortText, longText}
+use Rattle.codes.specs.Codes.{packOn, packed, longOf, shortText, longText, Bytes}
 use Rattle.codes.specs.declared.Code.{Code}
-use Rattle.codes.proofs.Laws.{Bytes, pow-up, long-text, short-text}
+use Rattle.codes.proofs.Laws.{pow-up, long-text, short-text}
 use Rattle.dates.proofs.Laws.{day-back}
 use Rattle.reply.proofs.Digits.{all-append, value-small, digits-codes, code-bytes, code-no-zero}
 use Rattle.scan.specs.Scan.{ten}

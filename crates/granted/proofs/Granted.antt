@@ -11,7 +11,8 @@ use Rattle.closing.specs.Closing.{streamOf}
 use Rattle.settle.specs.Settlement.{accounts}
 use Rattle.engine.specs.declared.Phase.{Phase}
 use Rattle.engine.specs.declared.Phase.the-variants.{Fresh, Open, Closed}
-use Rattle.engine.specs.State.{Entry, sameCode, noCode, noBatches}
+use Rattle.codes.specs.Codes.{noCode}
+use Rattle.engine.specs.State.{Entry, sameCode, noBatches}
 use Rattle.engine.specs.Calls.{cleared}
 use Rattle.engine.specs.Rules.{notedToday}
 use Rattle.engine.proofs.Standing.{stood}

@@ -9,11 +9,16 @@ use lib.ListN.{length, getD, List·getD-eq-default}
 use types.Run.{OneOf}
 use borrow.Author.Tests.{lt-ltb, le-ltb, le-leb, lt-leb, eq-eqb, ne-eqb, not-true, not-false}
 use Rattle.chars.specs.Words.{bytes}
+use Rattle.chars.specs.declared.Refusal.{Refusal}
 use Rattle.chars.proofs.Laws.{not-member}
 use Rattle.settle.specs.Cover.{esa, covered}
 use Rattle.settle.specs.Payments.{Payment, credit, debit, payment, paymentAt, paymentsFrom, Need, needsOf}
 use Rattle.settle.specs.Settlement.{Accounts, accounts, isCovered, uncovered}
-use Rattle.settle.proofs.Laws.{next, uncovered-credit, uncovered-debit}
+use Rattle.settle.specs.Types.{batchOr}
+use Rattle.settle.specs.declared.Batch.{Batch}
+use Rattle.settle.specs.declared.BatchOr.{BatchOr}
+use Rattle.settle.specs.declared.BatchOr.the-variants.{Stands, Nowhere}
+use Rattle.settle.proofs.Laws.{batch-stands, batch-nowhere, next, uncovered-credit, uncovered-debit}
 use Rattle.holding.specs.declared.Held.{Held}
 use Rattle.holding.specs.declared.Held.the-variants.{Short, Deferred, Free, Unqueued}
 use Rattle.holding.specs.Holding.{shortOf, needAt, debitOf, holds, heldBy, heldAt}
@@ -84,19 +89,32 @@ unfolding heldBy needsOf paymentsFrom
 held-free a t at n x h inv = let e : n ≡ 0 = omega arith in rw (inv, e)
 
 -- the batch at a place
-module _ (a : Accounts) (t : List ℕ) (place : ℕ) where
-  pub no-place : 32 ≤ place → Unqueued ≡ heldAt a t place
+module _ (a : Accounts) (t : List ℕ) (place : ℕ) {b : BatchOr} (at : b ≡ batchOr place) where
+  pub no-place : {r : Refusal} → b ≡ Nowhere r → Unqueued ≡ heldAt a t place
   unfolding heldAt
-  no-place h = simp (le-ltb _ _ h)
+  no-place n = simp (le-ltb _ _ (batch-nowhere place at n))
 
-  pub not-queued : {w : ℕ} → place < 32 → w ≡ getD t (place * 349) 0 → (w ≡ 3 → ⊥) → Unqueued ≡ heldAt a t place
-  unfolding heldAt
-  not-queued h p e = simp (lt-ltb _ _ h, ← p, ne-eqb _ _ e)
+  module _ {k : Batch} (stands : b ≡ Stands k) {w : ℕ} (p : w ≡ getD t (k .start) 0) where
+    phase : w ≡ getD t (place * 349) 0
+    phase = p ∙ ap (λ (i : ℕ). getD t i 0) (batch-stands place at stands .0)
 
-  pub too-many : {w n : ℕ} → place < 32 → w ≡ getD t (place * 349) 0 → w ≡ 3 → n ≡ getD t (place * 349 + 8) 0 → 100 < n → Unqueued ≡ heldAt a t place
-  unfolding heldAt
-  too-many h p e q g = simp (lt-ltb _ _ h, ← p, eq-eqb _ _ e, ← q, lt-leb _ _ g)
+    within : place < 32
+    within = batch-stands place at stands .1
 
-  pub queued : {w n : ℕ} {x : Held} → place < 32 → w ≡ getD t (place * 349) 0 → w ≡ 3 → n ≡ getD t (place * 349 + 8) 0 → n ≤ 100 → x ≡ heldBy a (needsOf (paymentsFrom t (place * 349 + 49) n)) → x ≡ heldAt a t place
-  unfolding heldAt
-  queued h p e q g f = f ∙ sym (simp (lt-ltb _ _ h, ← p, eq-eqb _ _ e, ← q, le-leb _ _ g))
+    pub not-queued : (w ≡ 3 → ⊥) → Unqueued ≡ heldAt a t place
+    unfolding heldAt
+    not-queued e = simp (lt-ltb _ _ within, ← phase, ne-eqb _ _ e)
+
+    module _ (e : w ≡ 3) {n : ℕ} (q : n ≡ getD t (k .start + 8) 0) where
+      many : n ≡ getD t (place * 349 + 8) 0
+      many = q ∙ ap (λ (i : ℕ). getD t (i + 8) 0) (batch-stands place at stands .0)
+
+      pub too-many : 100 < n → Unqueued ≡ heldAt a t place
+      unfolding heldAt
+      too-many g = simp (lt-ltb _ _ within, ← phase, eq-eqb _ _ e, ← many, lt-leb _ _ g)
+
+      pub queued : {x : Held} → n ≤ 100 → x ≡ heldBy a (needsOf (paymentsFrom t (k .start + 49) n)) → x ≡ heldAt a t place
+      unfolding heldAt
+      queued g f =
+          f ∙ ap (λ (i : ℕ). heldBy a (needsOf (paymentsFrom t (i + 49) n))) (batch-stands place at stands .0)
+          ∙ sym (simp (lt-ltb _ _ within, ← phase, eq-eqb _ _ e, ← many, le-leb _ _ g))

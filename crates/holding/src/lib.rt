@@ -1,5 +1,6 @@
 // Why a queued batch has not settled: the first uncovered debit, on the balances as they stand, and what its bank lacks.
 use settle::Batch;
+use settle::BatchOr;
 ghost use mathlib.Core.Path.{_≡_};
 ghost use Prim.Native.Nat.{ℕ, _+_, _*_, _≤_};
 ghost use lib.ListN.{getD};
@@ -128,10 +129,10 @@ fn held_by(balances: &[u64], limits: &[u64], batches: &[u64], first: usize, coun
 pub fn held_at(balances: &[u64], limits: &[u64], batches: &[u64], place: usize) -> Held
     ensures { λ r. ⌜ r ≡ heldAt (accounts (now (balances .entry)) (now (limits .entry))) (now (batches .entry)) place ⌝ }
 {
-    if Batch::LIVE <= place {
+    let BatchOr::Stands(batch) = Batch::at(place) else {
         return Held::Unqueued;
-    }
-    let start = place * Batch::WIDTH;
+    };
+    let start = batch.start;
     if word(batches, start) != QUEUED {
         return Held::Unqueued;
     }

@@ -1,5 +1,4 @@
 // The account of a response.
-use clock::Clock;
 use fields::Break;
 use reply::Parts;
 use reply::Reply;
@@ -23,11 +22,10 @@ fn show_number(s: &[u8], p: Parts) {
 }
 
 fn show_settled(day: u64, second: u64) {
-    let clock = Clock { seconds: second };
     printing::text(b"settled ");
     printing::six_digits(dates::date_of(day));
     printing::space();
-    printing::six_digits(clock.digits());
+    printing::six_digits(clock::hhmmss_of(second));
     printing::end();
 }
 

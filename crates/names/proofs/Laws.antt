@@ -11,9 +11,9 @@ use lib.Seq.{take-at, drop-at, drop-nil, drop-cons, take-all, getD-take, length-
 use borrow.Author.Tests.{not-true, not-false, lt-ltb, eqb-true, eq-eqb, ne-eqb}
 use Rattle.chars.specs.Words.{bytes}
 use Rattle.chars.specs.Chars.{isCode, isDigit}
-use Rattle.codes.specs.Codes.{unpacked, named, spelled, longText, longOf, packOn, packed}
+use Rattle.codes.specs.Codes.{unpacked, named, spelled, longText, longOf, packOn, packed, Bytes, filled}
 use Rattle.codes.specs.declared.Code.{Code}
-use Rattle.codes.proofs.Laws.{Bytes, filled, unpack-length, spelled-length, unpack-pack, pack-unpack, pack-take, bytes-drop, filled-split, named-at}
+use Rattle.codes.proofs.Laws.{unpack-length, spelled-length, unpack-pack, pack-unpack, pack-take, bytes-drop, filled-split, named-at}
 use Rattle.scan.specs.Scan.{begins}
 use Rattle.names.specs.Names.{allAre, sameCode, isWhole, forbidden, isReference, isBin}
 

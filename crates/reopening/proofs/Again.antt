@@ -12,8 +12,8 @@ use lib.Dec.{leb, ltb, eqb}
 use borrow.Author.Tests.{eqb-true, leb-true, ltb-true, ltb-false}
 use Rattle.chars.specs.Chars.{isDigit, digitValue}
 use Rattle.chars.proofs.Laws.{digit-low, digit-high, digit-yes}
-use Rattle.codes.specs.Codes.{shortAt, shortText}
-use Rattle.codes.proofs.Laws.{Bytes, pack-take, short-text}
+use Rattle.codes.specs.Codes.{shortAt, shortText, Bytes}
+use Rattle.codes.proofs.Laws.{pack-take, short-text}
 use Rattle.checksum.specs.Sum.{blockSum}
 use Rattle.dates.specs.Dates.{dayOf, dateOf}
 use Rattle.dates.specs.declared.Day.{Day}

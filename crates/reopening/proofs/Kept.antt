@@ -8,7 +8,7 @@ use native.Mathlib.Omega.{arith}
 use lib.ListN.{length, getD, drop, List·getD-append}
 use lib.Seq.{sets, sets-eq, length-sets}
 use borrow.Author.Tests.{le-leb}
-use Rattle.codes.proofs.Laws.{Bytes}
+use Rattle.codes.specs.Codes.{Bytes}
 use Rattle.book.specs.declared.Field.{Field}
 use Rattle.book.specs.declared.Field.the-variants.{Code, Flags, Balance, Limit}
 use Rattle.closing.specs.declared.Writing.the-variants.{Written}

@@ -8,7 +8,7 @@ use native.Mathlib.Omega.{arith}
 use lib.ListN.{length, take, drop}
 use lib.Seq.{sets, sets-eq, take-at}
 use borrow.Author.Tests.{le-leb}
-use Rattle.codes.proofs.Laws.{Bytes}
+use Rattle.codes.specs.Codes.{Bytes}
 use Rattle.book.specs.declared.Answer.the-variants.{Sound}
 use Rattle.book.specs.declared.Book.{Book}
 use Rattle.book.specs.declared.Reading.the-variants.{Held}

@@ -9,9 +9,9 @@ use lib.ListN.{length, take, drop, length-append, length-drop, take-append-drop}
 use lib.Seq.{take-at, drop-at}
 use borrow.Author.Tests.{eqb-true, eq-eqb, ltb-true, lt-ltb, not-true}
 use Rattle.chars.specs.Chars.{isCode, isDigit}
-use Rattle.codes.specs.Codes.{packOn, packed, longOf, shortText, longText}
+use Rattle.codes.specs.Codes.{packOn, packed, longOf, shortText, longText, Bytes}
 use Rattle.codes.specs.declared.Code.{Code}
-use Rattle.codes.proofs.Laws.{Bytes, long-text, short-text}
+use Rattle.codes.proofs.Laws.{long-text, short-text}
 use Rattle.scan.specs.Spelling.{All}
 use Rattle.names.specs.Names.{allAre, isWhole, forbidden, isReference, isBin, binStream}
 use Rattle.names.proofs.Laws.{and-true, same-code, same-self, long-most}

@@ -10,7 +10,7 @@ use lib.Dec.{eqb}
 use lib.ListN.{length}
 use Rattle.chars.specs.Chars.{isDigit, isLetter, isCode, digitValue}
 use Rattle.chars.proofs.Laws.{in-range, range-low, range-high, digit-low, digit-high, digit-small, digit-yes}
-use Rattle.codes.proofs.Laws.{Bytes, NoZero}
+use Rattle.codes.specs.Codes.{Bytes, NoZero}
 use Rattle.put.specs.Digits.{digitsOf}
 use Rattle.put.proofs.Laws.{digits-length}
 use Rattle.scan.specs.Scan.{begins, ten}

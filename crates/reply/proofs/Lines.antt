@@ -7,13 +7,14 @@ use native.Mathlib.Omega.{arith}
 use borrow.Author.Tests.{ne-eqb}
 use lib.ListN.{length, drop, length-append}
 use lib.Seq.{take-append-seam, take-at}
-use Rattle.chars.specs.Words.{bytes}
+use Rattle.chars.specs.Words.{bytes, crlf, line}
+use Rattle.chars.proofs.Laws.{line-apart}
 use Rattle.chars.specs.Chars.{isDigit, isCode}
 use Rattle.codes.specs.Codes.{packed, shortAt}
 use Rattle.codes.proofs.Laws.{pack-take}
 use Rattle.put.specs.Digits.{digitsOf}
 use Rattle.put.proofs.Laws.{digits-length}
-use Rattle.scan.specs.Scan.{crlf, begins, litAt, numberAt, ten}
+use Rattle.scan.specs.Scan.{begins, litAt, numberAt, ten}
 use Rattle.scan.specs.declared.At.the-variants.{Next, No}
 use Rattle.scan.specs.declared.Fixed.the-variants.{Value as Digits}
 use Rattle.names.specs.Names.{forbidden}
@@ -38,20 +39,13 @@ pub record Found (s : List ℕ) (f : Field) (v : List ℕ) (w : ℕ) (rest : Lis
   pub text : textOf s (record { start = start; end = stop }) ≡ v
   pub left : drop next s ≡ rest
 
--- a line's bytes: tag, value, CR LF
-abbrev pub lined : List ℕ → List ℕ → List ℕ
-lined tag v = tag ++ (v ++ crlf)
-
-pub line-apart : (tag v rest : List ℕ) → lined tag v ++ rest ≡ tag ++ (v ++ (crlf ++ rest))
-line-apart tag v rest = append-assoc tag (v ++ crlf) rest ∙ ap (λ (l : List ℕ). tag ++ l) (append-assoc v crlf rest)
-
 module _ (s : List ℕ) where
   pub text-there : (at : ℕ) (v r : List ℕ) → drop at s ≡ v ++ r → textOf s (record { start = at; end = at + length v }) ≡ v
   unfolding textOf
   text-there at v r h = let z : at + length v - at ≡ length v = omega arith in rw (z, h) (take-append-seam v r)
 
   -- a value of its kind on its line is found
-  pub found : (at : ℕ) (tag v rest : List ℕ) (kind : Kind) (w : ℕ) → drop at s ≡ lined tag v ++ rest
+  pub found : (at : ℕ) (tag v rest : List ℕ) (kind : Kind) (w : ℕ) → drop at s ≡ line tag v ++ rest
       → (drop (at + length tag) s ≡ v ++ (crlf ++ rest) → valueAt s (at + length tag) kind ≡ Read w (at + length tag + length v))
       → Found s (fieldAt s at tag kind) v w rest
   unfolding fieldAt
@@ -73,10 +67,10 @@ module _ (s : List ℕ) where
   numeral-value n v a r all e m h = rw (← e) (simp (number-reads s a v r h all (omega arith)))
 
   -- digits, and the k digits of a number
-  pub digits-found : (at : ℕ) (tag v rest : List ℕ) (k : ℕ) → k ≤ 18 → length v ≡ k → All isDigit v → drop at s ≡ lined tag v ++ rest → Found s (fieldAt s at tag (Numeral k)) v (valueOf 0 v) rest
+  pub digits-found : (at : ℕ) (tag v rest : List ℕ) (k : ℕ) → k ≤ 18 → length v ≡ k → All isDigit v → drop at s ≡ line tag v ++ rest → Found s (fieldAt s at tag (Numeral k)) v (valueOf 0 v) rest
   digits-found at tag v rest k m e all h = found at tag v rest (Numeral k) (valueOf 0 v) h (numeral-value k v (at + length tag) (crlf ++ rest) all e m)
 
-  pub numeral-found : (at : ℕ) (tag rest : List ℕ) (k n : ℕ) → k ≤ 18 → n < ten k → drop at s ≡ lined tag (digitsOf k n) ++ rest
+  pub numeral-found : (at : ℕ) (tag rest : List ℕ) (k n : ℕ) → k ≤ 18 → n < ten k → drop at s ≡ line tag (digitsOf k n) ++ rest
       → Found s (fieldAt s at tag (Numeral k)) (digitsOf k n) n rest
   numeral-found at tag rest k n m small h =
       rw (value-back k n small) at (digits-found at tag (digitsOf k n) rest k m (digits-length k n) (digits-all k n) h)
@@ -89,10 +83,10 @@ module _ (s : List ℕ) where
   unfolding wordAt
   word-value n v a r all e h = rw (← e) (simp (code-reads s a v r h all))
 
-  pub empty-found : (at : ℕ) (tag rest : List ℕ) → drop at s ≡ lined tag [] ++ rest → Found s (fieldAt s at tag Empty) [] 0 rest
+  pub empty-found : (at : ℕ) (tag rest : List ℕ) → drop at s ≡ line tag [] ++ rest → Found s (fieldAt s at tag Empty) [] 0 rest
   empty-found at tag rest h = found at tag [] rest Empty 0 h (λ g. ap (Read 0) (omega arith))
 
-  pub word-found : (at : ℕ) (tag v rest : List ℕ) → length v ≡ 4 → All isCode v → drop at s ≡ lined tag v ++ rest → Found s (fieldAt s at tag (Word 4)) v (packed 4 v) rest
+  pub word-found : (at : ℕ) (tag v rest : List ℕ) → length v ≡ 4 → All isCode v → drop at s ≡ line tag v ++ rest → Found s (fieldAt s at tag (Word 4)) v (packed 4 v) rest
   word-found at tag v rest e all h =
       found at tag v rest (Word 4) (packed 4 v) h
       (λ g. word-value 4 v (at + length tag) (crlf ++ rest) all e g
@@ -105,7 +99,7 @@ module _ (s : List ℕ) where
       let n : numberAt s (a + length v) 4 ≡ Digits (valueOf 0 d) (a + length v + length d) = ap (numberAt s (a + length v)) (sym e) ∙ number-reads s (a + length v) d r (past s a v (d ++ r) g) all (omega arith) in
       simp (t, lit-reads s a v (d ++ r) g, n) (ap (Read 0) (omega (arith, length-append v d)))
 
-  pub bin-found : (at : ℕ) (tag v d rest : List ℕ) (p : Part) → length d ≡ 4 → All isDigit d → textOf s p ≡ v → drop at s ≡ lined tag (v ++ d) ++ rest → Found s (fieldAt s at tag (Bin p)) (v ++ d) 0 rest
+  pub bin-found : (at : ℕ) (tag v d rest : List ℕ) (p : Part) → length d ≡ 4 → All isDigit d → textOf s p ≡ v → drop at s ≡ line tag (v ++ d) ++ rest → Found s (fieldAt s at tag (Bin p)) (v ++ d) 0 rest
   bin-found at tag v d rest p e all t h = found at tag (v ++ d) rest (Bin p) 0 h (bin-value (at + length tag) v d (crlf ++ rest) p e all t)
 
   -- a forbidden beginning stands at a place exactly where the text from there on begins so
@@ -135,5 +129,5 @@ module _ (s : List ℕ) where
   reference-value a v r some few all free h =
       simp (codes-reads s a v 13 (10 ∷ r) 16 h few all cr-no-code, ne-eqb (a + length v) a (omega arith), forbidden-there a v r h, free)
 
-  pub reference-found : (at : ℕ) (tag v rest : List ℕ) → 1 ≤ length v → length v ≤ 16 → All isCode v → forbidden v ≡ false → drop at s ≡ lined tag v ++ rest → Found s (fieldAt s at tag Reference) v 0 rest
+  pub reference-found : (at : ℕ) (tag v rest : List ℕ) → 1 ≤ length v → length v ≤ 16 → All isCode v → forbidden v ≡ false → drop at s ≡ line tag v ++ rest → Found s (fieldAt s at tag Reference) v 0 rest
   reference-found at tag v rest some few all free h = found at tag v rest Reference 0 h (reference-value (at + length tag) v rest some few all free)

@@ -8,13 +8,14 @@ use borrow.Author.Tests.{eqb-true, eqb-false, ltb-false, lt-ltb}
 use lib.Dec.{eqb, ltb}
 use lib.ListN.{length, drop, take, drop-of-length-le}
 use lib.Seq.{take-append-add}
-use Rattle.chars.specs.Words.{bytes}
+use Rattle.chars.specs.Words.{bytes, crlf, line}
+use Rattle.chars.proofs.Laws.{line-apart}
 use Rattle.chars.specs.Chars.{isDigit, isCode}
 use Rattle.chars.specs.declared.Refusal.the-variants.{OtherSubType}
 use Rattle.codes.specs.Codes.{packed, shortAt, longOf, shortText, longText}
 use Rattle.codes.proofs.Laws.{pack-take}
 use Rattle.put.specs.Digits.{digitsOf}
-use Rattle.scan.specs.Scan.{onNext, crlf, litAt, codesAt, codeAt, numberAt, ten}
+use Rattle.scan.specs.Scan.{onNext, litAt, codesAt, codeAt, numberAt, ten}
 use Rattle.scan.specs.declared.At.{At}
 use Rattle.scan.specs.declared.At.the-variants.{Next, No}
 use Rattle.scan.specs.declared.Cursor.{Cursor}
@@ -34,7 +35,7 @@ use Rattle.fields.specs.declared.Field.the-variants.{Good, Bad}
 use Rattle.fields.specs.declared.Kind.{Kind}
 use Rattle.fields.specs.declared.Kind.the-variants.{Empty, Reference, Numeral, Word, Bin}
 use Rattle.response.specs.Values.{isOutcome, isAnswer, isSettlement, isRecall}
-use Rattle.response.specs.Texts.{line, headText, batchText, settledText, rejectedText, outcomeText, settlementText, answerText, recallText}
+use Rattle.response.specs.Texts.{headText, batchText, settledText, rejectedText, outcomeText, settlementText, answerText, recallText}
 use Rattle.clock.specs.Clock.{secondOf, hhmmssOf}
 use Rattle.clock.specs.declared.Second.{Second}
 use Rattle.clock.specs.declared.Second.the-variants.{Number as Clocked, Untrue as Unclocked}
@@ -62,10 +63,10 @@ use Rattle.reply.specs.declared.Reply.the-variants.{Settlement, Recall, 
 use Rattle.reply.specs.declared.ReadResponse.{ReadResponse}
 use Rattle.reply.specs.Reply.{onSecond, onOf, onHow, onWith, ending, refused, responseNumberAt, requestReferenceAt, batchAt, settledAt, rejectedAt, endedAt, answerAt, settlementOf, recallOf, settlementAt, recallAt, head, responseAt}
 use Rattle.reply.proofs.Digits.{value-small, digits-back, moment-digits}
-use Rattle.reply.specs.Sound.{Referred, Named, Sound, SoundRecall}
+use Rattle.reply.specs.Sound.{Referred, Named, Back, Shortness}
 use Rattle.reply.proofs.Allowed.{referred-text, stream-text, bin-text, sound-settlement, sound-recall}
 use Rattle.reply.proofs.RoundTrip.{zero-status, one-status, settlement-lines, recall-lines, settlement-short, recall-short}
-use Rattle.reply.proofs.Lines.{lined, line-apart, forbidden-there}
+use Rattle.reply.proofs.Lines.{forbidden-there}
 
 abbrev pub between : ℕ → ℕ → Part
 between a e = record { start = a; end = e }
@@ -78,7 +79,7 @@ no-value h = let z : _≡_ {A = ℕ} 0 1 = cc in absurd (omega arith)
 
 -- a field that was read: its line stands there, and its value was read where its part begins
 pub record Stood (s : List ℕ) (at : ℕ) (tag : List ℕ) (k : Kind) (i : Item) (c : Cursor) : Type 0 where
-  pub line : drop at s ≡ lined tag (textOf s (i .part)) ++ drop (c .at) s
+  pub line : drop at s ≡ line tag (textOf s (i .part)) ++ drop (c .at) s
   pub value : valueAt s (i .part .start) k ≡ Read (i .number) (i .part .end)
   pub there : drop (i .part .start) s ≡ textOf s (i .part) ++ (crlf ++ drop (c .at) s)
 
@@ -137,11 +138,11 @@ module _ (s : List ℕ) where
         rw (g .2) (rw (g .0 .size) at (value-small (take n (drop a s)) (g .0 .all))),
       )
 
-  pub numeral-stood : (at : ℕ) (tag : List ℕ) (n : ℕ) {i : Item} {c : Cursor} → fieldAt s at tag (Numeral n) ≡ Good i c → (drop at s ≡ lined tag (digitsOf n (i .number)) ++ drop (c .at) s) × (i .number < ten n)
+  pub numeral-stood : (at : ℕ) (tag : List ℕ) (n : ℕ) {i : Item} {c : Cursor} → fieldAt s at tag (Numeral n) ≡ Good i c → (drop at s ≡ line tag (digitsOf n (i .number)) ++ drop (c .at) s) × (i .number < ten n)
   numeral-stood at tag n {i} {c} h =
       let g = stood at tag (Numeral n) (numeral-order n) h in
       let t = numeral-text n (i .part .start) (i .number) (i .part .end) (g .value) in
-      (g .line ∙ ap (λ (l : List ℕ). lined tag l ++ drop (c .at) s) (t .0), t .1)
+      (g .line ∙ ap (λ (l : List ℕ). line tag l ++ drop (c .at) s) (t .0), t .1)
 
   -- ---- an empty value and four characters
 
@@ -166,10 +167,10 @@ module _ (s : List ℕ) where
   unfolding textOf
   no-text a e h = let z : e - a ≡ 0 = omega arith in rw z
 
-  pub empty-stood : (at : ℕ) (tag : List ℕ) {i : Item} {c : Cursor} → fieldAt s at tag Empty ≡ Good i c → drop at s ≡ lined tag [] ++ drop (c .at) s
+  pub empty-stood : (at : ℕ) (tag : List ℕ) {i : Item} {c : Cursor} → fieldAt s at tag Empty ≡ Good i c → drop at s ≡ line tag [] ++ drop (c .at) s
   empty-stood at tag {i} {c} h =
       let g = stood at tag Empty empty-order h in
-      g .line ∙ ap (λ (l : List ℕ). lined tag l ++ drop (c .at) s) (no-text (i .part .start) (i .part .end) (empty-place (i .part .start) (i .number) (i .part .end) (g .value)))
+      g .line ∙ ap (λ (l : List ℕ). line tag l ++ drop (c .at) s) (no-text (i .part .start) (i .part .end) (empty-place (i .part .start) (i .number) (i .part .end) (g .value)))
 
   -- four characters of a code and their number
   pub record Four (v : List ℕ) (w : ℕ) : Type 0 where
@@ -189,7 +190,7 @@ module _ (s : List ℕ) where
         number = w .1 ∙ sym (pack-take 4 0 (drop a s)) ∙ ap (packed 4) (sym t);
       }
 
-  pub word-stood : (at : ℕ) (tag : List ℕ) {i : Item} {c : Cursor} → fieldAt s at tag (Word 4) ≡ Good i c → (drop at s ≡ lined tag (textOf s (i .part)) ++ drop (c .at) s) × Four (textOf s (i .part)) (i .number)
+  pub word-stood : (at : ℕ) (tag : List ℕ) {i : Item} {c : Cursor} → fieldAt s at tag (Word 4) ≡ Good i c → (drop at s ≡ line tag (textOf s (i .part)) ++ drop (c .at) s) × Four (textOf s (i .part)) (i .number)
   word-stood at tag {i} {c} h =
       let g = stood at tag (Word 4) (word-order 4) h in
       (g .line, word-text (i .part .start) (i .number) (i .part .end) (g .value))
@@ -208,7 +209,7 @@ module _ (s : List ℕ) where
   reference-order : (a v e : ℕ) → referenceAt s a ≡ Read v e → a ≤ e
   reference-order a v e h = codes-sound s a 16 e (reference-inside a v e h .0) .1
 
-  pub reference-stood : (at : ℕ) (tag : List ℕ) {i : Item} {c : Cursor} → fieldAt s at tag Reference ≡ Good i c → (drop at s ≡ lined tag (longText (longOf (textOf s (i .part)))) ++ drop (c .at) s) × Referred (longOf (textOf s (i .part)))
+  pub reference-stood : (at : ℕ) (tag : List ℕ) {i : Item} {c : Cursor} → fieldAt s at tag Reference ≡ Good i c → (drop at s ≡ line tag (longText (longOf (textOf s (i .part)))) ++ drop (c .at) s) × Referred (longOf (textOf s (i .part)))
   unfolding textOf
   reference-stood at tag {i} {c} h =
       let g = stood at tag Reference reference-order h in
@@ -225,7 +226,7 @@ module _ (s : List ℕ) where
         codes = k .0 .all;
         free = sym (forbidden-there s a (textOf s (i .part)) (drop (c .at) s) (g .there)) ∙ w .2;
       } in
-      (g .line ∙ ap (λ (m : List ℕ). lined tag m ++ drop (c .at) s) (sym (referred-text r)), r)
+      (g .line ∙ ap (λ (m : List ℕ). line tag m ++ drop (c .at) s) (sym (referred-text r)), r)
 
   -- ---- a BIN
 
@@ -275,7 +276,7 @@ module _ (s : List ℕ) where
         numerals = g .0 .all;
       }
 
-  pub bin-stood : (at : ℕ) (tag : List ℕ) (p : Part) {i : Item} {c : Cursor} → fieldAt s at tag (Bin p) ≡ Good i c → (drop at s ≡ lined tag (textOf s (i .part)) ++ drop (c .at) s) × Binned (textOf s p) (textOf s (i .part))
+  pub bin-stood : (at : ℕ) (tag : List ℕ) (p : Part) {i : Item} {c : Cursor} → fieldAt s at tag (Bin p) ≡ Good i c → (drop at s ≡ line tag (textOf s (i .part)) ++ drop (c .at) s) × Binned (textOf s p) (textOf s (i .part))
   bin-stood at tag p {i} {c} h =
       let g = stood at tag (Bin p) (bin-order p) h in
       (g .line, bin-value p (i .part .start) (i .number) (i .part .end) (g .value))
@@ -300,11 +301,11 @@ no-with : {a : Answer} {p q : Part} {c : Cursor} (b : Break) → Without b ≡ W
 no-with b h = let z : _≡_ {A = ℕ} 0 1 = cc in omega arith
 
 module _ (s : List ℕ) where
-  pub number-back : {i : Item} {c : Cursor} → responseNumberAt s ≡ Good i c → (s ≡ line ":20:B" (digitsOf 7 (i .number)) ++ drop (c .at) s) × (i .number < 10000000)
+  pub number-back : {i : Item} {c : Cursor} → responseNumberAt s ≡ Good i c → (s ≡ line (bytes ":20:B") (digitsOf 7 (i .number)) ++ drop (c .at) s) × (i .number < 10000000)
   unfolding responseNumberAt
   number-back {i} {c} h = go (litAt s 0 (bytes ":20:")) refl h
     where
-      go : (r : At) → litAt s 0 (bytes ":20:") ≡ r → onNext r (Bad (absent 0)) (λ a. onGood (fieldAt s a (bytes "B") (Numeral 7)) (λ b. Bad (wrong 0)) (λ j d. Good (item a (j .part .end) (j .number)) d)) ≡ Good i c → (s ≡ line ":20:B" (digitsOf 7 (i .number)) ++ drop (c .at) s) × (i .number < 10000000)
+      go : (r : At) → litAt s 0 (bytes ":20:") ≡ r → onNext r (Bad (absent 0)) (λ a. onGood (fieldAt s a (bytes "B") (Numeral 7)) (λ b. Bad (wrong 0)) (λ j d. Good (item a (j .part .end) (j .number)) d)) ≡ Good i c → (s ≡ line (bytes ":20:B") (digitsOf 7 (i .number)) ++ drop (c .at) s) × (i .number < 10000000)
       go No l h = no-field h
       go (Next a) l h = taken (λ b. no-good (wrong 0)) (fieldAt s a (bytes "B") (Numeral 7)) h (λ j d g e.
           let y : item a (j .part .end) (j .number) ≡ i = cc in
@@ -313,13 +314,13 @@ module _ (s : List ℕ) where
           let w = numeral-stood s a (bytes "B") 7 g in
           rw (← x, ← z) (lit-sound s 0 (bytes ":20:") l ∙ ap (λ (m : List ℕ). bytes ":20:" ++ m) (w .0), w .1))
 
-  pub reference-back : (at : ℕ) {i : Item} {c : Cursor} → requestReferenceAt s at ≡ Good i c → (drop at s ≡ line ":77E:" [] ++ (line ":21:" (longText (codeOf s (i .part))) ++ drop (c .at) s)) × Referred (codeOf s (i .part))
+  pub reference-back : (at : ℕ) {i : Item} {c : Cursor} → requestReferenceAt s at ≡ Good i c → (drop at s ≡ line (bytes ":77E:") [] ++ (line (bytes ":21:") (longText (codeOf s (i .part))) ++ drop (c .at) s)) × Referred (codeOf s (i .part))
   unfolding requestReferenceAt codeOf
   reference-back at {i} {c} h = taken no-good (fieldAt s at (bytes ":77E:") Empty) h (λ j d g e.
       let w = reference-stood s (d .at) (bytes ":21:") e in
-      (empty-stood s at (bytes ":77E:") g ∙ ap (λ (m : List ℕ). line ":77E:" [] ++ m) (w .0), w .1))
+      (empty-stood s at (bytes ":77E:") g ∙ ap (λ (m : List ℕ). line (bytes ":77E:") [] ++ m) (w .0), w .1))
 
-  pub batch-back : (at : ℕ) {b : Batch} {c : Cursor} → batchAt s at ≡ Of b c → (drop at s ≡ line ":22A:" (shortText (b .stream .number)) ++ (line ":119:" (longText (codeOf s (b .bin .part))) ++ drop (c .at) s)) × Named (b .stream .number) (codeOf s (b .bin .part))
+  pub batch-back : (at : ℕ) {b : Batch} {c : Cursor} → batchAt s at ≡ Of b c → (drop at s ≡ line (bytes ":22A:") (shortText (b .stream .number)) ++ (line (bytes ":119:") (longText (codeOf s (b .bin .part))) ++ drop (c .at) s)) × Named (b .stream .number) (codeOf s (b .bin .part))
   unfolding batchAt codeOf
   batch-back at {b} {c} h = taken no-of (fieldAt s at (bytes ":22A:") (Word 4)) h (λ i d g e. taken no-of (fieldAt s (d .at) (bytes ":119:") (Bin (i .part))) e (λ j f k q.
       let y : record { stream = i; bin = j } ≡ b = cc in
@@ -338,17 +339,17 @@ module _ (s : List ℕ) where
       } in
       rw (← y, ← z) (
         u .0
-            ∙ ap (λ (m : List ℕ). lined (bytes ":22A:") m ++ drop (d .at) s) (sym (stream-text n))
-            ∙ ap (λ (m : List ℕ). line ":22A:" (shortText (i .number)) ++ m) (w .0 ∙ ap (λ (m : List ℕ). lined (bytes ":119:") m ++ drop (f .at) s) (w .1 .is ∙ sym (bin-text n))),
+            ∙ ap (λ (m : List ℕ). line (bytes ":22A:") m ++ drop (d .at) s) (sym (stream-text n))
+            ∙ ap (λ (m : List ℕ). line (bytes ":22A:") (shortText (i .number)) ++ m) (w .0 ∙ ap (λ (m : List ℕ). line (bytes ":119:") m ++ drop (f .at) s) (w .1 .is ∙ sym (bin-text n))),
         n,
       )))
 
-  pub settled-back : (at : ℕ) (status : Part) {o : Outcome} {p q : Part} {c : Cursor} → settledAt s at status ≡ How o p q c → (line ":451:" (bytes "0") ++ drop at s ≡ outcomeText o ++ drop (c .at) s) × (isOutcome o ≡ true)
+  pub settled-back : (at : ℕ) (status : Part) {o : Outcome} {p q : Part} {c : Cursor} → settledAt s at status ≡ How o p q c → (line (bytes ":451:") (bytes "0") ++ drop at s ≡ outcomeText o ++ drop (c .at) s) × (isOutcome o ≡ true)
   unfolding settledAt settledText isOutcome
   settled-back at status {o} {p} {q} {c} h = taken no-how (fieldAt s at (bytes ":13E:") (Numeral 12)) h (λ i d g e. day (dayOf (i .number / 1000000)) i d g refl e)
     where
       second : (k : ℕ) (i : Item) (d : Cursor) → fieldAt s at (bytes ":13E:") (Numeral 12) ≡ Good i d → dayOf (i .number / 1000000) ≡ Number k → (t : Second) → secondOf (i .number % 1000000) ≡ t → onSecond t (Unclear (wrong at)) (λ m. How (Settled k m) status (i .part) d) ≡ How o p q c
-          → (line ":451:" (bytes "0") ++ drop at s ≡ outcomeText o ++ drop (c .at) s) × (isOutcome o ≡ true)
+          → (line (bytes ":451:") (bytes "0") ++ drop at s ≡ outcomeText o ++ drop (c .at) s) × (isOutcome o ≡ true)
       second k i d g e (Clocked m) f h =
           let y : Settled k m ≡ o = cc in
           let z : d ≡ c = cc in
@@ -356,25 +357,25 @@ module _ (s : List ℕ) where
           let x = day-back (i .number / 1000000) k e in
           let w = second-back (i .number % 1000000) m f in
           let v : digitsOf 12 (i .number) ≡ digitsOf 6 (dateOf k) ++ digitsOf 6 (hhmmssOf m) = moment-digits (i .number) ∙ ap (λ (l : ℕ). digitsOf 6 l ++ digitsOf 6 (i .number % 1000000)) (sym (x .0)) ∙ ap (λ (l : ℕ). digitsOf 6 (dateOf k) ++ digitsOf 6 l) (sym (w .0)) in
-          rw (← y, ← z) (ap (λ (l : List ℕ). line ":451:" (bytes "0") ++ l) (n .0 ∙ ap (λ (l : List ℕ). lined (bytes ":13E:") l ++ drop (d .at) s) v), rw (lt-ltb k 36525 (x .1), lt-ltb m 86400 (w .1)) refl)
+          rw (← y, ← z) (ap (λ (l : List ℕ). line (bytes ":451:") (bytes "0") ++ l) (n .0 ∙ ap (λ (l : List ℕ). line (bytes ":13E:") l ++ drop (d .at) s) v), rw (lt-ltb k 36525 (x .1), lt-ltb m 86400 (w .1)) refl)
       second k i d g e Unclocked f h = absurd (no-how (wrong at) h)
 
       day : (x : Day) (i : Item) (d : Cursor) → fieldAt s at (bytes ":13E:") (Numeral 12) ≡ Good i d → dayOf (i .number / 1000000) ≡ x → onDay x (Unclear (wrong at)) (λ k. onSecond (secondOf (i .number % 1000000)) (Unclear (wrong at)) (λ m. How (Settled k m) status (i .part) d)) ≡ How o p q c
-          → (line ":451:" (bytes "0") ++ drop at s ≡ outcomeText o ++ drop (c .at) s) × (isOutcome o ≡ true)
+          → (line (bytes ":451:") (bytes "0") ++ drop at s ≡ outcomeText o ++ drop (c .at) s) × (isOutcome o ≡ true)
       day (Number k) i d g f e = second k i d g f (secondOf (i .number % 1000000)) refl e
       day Untrue i d g f e = absurd (no-how (wrong at) e)
 
-  pub rejected-back : (at : ℕ) (status : Part) {o : Outcome} {p q : Part} {c : Cursor} → rejectedAt s at status ≡ How o p q c → (line ":451:" (bytes "1") ++ drop at s ≡ outcomeText o ++ drop (c .at) s) × (isOutcome o ≡ true)
+  pub rejected-back : (at : ℕ) (status : Part) {o : Outcome} {p q : Part} {c : Cursor} → rejectedAt s at status ≡ How o p q c → (line (bytes ":451:") (bytes "1") ++ drop at s ≡ outcomeText o ++ drop (c .at) s) × (isOutcome o ≡ true)
   unfolding rejectedAt rejectedText isOutcome
   rejected-back at status {o} {p} {q} {c} h = taken no-how (fieldAt s at (bytes ":432:") (Numeral 2)) h (λ i d g e.
       let y : Rejected (i .number) ≡ o = cc in
       let z : d ≡ c = cc in
       let n = numeral-stood s at (bytes ":432:") 2 g in
-      rw (← y, ← z) (ap (λ (l : List ℕ). line ":451:" (bytes "1") ++ l) (n .0), lt-ltb (i .number) 100 (n .1)))
+      rw (← y, ← z) (ap (λ (l : List ℕ). line (bytes ":451:") (bytes "1") ++ l) (n .0), lt-ltb (i .number) 100 (n .1)))
 
   -- 451 before what follows it
-  status-back : (at n : ℕ) (v : List ℕ) {i : Item} {c : Cursor} → fieldAt s at (bytes ":451:") (Numeral 1) ≡ Good i c → i .number ≡ n → v ≡ digitsOf 1 n → drop at s ≡ lined (bytes ":451:") v ++ drop (c .at) s
-  status-back at n v {i} {c} g e d = numeral-stood s at (bytes ":451:") 1 g .0 ∙ ap (λ (l : List ℕ). lined (bytes ":451:") l ++ drop (c .at) s) (ap (digitsOf 1) e ∙ sym d)
+  status-back : (at n : ℕ) (v : List ℕ) {i : Item} {c : Cursor} → fieldAt s at (bytes ":451:") (Numeral 1) ≡ Good i c → i .number ≡ n → v ≡ digitsOf 1 n → drop at s ≡ line (bytes ":451:") v ++ drop (c .at) s
+  status-back at n v {i} {c} g e d = numeral-stood s at (bytes ":451:") 1 g .0 ∙ ap (λ (l : List ℕ). line (bytes ":451:") l ++ drop (c .at) s) (ap (digitsOf 1) e ∙ sym d)
 
   pub ended-back : (at : ℕ) {o : Outcome} {p q : Part} {c : Cursor} → endedAt s at ≡ How o p q c → (drop at s ≡ outcomeText o ++ drop (c .at) s) × (isOutcome o ≡ true)
   unfolding endedAt
@@ -400,16 +401,10 @@ module _ (s : List ℕ) where
           let u : Kept (n .number) ≡ a = cc in
           let z : l ≡ c = cc in
           let w = numeral-stood s (d .at) (bytes ":432:") 2 k in
-          rw (← u, ← z) (status-back at 1 (bytes "1") g (eqb-true _ _ f) one-status ∙ ap (λ (m : List ℕ). line ":451:" (bytes "1") ++ m) (w .0), lt-ltb (n .number) 100 (w .1)))
+          rw (← u, ← z) (status-back at 1 (bytes "1") g (eqb-true _ _ f) one-status ∙ ap (λ (m : List ℕ). line (bytes ":451:") (bytes "1") ++ m) (w .0), lt-ltb (n .number) 100 (w .1)))
       go i d g false e false f h = absurd (no-with (wrong at) h)
 
 -- ---- the whole
-
--- a text that is accepted is the text of its response, and the response is sound
-abbrev pub Back : List ℕ → Reply → Type 0
-Back s (Settlement r) = (s ≡ settlementText r) × Sound r
-Back s (Recall r) = (s ≡ recallText r) × SoundRecall r
-Back s (Refused b) = Unit {0}
 
 module _ (P : ReadResponse → Type 0) (bad : (b : Break) → P (refused b)) where
   by-good : (f : Field) {k : Item → Cursor → ReadResponse} → ((i : Item) (c : Cursor) → f ≡ Good i c → P (k i c)) → P (onGood f refused k)
@@ -437,7 +432,7 @@ module _ (P : ReadResponse → Type 0) (bad : (b : Break) → P (refused b)) whe
       test false e = go (drop-of-length-le s (ltb-false at (length s) e))
 
 module _ (s : List ℕ) (at : ℕ) (h : Head) (small : h .number .number < 10000000) where
-  settlement-back : s ≡ line ":20:B" (digitsOf 7 (h .number .number)) ++ (line ":12:" (digitsOf 3 132) ++ drop at s) → Back s (settlementAt s at h .reply)
+  settlement-back : s ≡ line (bytes ":20:B") (digitsOf 7 (h .number .number)) ++ (line (bytes ":12:") (digitsOf 3 132) ++ drop at s) → Back s (settlementAt s at h .reply)
   unfolding settlementAt settlementOf settlementText headText batchText
   settlement-back first =
       by-good P (λ b. tt) (requestReferenceAt s at) (λ i c g.
@@ -448,20 +443,20 @@ module _ (s : List ℕ) (at : ℕ) (h : Head) (small : h .number .number < 10000
       let v = batch-back s (c .at) k in
       let w = ended-back s (d .at) m in (
         first
-            ∙ ap (λ (l : List ℕ). line ":20:B" (digitsOf 7 (h .number .number)) ++ (line ":12:" (digitsOf 3 132) ++ l))
+            ∙ ap (λ (l : List ℕ). line (bytes ":20:B") (digitsOf 7 (h .number .number)) ++ (line (bytes ":12:") (digitsOf 3 132) ++ l))
             (u .0
-            ∙ ap (λ (l : List ℕ). line ":77E:" [] ++ (line ":21:" (longText (codeOf s (i .part))) ++ l))
+            ∙ ap (λ (l : List ℕ). line (bytes ":77E:") [] ++ (line (bytes ":21:") (longText (codeOf s (i .part))) ++ l))
             (v .0
-            ∙ ap (λ (l : List ℕ). line ":22A:" (shortText (b .stream .number)) ++ (line ":119:" (longText (codeOf s (b .bin .part))) ++ l))
+            ∙ ap (λ (l : List ℕ). line (bytes ":22A:") (shortText (b .stream .number)) ++ (line (bytes ":119:") (longText (codeOf s (b .bin .part))) ++ l))
             (w .0 ∙ ap (λ (l : List ℕ). outcomeText o ++ l) z ∙ append-nil (outcomeText o))))
-            ∙ sym (settlement-lines (line ":20:B" (digitsOf 7 (h .number .number))) (line ":12:" (digitsOf 3 132)) (line ":77E:" []) (line ":21:" (longText (codeOf s (i .part)))) (line ":22A:" (shortText (b .stream .number))) (line ":119:" (longText (codeOf s (b .bin .part)))) (outcomeText o)),
+            ∙ sym (settlement-lines (line (bytes ":20:B") (digitsOf 7 (h .number .number))) (line (bytes ":12:") (digitsOf 3 132)) (line (bytes ":77E:") []) (line (bytes ":21:") (longText (codeOf s (i .part)))) (line (bytes ":22A:") (shortText (b .stream .number))) (line (bytes ":119:") (longText (codeOf s (b .bin .part)))) (outcomeText o)),
         record { number = small; reference = u .1; batch = v .1; outcome = w .1 },
       )))))
     where
       P : ReadResponse → Type 0
       P x = Back s (x .reply)
 
-  recall-back : s ≡ line ":20:B" (digitsOf 7 (h .number .number)) ++ (line ":12:" (digitsOf 3 134) ++ drop at s) → Back s (recallAt s at h .reply)
+  recall-back : s ≡ line (bytes ":20:B") (digitsOf 7 (h .number .number)) ++ (line (bytes ":12:") (digitsOf 3 134) ++ drop at s) → Back s (recallAt s at h .reply)
   unfolding recallAt recallOf recallText headText
   recall-back first =
       by-good P (λ b. tt) (requestReferenceAt s at) (λ i c g.
@@ -470,11 +465,11 @@ module _ (s : List ℕ) (at : ℕ) (h : Head) (small : h .number .number < 10000
       let u = reference-back s at g in
       let w = answer-back s (c .at) m in (
         first
-            ∙ ap (λ (l : List ℕ). line ":20:B" (digitsOf 7 (h .number .number)) ++ (line ":12:" (digitsOf 3 134) ++ l))
+            ∙ ap (λ (l : List ℕ). line (bytes ":20:B") (digitsOf 7 (h .number .number)) ++ (line (bytes ":12:") (digitsOf 3 134) ++ l))
             (u .0
-            ∙ ap (λ (l : List ℕ). line ":77E:" [] ++ (line ":21:" (longText (codeOf s (i .part))) ++ l))
+            ∙ ap (λ (l : List ℕ). line (bytes ":77E:") [] ++ (line (bytes ":21:") (longText (codeOf s (i .part))) ++ l))
             (w .0 ∙ ap (λ (l : List ℕ). answerText a ++ l) z ∙ append-nil (answerText a)))
-            ∙ sym (recall-lines (line ":20:B" (digitsOf 7 (h .number .number))) (line ":12:" (digitsOf 3 134)) (line ":77E:" []) (line ":21:" (longText (codeOf s (i .part)))) (answerText a)),
+            ∙ sym (recall-lines (line (bytes ":20:B") (digitsOf 7 (h .number .number))) (line (bytes ":12:") (digitsOf 3 134)) (line (bytes ":77E:") []) (line (bytes ":21:") (longText (codeOf s (i .part)))) (answerText a)),
         record { number = small; reference = u .1; answer = w .1 },
       ))))
     where
@@ -491,8 +486,8 @@ accepted-back s =
     P : ReadResponse → Type 0
     P x = Back s (x .reply)
 
-    first : (n : ℕ) (i : Item) (c : Cursor) → responseNumberAt s ≡ Good i c → (t : Item) (d : Cursor) → fieldAt s (c .at) (bytes ":12:") (Numeral 3) ≡ Good t d → t .number ≡ n → s ≡ line ":20:B" (digitsOf 7 (i .number)) ++ (line ":12:" (digitsOf 3 n) ++ drop (d .at) s)
-    first n i c g t d k e = number-back s g .0 ∙ ap (λ (l : List ℕ). line ":20:B" (digitsOf 7 (i .number)) ++ l) (numeral-stood s (c .at) (bytes ":12:") 3 k .0 ∙ ap (λ (m : ℕ). line ":12:" (digitsOf 3 m) ++ drop (d .at) s) e)
+    first : (n : ℕ) (i : Item) (c : Cursor) → responseNumberAt s ≡ Good i c → (t : Item) (d : Cursor) → fieldAt s (c .at) (bytes ":12:") (Numeral 3) ≡ Good t d → t .number ≡ n → s ≡ line (bytes ":20:B") (digitsOf 7 (i .number)) ++ (line (bytes ":12:") (digitsOf 3 n) ++ drop (d .at) s)
+    first n i c g t d k e = number-back s g .0 ∙ ap (λ (l : List ℕ). line (bytes ":20:B") (digitsOf 7 (i .number)) ++ l) (numeral-stood s (c .at) (bytes ":12:") 3 k .0 ∙ ap (λ (m : ℕ). line (bytes ":12:") (digitsOf 3 m) ++ drop (d .at) s) e)
 
     kind : (i : Item) (c : Cursor) → responseNumberAt s ≡ Good i c → (t : Item) (d : Cursor) → fieldAt s (c .at) (bytes ":12:") (Numeral 3) ≡ Good t d → (x : Bool) → eqb (t .number) 132 ≡ x → (y : Bool) → eqb (t .number) 134 ≡ y
         → P (cond x (settlementAt s (d .at) (head i t)) (cond y (recallAt s (d .at) (head i t)) (refused (broken (c .at) OtherSubType))))
@@ -513,12 +508,6 @@ one-settlement s t r h k = settlement-written s r h .0 ∙ sym (settlement-writt
 
 pub one-recall : (s t : List ℕ) (r : Response134) → responseAt s .reply ≡ Recall r → responseAt t .reply ≡ Recall r → s ≡ t
 one-recall s t r h k = recall-written s r h .0 ∙ sym (recall-written t r k .0)
-
--- no text of more than 105 bytes is accepted
-abbrev pub Shortness : List ℕ → Reply → Type 0
-Shortness s (Settlement r) = length s ≤ 105
-Shortness s (Recall r) = length s ≤ 69
-Shortness s (Refused b) = Unit {0}
 
 pub accepted-short : (s : List ℕ) → Shortness s (responseAt s .reply)
 accepted-short s = go (responseAt s .reply) (accepted-back s)

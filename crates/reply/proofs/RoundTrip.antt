@@ -7,7 +7,7 @@ use native.Mathlib.Omega.{arith}
 use borrow.Author.Tests.{ltb-true}
 use lib.Dec.{ltb}
 use lib.ListN.{length, take, drop, length-append, length-drop}
-use Rattle.chars.specs.Words.{bytes}
+use Rattle.chars.specs.Words.{bytes, line}
 use Rattle.chars.specs.Chars.{isDigit}
 use Rattle.clock.specs.Clock.{hhmmssOf, secondOf}
 use Rattle.clock.proofs.Laws.{digits-in, digits-back}
@@ -24,7 +24,7 @@ use Rattle.values.specs.Values.{noPart, textOf, codeOf}
 use Rattle.values.specs.declared.Part.{Part}
 use Rattle.fields.specs.Fields.{place}
 use Rattle.fields.specs.declared.Field.the-variants.{Good}
-use Rattle.response.specs.Texts.{line, headText, batchText, settledText, rejectedText, outcomeText, settlementText, answerText, recallText}
+use Rattle.response.specs.Texts.{headText, batchText, settledText, rejectedText, outcomeText, settlementText, answerText, recallText}
 use Rattle.response.specs.Values.{isOutcome, isAnswer, isSettlement, isRecall, writtenIf, afterIf}
 use Rattle.response.proofs.ValueLaws.{written-held, written-whole}
 use Rattle.response.proofs.Laws.{recalled-end, kept-end, recall-length, settlement-most}
@@ -45,7 +45,7 @@ use Rattle.reply.proofs.Laws.{number-3, reference-2, batch-3, settled-4
 use Rattle.reply.proofs.Digits.{all-append, value-append, value-digits, value-back, digits-all}
 use Rattle.reply.specs.Sound.{Referred, Named, Sound, SoundRecall}
 use Rattle.reply.proofs.Allowed.{referred-text, stream-text, bin-text, settlement-sound, recall-sound}
-use Rattle.reply.proofs.Lines.{Found, lined, digits-found, numeral-found, empty-found, word-found, bin-found, reference-found}
+use Rattle.reply.proofs.Lines.{Found, digits-found, numeral-found, empty-found, word-found, bin-found, reference-found}
 
 -- 20 is found, and the rest after it
 record Numbered (s : List ℕ) (n : ℕ) (rest : List ℕ) : Type 0 where
@@ -109,28 +109,28 @@ module _ (s : List ℕ) where
   unfolding codeOf
   code-there p e h = ap longOf e ∙ sym h
 
-  numbered : (n : ℕ) (rest : List ℕ) → n < 10000000 → s ≡ line ":20:B" (digitsOf 7 n) ++ rest → Numbered s n rest
+  numbered : (n : ℕ) (rest : List ℕ) → n < 10000000 → s ≡ line (bytes ":20:B") (digitsOf 7 n) ++ rest → Numbered s n rest
   numbered n rest small h =
-      let h₁ = past s 0 (bytes ":20:") (lined (bytes "B") (digitsOf 7 n) ++ rest) h in
+      let h₁ = past s 0 (bytes ":20:") (line (bytes "B") (digitsOf 7 n) ++ rest) h in
       let f = numeral-found s 4 (bytes "B") rest 7 n (omega arith) small h₁ in
       record {
         part = record { start = 4; end = f .stop };
         next = f .next;
-        good = sym (number-3 s refl (lit-reads s 0 (bytes ":20:") (lined (bytes "B") (digitsOf 7 n) ++ rest) h) refl (f .good));
+        good = sym (number-3 s refl (lit-reads s 0 (bytes ":20:") (line (bytes "B") (digitsOf 7 n) ++ rest) h) refl (f .good));
         left = f .left;
       }
 
   module _ (at : ℕ) (rest : List ℕ) where
-    referred : {c : Code} (r : Referred c) → drop at s ≡ line ":77E:" [] ++ (line ":21:" (longText c) ++ rest) → Found s (requestReferenceAt s at) (r .name) 0 rest
+    referred : {c : Code} (r : Referred c) → drop at s ≡ line (bytes ":77E:") [] ++ (line (bytes ":21:") (longText c) ++ rest) → Found s (requestReferenceAt s at) (r .name) 0 rest
     referred r h =
-        let f = empty-found s at (bytes ":77E:") (line ":21:" (longText _) ++ rest) h in
-        let g = reference-found s (f .next) (bytes ":21:") (r .name) rest (r .some) (r .few) (r .codes) (r .free) (f .left ∙ ap (λ (l : List ℕ). line ":21:" l ++ rest) (referred-text r)) in
+        let f = empty-found s at (bytes ":77E:") (line (bytes ":21:") (longText _) ++ rest) h in
+        let g = reference-found s (f .next) (bytes ":21:") (r .name) rest (r .some) (r .few) (r .codes) (r .free) (f .left ∙ ap (λ (l : List ℕ). line (bytes ":21:") l ++ rest) (referred-text r)) in
         record { start = g .start; stop = g .stop; next = g .next; good = sym (reference-2 s at refl (f .good) refl) ∙ g .good; text = g .text; left = g .left }
 
-    addressed : {stream : ℕ} {bin : Code} → Named stream bin → drop at s ≡ line ":22A:" (shortText stream) ++ (line ":119:" (longText bin) ++ rest) → Addressed s at stream bin rest
+    addressed : {stream : ℕ} {bin : Code} → Named stream bin → drop at s ≡ line (bytes ":22A:") (shortText stream) ++ (line (bytes ":119:") (longText bin) ++ rest) → Addressed s at stream bin rest
     addressed {stream = stream} {bin = bin} n h =
-        let f = word-found s at (bytes ":22A:") (n .four) (line ":119:" (longText bin) ++ rest) (n .size) (n .codes) (h ∙ ap (λ (l : List ℕ). line ":22A:" l ++ (line ":119:" (longText bin) ++ rest)) (stream-text n)) in
-        let g = bin-found s (f .next) (bytes ":119:") (n .four) (n .digits) rest (record { start = f .start; end = f .stop }) (n .more) (n .numerals) (f .text) (f .left ∙ ap (λ (l : List ℕ). line ":119:" l ++ rest) (bin-text n)) in
+        let f = word-found s at (bytes ":22A:") (n .four) (line (bytes ":119:") (longText bin) ++ rest) (n .size) (n .codes) (h ∙ ap (λ (l : List ℕ). line (bytes ":22A:") l ++ (line (bytes ":119:") (longText bin) ++ rest)) (stream-text n)) in
+        let g = bin-found s (f .next) (bytes ":119:") (n .four) (n .digits) rest (record { start = f .start; end = f .stop }) (n .more) (n .numerals) (f .text) (f .left ∙ ap (λ (l : List ℕ). line (bytes ":119:") l ++ rest) (bin-text n)) in
         record {
           sp = record { start = f .start; end = f .stop };
           bp = record { start = g .start; end = g .stop };
@@ -146,10 +146,10 @@ module _ (s : List ℕ) where
       let g = and-true (ltb day 36525) (ltb second 86400) b in
       let in-century = ltb-true day 36525 (g .0) in
       let in-day = ltb-true second 86400 (g .1) in
-      let last = line ":13E:" (digitsOf 6 (dateOf day) ++ digitsOf 6 (hhmmssOf second)) in
+      let last = line (bytes ":13E:") (digitsOf 6 (dateOf day) ++ digitsOf 6 (hhmmssOf second)) in
       let ds = date-small day in
       let ts = time-small second in-day in
-      let f = numeral-found s at (bytes ":451:") last 1 0 (omega arith) (omega arith) (h ∙ ap (λ (l : List ℕ). line ":451:" l ++ last) zero-status) in
+      let f = numeral-found s at (bytes ":451:") last 1 0 (omega arith) (omega arith) (h ∙ ap (λ (l : List ℕ). line (bytes ":451:") l ++ last) zero-status) in
       let g = digits-found s (f .next) (bytes ":13E:") (digitsOf 6 (dateOf day) ++ digitsOf 6 (hhmmssOf second)) [] 12 (omega arith)
       (length-append (digitsOf 6 (dateOf day)) (digitsOf 6 (hhmmssOf second)) ∙ (omega (arith, digits-length 6 (dateOf day), digits-length 6 (hhmmssOf second))))
       (all-append isDigit (digitsOf 6 (dateOf day)) (digitsOf 6 (hhmmssOf second)) (digits-all 6 (dateOf day)) (digits-all 6 (hhmmssOf second)))
@@ -167,8 +167,8 @@ module _ (s : List ℕ) where
         left = g .left;
       }
   closed at (Rejected n) b h =
-      let last = line ":432:" (digitsOf 2 n) in
-      let f = numeral-found s at (bytes ":451:") last 1 1 (omega arith) (omega arith) (h ∙ ap (λ (l : List ℕ). line ":451:" l ++ last) one-status) in
+      let last = line (bytes ":432:") (digitsOf 2 n) in
+      let f = numeral-found s at (bytes ":451:") last 1 1 (omega arith) (omega arith) (h ∙ ap (λ (l : List ℕ). line (bytes ":451:") l ++ last) one-status) in
       let g = numeral-found s (f .next) (bytes ":432:") [] 2 n (omega arith) (ltb-true n 100 b) (f .left ∙ sym (append-nil last)) in
       let status : Part = record { start = f .start; end = f .stop } in
       record {
@@ -182,7 +182,7 @@ module _ (s : List ℕ) where
   replied : (at : ℕ) (a : Answer) → isAnswer a ≡ true → drop at s ≡ answerText a → Replied s at a
   unfolding rejectedText isAnswer
   replied at Recalled b h =
-      let f = numeral-found s at (bytes ":451:") [] 1 0 (omega arith) (omega arith) (h ∙ ap (line ":451:") zero-status ∙ sym (append-nil (line ":451:" (digitsOf 1 0)))) in
+      let f = numeral-found s at (bytes ":451:") [] 1 0 (omega arith) (omega arith) (h ∙ ap (line (bytes ":451:")) zero-status ∙ sym (append-nil (line (bytes ":451:") (digitsOf 1 0)))) in
       record {
         status = record { start = f .start; end = f .stop };
         detail = noPart;
@@ -191,8 +191,8 @@ module _ (s : List ℕ) where
         left = f .left;
       }
   replied at (Kept n) b h =
-      let last = line ":432:" (digitsOf 2 n) in
-      let f = numeral-found s at (bytes ":451:") last 1 1 (omega arith) (omega arith) (h ∙ ap (λ (l : List ℕ). line ":451:" l ++ last) one-status) in
+      let last = line (bytes ":432:") (digitsOf 2 n) in
+      let f = numeral-found s at (bytes ":451:") last 1 1 (omega arith) (omega arith) (h ∙ ap (λ (l : List ℕ). line (bytes ":451:") l ++ last) one-status) in
       let g = numeral-found s (f .next) (bytes ":432:") [] 2 n (omega arith) (ltb-true n 100 b) (f .left ∙ sym (append-nil last)) in
       record {
         status = record { start = f .start; end = f .stop };
@@ -212,7 +212,7 @@ recall-lines a b c d x = simp append-assoc
 reads-132 : (s : List ℕ) (r : Response132) → Sound r → s ≡ settlementText r → responseAt s .reply ≡ Settlement r
 unfolding settlementText headText batchText settlementOf
 reads-132 s r k h =
-    let h₀ = h ∙ settlement-lines (line ":20:B" (digitsOf 7 (r .number))) (line ":12:" (digitsOf 3 132)) (line ":77E:" []) (line ":21:" (longText (r .reference))) (line ":22A:" (shortText (r .stream))) (line ":119:" (longText (r .bin))) (outcomeText (r .outcome)) in
+    let h₀ = h ∙ settlement-lines (line (bytes ":20:B") (digitsOf 7 (r .number))) (line (bytes ":12:") (digitsOf 3 132)) (line (bytes ":77E:") []) (line (bytes ":21:") (longText (r .reference))) (line (bytes ":22A:") (shortText (r .stream))) (line (bytes ":119:") (longText (r .bin))) (outcomeText (r .outcome)) in
     let f = numbered s (r .number) _ (k .number) h₀ in
     let g = numeral-found s (f .next) (bytes ":12:") _ 3 132 (omega arith) (omega arith) (f .left) in
     let i = referred s (g .next) _ (k .reference) (g .left) in
@@ -226,7 +226,7 @@ reads-132 s r k h =
 reads-134 : (s : List ℕ) (r : Response134) → SoundRecall r → s ≡ recallText r → responseAt s .reply ≡ Recall r
 unfolding recallText headText recallOf
 reads-134 s r k h =
-    let h₀ = h ∙ recall-lines (line ":20:B" (digitsOf 7 (r .number))) (line ":12:" (digitsOf 3 134)) (line ":77E:" []) (line ":21:" (longText (r .reference))) (answerText (r .answer)) in
+    let h₀ = h ∙ recall-lines (line (bytes ":20:B") (digitsOf 7 (r .number))) (line (bytes ":12:") (digitsOf 3 134)) (line (bytes ":77E:") []) (line (bytes ":21:") (longText (r .reference))) (answerText (r .answer)) in
     let f = numbered s (r .number) _ (k .number) h₀ in
     let g = numeral-found s (f .next) (bytes ":12:") _ 3 134 (omega arith) (omega arith) (f .left) in
     let i = referred s (g .next) _ (k .reference) (g .left) in

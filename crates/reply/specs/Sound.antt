@@ -1,4 +1,4 @@
--- The responses that a text can hold, by the characters of their codes.
+-- The responses that a text can hold, by the characters of their codes, and the texts that are accepted.
 use Prim.Native.Nat.{ℕ, _≤_, _<_}
 use mathlib.Core.Path.{_≡_}
 use mathlib.Core.Bool.{true, false}
@@ -10,8 +10,11 @@ use Rattle.codes.specs.declared.Code.{Code}
 use Rattle.names.specs.Names.{forbidden}
 use Rattle.scan.specs.Spelling.{All}
 use Rattle.response.specs.Values.{isOutcome, isAnswer}
-use Rattle.response.specs.declared.Settlement.{Settlement}
-use Rattle.response.specs.declared.Recall.{Recall}
+use Rattle.response.specs.Texts.{settlementText, recallText}
+use Rattle.response.specs.declared.Settlement.{Settlement as Response132}
+use Rattle.response.specs.declared.Recall.{Recall as Response134}
+use Rattle.reply.specs.declared.Reply.{Reply}
+use Rattle.reply.specs.declared.Reply.the-variants.{Settlement, Recall, Refused}
 
 -- "reference, 1 to 16 of A-Z 0-9, not beginning RITS, ACLR or ASXC"
 pub record Referred (c : Code) : Type 0 where
@@ -33,13 +36,25 @@ pub record Named (stream : ℕ) (bin : Code) : Type 0 where
   pub codes : All isCode four
   pub numerals : All isDigit digits
 
-pub record Sound (r : Settlement) : Type 0 where
+pub record Sound (r : Response132) : Type 0 where
   pub number : r .number < 10000000
   pub reference : Referred (r .reference)
   pub batch : Named (r .stream) (r .bin)
   pub outcome : isOutcome (r .outcome) ≡ true
 
-pub record SoundRecall (r : Recall) : Type 0 where
+pub record SoundRecall (r : Response134) : Type 0 where
   pub number : r .number < 10000000
   pub reference : Referred (r .reference)
   pub answer : isAnswer (r .answer) ≡ true
+
+-- a text that is accepted is the text of its response, and the response is sound
+abbrev pub Back : List ℕ → Reply → Type 0
+Back s (Settlement r) = (s ≡ settlementText r) × Sound r
+Back s (Recall r) = (s ≡ recallText r) × SoundRecall r
+Back s (Refused b) = Unit {0}
+
+-- no text of more than 105 bytes is accepted
+abbrev pub Shortness : List ℕ → Reply → Type 0
+Shortness s (Settlement r) = length s ≤ 105
+Shortness s (Recall r) = length s ≤ 69
+Shortness s (Refused b) = Unit {0}

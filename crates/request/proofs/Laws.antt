@@ -8,6 +8,7 @@ use borrow.Author.Tests.{eq-eqb, ne-eqb, lt-ltb, le-ltb}
 use lib.ListN.{length, replicate}
 use Rattle.chars.specs.Words.{bytes, member}
 use Rattle.chars.specs.declared.Refusal.the-variants.{OtherSubType}
+use Rattle.codes.specs.Codes.{noCode}
 use Rattle.codes.specs.declared.Code.{Code}
 use Rattle.scan.specs.declared.Cursor.{Cursor}
 use Rattle.values.specs.Values.{noPart, codeOf}
@@ -43,8 +44,8 @@ module _ (s : List ℕ) (p : Part) where
   named-is e = simp e
 
 -- what a text does not have
-pub no-name : {p : Part} → p ≡ noPart → record { part = p; code = record { high = 0; low = 0 } } ≡ noName
-no-name e = simp e
+pub no-name : {p : Part} {c : Code} → p ≡ noPart → c ≡ noCode → record { part = p; code = c } ≡ noName
+no-name e f = simp (e, f)
 
 pub nowhere-is : {i : Item} {n : Named} → i ≡ nothing → n ≡ noName → address Nothing i n ≡ nowhere
 nowhere-is i n = simp (i, n)

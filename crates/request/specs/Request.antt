@@ -6,6 +6,7 @@ use lib.ListN.{length}
 use lib.Dec.{eqb, ltb}
 use Rattle.chars.specs.Words.{bytes, member}
 use Rattle.chars.specs.declared.Refusal.the-variants.{OtherSubType}
+use Rattle.codes.specs.Codes.{noCode}
 use Rattle.scan.specs.declared.Cursor.{Cursor}
 use Rattle.values.specs.Values.{noPart, codeOf}
 use Rattle.values.specs.declared.Part.{Part}
@@ -35,7 +36,7 @@ unfoldable pub namedAt : List ℕ → Part → Named
 namedAt s p = record { part = p; code = codeOf s p }
 
 abbrev pub noName : Named
-noName = record { part = noPart; code = record { high = 0; low = 0 } }
+noName = record { part = noPart; code = noCode }
 
 abbrev pub address : Reached → Item → Named → Address
 address r stream bin = record { reached = r; stream = stream; bin = bin }

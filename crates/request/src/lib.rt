@@ -26,7 +26,7 @@ impl Named {
     {
         Named {
             part: Part::nowhere(),
-            code: Code { high: 0, low: 0 },
+            code: Code::nothing(),
         }
     }
 }

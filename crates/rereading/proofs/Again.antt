@@ -32,7 +32,7 @@ use Rattle.administrator.specs.declared.Payable.{Payable}
 use Rattle.administrator.specs.declared.Order.{Order}
 use Rattle.administrator.specs.declared.Side.{Side}
 use Rattle.administrator.specs.declared.Side.the-variants.{Credit, Debit}
-use Rattle.rereading.specs.Values.{SameSide, SamePayment, SamePayable, SameHead, SameValues, Halves, Typed, payableOf, orderOf, SamePaid, SameNames, SameRequest}
+use Rattle.rereading.specs.Values.{SameSide, SamePayment, SamePayable, SameHead, SameValues, Halves, Typed, payableOf, orderOf, again, SamePaid, SameNames, SameRequest}
 use Rattle.rereading.proofs.Written.{long-halves}
 use Rattle.rereading.proofs.Back.{head-opens, credit-opens, debit-opens}
 use Rattle.rereading.proofs.ReadsBack.{onward, places, message-opens, reads-back, recall-reads-back}
@@ -221,9 +221,6 @@ same-request {o} a b = record {
 }
 
 -- ---- the theorems
-
-abbrev pub again : List ℕ → List ℕ
-again s = orderText (orderOf (requestAt s))
 
 -- an accepted settlement request, written again, is accepted and is the same request
 pub written-again : (s : List ℕ) → requestAt s .outcome ≡ Settlement → (requestAt (again s) .outcome ≡ Settlement) × SameRequest (requestAt s) (requestAt (again s))

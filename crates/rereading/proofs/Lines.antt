@@ -2,14 +2,16 @@
 use Prim.Native.Nat.{ℕ}
 use mathlib.Core.Path.{_≡_, refl, ap, sym, _∙_}
 use mathlib.Core.Bool.{Bool, true, false, not, false≢true}
-use mathlib.Core.List.{List, [], _∷_, _++_, append-assoc}
+use mathlib.Core.List.{List, [], _∷_, _++_}
 use borrow.Author.Tests.{eqb-true, not-true, eq-eqb}
 use lib.Dec.{eqb}
 use lib.ListN.{length, drop, take}
 use lib.Seq.{drop-append-seam, take-at, drop-at}
-use Rattle.scan.specs.Scan.{crlf}
+use Rattle.chars.specs.Words.{crlf, line}
+use Rattle.chars.proofs.Laws.{line-apart}
 use Rattle.scan.specs.Spelling.{All}
 use Rattle.fields.specs.Grammar.{Line}
+use Rattle.fields.proofs.Grammar.{line-text}
 use Rattle.administrator.specs.Orders.{valueText, lineText}
 use Rattle.administrator.specs.declared.Given.{Given}
 
@@ -48,15 +50,15 @@ pub split-size : (v w r q : List ℕ) → length v ≡ length w → v ++ r ≡ w
 split-size v w r q e h =
     (sym (take-at v r (length w) e) ∙ ap (take (length w)) h ∙ take-at w q (length w) refl, sym (drop-at v r (length w) e) ∙ ap (drop (length w)) h ∙ drop-at w q (length w) refl)
 
--- a line that is written, and what follows it
-pub line-opens : (tag : List ℕ) (given : Given) (q : List ℕ) → lineText tag given ++ q ≡ tag ++ (valueText given ++ (crlf ++ q))
+-- a line that is written
+pub line-given : (tag : List ℕ) (given : Given) → lineText tag given ≡ line tag (valueText given)
 unfolding lineText
-line-opens tag given q = append-assoc tag (valueText given ++ crlf) q ∙ ap (λ (l : List ℕ). tag ++ l) (append-assoc (valueText given) crlf q)
+line-given tag given = refl
 
 module _ (tag : List ℕ) {P : List ℕ → Type 0} {l r : List ℕ} (g : Line tag P l r) (given : Given) (q : List ℕ) (h : l ≡ lineText tag given ++ q) where
   untagged : g .value ++ (crlf ++ r) ≡ valueText given ++ (crlf ++ q)
   untagged =
-      let e : tag ++ (g .value ++ (crlf ++ r)) ≡ tag ++ (valueText given ++ (crlf ++ q)) = sym (g .text) ∙ h ∙ line-opens tag given q in
+      let e : tag ++ (g .value ++ (crlf ++ r)) ≡ tag ++ (valueText given ++ (crlf ++ q)) = sym (line-text g) ∙ h ∙ ap (λ (m : List ℕ). m ++ q) (line-given tag given) ∙ line-apart tag (valueText given) q in
       sym (drop-append-seam tag (g .value ++ (crlf ++ r))) ∙ ap (drop (length tag)) e ∙ drop-append-seam tag (valueText given ++ (crlf ++ q))
 
   -- the value of a line that was written is what was given, if neither has a CR

@@ -34,7 +34,7 @@ use Rattle.administrator.specs.declared.Side.{Side}
 use Rattle.administrator.specs.declared.Side.the-variants.{Credit, Debit}
 use Rattle.payments.specs.Payments.{noPayment}
 use Rattle.rereading.specs.Values.{SamePayable, SameHead, SameValues, Typed}
-use Rattle.rereading.proofs.Lines.{line-opens, line-same}
+use Rattle.rereading.proofs.Lines.{line-given, line-same}
 use Rattle.rereading.proofs.Written.{fixed-digits, fixed-value, numbers-back, time-back, count-back}
 use Rattle.rereading.proofs.Back.{digits-free, numbers-free, time-free, count-free, is-numbers-free, head-back, credit-opens, debit-opens, payment-back}
 
@@ -61,13 +61,13 @@ payments-are k ps = ap (λ (n : ℕ). paymentsTo n ps) (sym (zero-add k)) ∙ sy
 -- a payment begins with 127
 pub paid-tag : (side : Side) (cents bank : ℕ) (q : List ℕ) → (begins (bytes ":127:") (paymentOf side cents bank ++ q) ≡ true) × (begins (bytes ":175:") (paymentOf side cents bank ++ q) ≡ false)
 unfolding begins
-paid-tag Credit cents bank q = rw (credit-opens cents bank q, line-opens) (refl, refl)
-paid-tag (Debit letters) cents bank q = rw (debit-opens letters cents bank q, line-opens) (refl, refl)
+paid-tag Credit cents bank q = rw (credit-opens cents bank q, line-given) (refl, refl)
+paid-tag (Debit letters) cents bank q = rw (debit-opens letters cents bank q, line-given) (refl, refl)
 
 -- 203 is no payment and no activation
 pub counted-tag : (n : ℕ) (q : List ℕ) → (begins (bytes ":127:") (lineText (bytes ":203:") (Count n) ++ q) ≡ false) × (begins (bytes ":175:") (lineText (bytes ":203:") (Count n) ++ q) ≡ false)
 unfolding begins
-counted-tag n q = rw line-opens (refl, refl)
+counted-tag n q = rw line-given (refl, refl)
 
 not-activation : (k i n : ℕ) (ps : List Payable) (q : List ℕ) → begins (bytes ":175:") (onward k i ps ++ (lineText (bytes ":203:") (Count n) ++ q)) ≡ false
 not-activation zero i n ps q = counted-tag n q .1
@@ -113,7 +113,7 @@ activation-tag g = rw (g .text)
 
 timed-tag : (m : ℕ) (q : List ℕ) → begins (bytes ":175:") (lineText (bytes ":175:") (Time m) ++ q) ≡ true
 unfolding begins
-timed-tag m q = rw line-opens
+timed-tag m q = rw line-given
 
 activation-back : (a : Activation) {l r : List ℕ} (g : (l ≡ r) ⊎ Line (bytes ":175:") IsTime l r) (m : Activation) (q : List ℕ) → l ≡ activationText a ++ q → begins (bytes ":175:") q ≡ false → begins (bytes ":175:") r ≡ false → ActivationSays g m → (m ≡ a) × (r ≡ q)
 activation-back AtOnce (inl e) m q h u v says = (says, sym e ∙ h)

@@ -11,9 +11,8 @@ use Rattle.chars.specs.Words.{bytes}
 use Rattle.chars.specs.Chars.{isCode}
 use Rattle.clock.specs.Clock.{hhmmOf, minuteOf}
 use Rattle.clock.proofs.Laws.{hhmm-back}
-use Rattle.codes.specs.Codes.{spelled}
+use Rattle.codes.specs.Codes.{spelled, filled}
 use Rattle.codes.specs.declared.Code.{Code}
-use Rattle.codes.proofs.Laws.{filled}
 use Rattle.dates.specs.Dates.{dayOf, dateOf}
 use Rattle.dates.proofs.Laws.{date-back, date-small}
 use Rattle.put.specs.Digits.{digitsOf}
@@ -29,12 +28,12 @@ use Rattle.grammar.proofs.Values.{bin-codes}
 use Rattle.administrator.specs.Orders.{fixed, widthOn, widthOf, blank, proper, nameText, fourText, numbersText, timeText, amountText, countText, valueText, lineText}
 use Rattle.administrator.specs.declared.Given.{Given}
 use Rattle.administrator.proofs.Widths.{width-fits}
-use Rattle.rereading.proofs.Lines.{line-opens}
+use Rattle.rereading.proofs.Lines.{line-given}
 use Rattle.rereading.proofs.Written.{zero-no-code, long-spelled, fixed-digits, fixed-is, fixed-value, four-is, time-is, hhmm-value, amount-is, count-is}
 
 -- a line that is written
 abbrev pub line : (tag : List ℕ) (given : Given) (q : List ℕ) {P : List ℕ → Type 0} → P (valueText given) → Line tag P (lineText tag given ++ q) q
-line tag given q p = record { value = valueText given; text = line-opens tag given q; is = p }
+line tag given q p = record { value = valueText given; text = ap (λ (l : List ℕ). l ++ q) (line-given tag given); is = p }
 
 -- ---- a reference and a BIN
 

@@ -13,9 +13,9 @@ use Rattle.chars.specs.Chars.{isCode, isLetter, isDigit}
 use Rattle.clock.specs.Clock.{hhmmOf, minuteOf}
 use Rattle.clock.specs.declared.Minute.the-variants.{Number as Clocked}
 use Rattle.clock.proofs.Laws.{hhmm-in, hhmm-back}
-use Rattle.codes.specs.Codes.{packed, unpacked, longOf, named, shortText, spelled, longText}
+use Rattle.codes.specs.Codes.{packed, unpacked, longOf, named, shortText, spelled, longText, Bytes, filled}
 use Rattle.codes.specs.declared.Code.{Code}
-use Rattle.codes.proofs.Laws.{Bytes, filled, pack-unpack, unpack-pack, unpack-length, spelled-length, filled-split, bytes-drop}
+use Rattle.codes.proofs.Laws.{pack-unpack, unpack-pack, unpack-length, spelled-length, filled-split, bytes-drop}
 use Rattle.put.specs.Digits.{digitsOf}
 use Rattle.put.proofs.Laws.{digits-length}
 use Rattle.reply.proofs.Digits.{code-bytes, digits-all, value-back}

@@ -2,17 +2,18 @@
 use Prim.Native.Nat.{ℕ, _<_}
 use mathlib.Core.Path.{_≡_}
 use mathlib.Core.Bool.{cond}
-use mathlib.Core.List.{map}
+use mathlib.Core.List.{List, map}
 use lib.Dec.{eqb}
 use lib.ListN.{getD}
 use Rattle.codes.specs.declared.Code.{Code}
 use Rattle.dates.specs.Dates.{dayOf, dateOf}
 use Rattle.dates.specs.declared.Day.the-variants.{Number}
 use Rattle.payments.specs.declared.Payment.{Payment}
+use Rattle.request.specs.Request.{requestAt}
 use Rattle.request.specs.declared.Head.{Head}
 use Rattle.request.specs.declared.Reading.{Reading}
 use Rattle.payments.specs.Payments.{noPayment}
-use Rattle.administrator.specs.Orders.{noPayable}
+use Rattle.administrator.specs.Orders.{noPayable, orderText}
 use Rattle.administrator.specs.declared.Payable.{Payable}
 use Rattle.administrator.specs.declared.Order.{Order}
 use Rattle.administrator.specs.declared.Side.{Side}
@@ -74,6 +75,10 @@ orderOf r = record {
   payments = map payableOf (r .payments);
   n = r .n;
 }
+
+-- the text of a request that is written again from its reading
+abbrev pub again : List ℕ → List ℕ
+again s = orderText (orderOf (requestAt s))
 
 -- two readings of the same request: all but the places where the fields stand
 pub record SamePaid (p t : Payment) : Type 0 where

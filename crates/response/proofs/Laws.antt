@@ -8,7 +8,7 @@ use borrow.Author.Tests.{le-leb, lt-leb, leb-true, leb-false, not-true, not-fals
 use lib.Dec.{leb}
 use lib.ListN.{length, length-append}
 use lib.Seq.{sets}
-use Rattle.chars.specs.Words.{bytes}
+use Rattle.chars.specs.Words.{bytes, crlf, line}
 use Rattle.chars.specs.declared.Refusal.the-variants.{ShortBuffer}
 use Rattle.codes.specs.Codes.{shortText, longText}
 use Rattle.codes.specs.declared.Code.{Code}
@@ -17,7 +17,7 @@ use Rattle.dates.specs.Dates.{dateOf}
 use Rattle.clock.specs.Clock.{hhmmssOf}
 use Rattle.put.specs.Digits.{digitsOf}
 use Rattle.put.proofs.Laws.{then, three, digits-length}
-use Rattle.response.specs.Texts.{line, headText, batchText, settledText, rejectedText, outcomeText, settlementText, answerText, recallText, written, after}
+use Rattle.response.specs.Texts.{headText, batchText, settledText, rejectedText, outcomeText, settlementText, answerText, recallText, written, after}
 use Rattle.response.specs.declared.Outcome.{Outcome}
 use Rattle.response.specs.declared.Outcome.the-variants.{Settled, Rejected}
 use Rattle.response.specs.declared.Answer.{Answer}
@@ -50,14 +50,14 @@ rejected-length number = simp (length-append, digits-length)
 
 -- ---- pieces
 
-pub sub-type-pieces : (d : List ℕ) → bytes ":12:" ++ (d ++ bytes "\r\n:77E:\r\n") ≡ line ":12:" d ++ line ":77E:" []
+pub sub-type-pieces : (d : List ℕ) → bytes ":12:" ++ (d ++ bytes "\r\n:77E:\r\n") ≡ line (bytes ":12:") d ++ line (bytes ":77E:") []
 sub-type-pieces d = simp append-assoc
 
-pub settled-pieces : (day second : ℕ) → (bytes ":451:0\r\n:13E:" ++ (digitsOf 6 (dateOf day) ++ digitsOf 6 (hhmmssOf second))) ++ bytes "\r\n" ≡ settledText day second
+pub settled-pieces : (day second : ℕ) → (bytes ":451:0\r\n:13E:" ++ (digitsOf 6 (dateOf day) ++ digitsOf 6 (hhmmssOf second))) ++ crlf ≡ settledText day second
 unfolding settledText
 settled-pieces day second = simp append-assoc
 
-pub head-pieces : (number kind : ℕ) (reference : Code) → line ":20:B" (digitsOf 7 number) ++ ((line ":12:" (digitsOf 3 kind) ++ line ":77E:" []) ++ line ":21:" (longText reference)) ≡ headText number kind reference
+pub head-pieces : (number kind : ℕ) (reference : Code) → line (bytes ":20:B") (digitsOf 7 number) ++ ((line (bytes ":12:") (digitsOf 3 kind) ++ line (bytes ":77E:") []) ++ line (bytes ":21:") (longText reference)) ≡ headText number kind reference
 unfolding headText
 head-pieces number kind reference = simp append-assoc
 

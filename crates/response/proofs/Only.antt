@@ -4,14 +4,10 @@ use mathlib.Core.Path.{_≡_, sym, _∙_}
 use mathlib.Core.Bool.{Bool}
 use mathlib.Core.List.{List}
 use Rattle.response.specs.Texts.{settlementText, recallText}
-use Rattle.response.specs.Values.{isSettlement, isRecall, writtenIf, afterIf}
+use Rattle.response.specs.Values.{isSettlement, isRecall, Wrote}
 use Rattle.response.specs.declared.Settlement.{Settlement}
 use Rattle.response.specs.declared.Recall.{Recall}
 use Rattle.response.specs.declared.Written.{Written}
-
--- what a writer ensures of a text
-abbrev pub Wrote : Bool → List ℕ → ℕ → List ℕ → Written → List ℕ → Type 0
-Wrote holds out at text w o = (w ≡ writtenIf holds out at text) × (o ≡ afterIf holds out at text)
 
 one-text : (holds : Bool) (out : List ℕ) (at : ℕ) (text : List ℕ) {w v : Written} {o p : List ℕ} → Wrote holds out at text w o → Wrote holds out at text v p → (w ≡ v) × (o ≡ p)
 one-text holds out at text f g = (f .0 ∙ sym (g .0), f .1 ∙ sym (g .1))

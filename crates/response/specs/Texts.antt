@@ -1,12 +1,11 @@
 -- The texts of responses, line by line as document 01 has them.
 use Prim.Native.Nat.{ℕ, _+_}
-use Prim.Native.String.{String}
 use mathlib.Core.Bool.{Bool, cond}
 use mathlib.Core.List.{List, [], _++_}
 use lib.Dec.{leb}
 use lib.ListN.{length}
 use lib.Seq.{sets}
-use Rattle.chars.specs.Words.{bytes}
+use Rattle.chars.specs.Words.{bytes, line}
 use Rattle.chars.specs.declared.Refusal.the-variants.{ShortBuffer}
 use Rattle.codes.specs.Codes.{shortText, longText}
 use Rattle.codes.specs.declared.Code.{Code}
@@ -22,29 +21,25 @@ use Rattle.response.specs.declared.Recall.{Recall}
 use Rattle.response.specs.declared.Written.{Written}
 use Rattle.response.specs.declared.Written.the-variants.{End, Unfit}
 
--- "A line is `:tag:value` and CR LF."
-abbrev pub line : String → List ℕ → List ℕ
-line tag value = bytes tag ++ (value ++ bytes "\r\n")
-
 -- "20 (`B` and seven digits ..), 12, 77E, 21 (the request's reference)"
 unfoldable pub headText : ℕ → ℕ → Code → List ℕ
 headText number subType reference =
-    line ":20:B" (digitsOf 7 number)
-    ++ (line ":12:" (digitsOf 3 subType)
-    ++ (line ":77E:" []
-    ++ line ":21:" (longText reference)))
+    line (bytes ":20:B") (digitsOf 7 number)
+    ++ (line (bytes ":12:") (digitsOf 3 subType)
+    ++ (line (bytes ":77E:") []
+    ++ line (bytes ":21:") (longText reference)))
 
 -- "22A, 119"
 unfoldable pub batchText : ℕ → Code → List ℕ
-batchText stream bin = line ":22A:" (shortText stream) ++ line ":119:" (longText bin)
+batchText stream bin = line (bytes ":22A:") (shortText stream) ++ line (bytes ":119:") (longText bin)
 
 -- "451 (0 or 1), then 13E (date, HHMMSS) after 0"
 unfoldable pub settledText : ℕ → ℕ → List ℕ
-settledText day second = line ":451:" (bytes "0") ++ line ":13E:" (digitsOf 6 (dateOf day) ++ digitsOf 6 (hhmmssOf second))
+settledText day second = line (bytes ":451:") (bytes "0") ++ line (bytes ":13E:") (digitsOf 6 (dateOf day) ++ digitsOf 6 (hhmmssOf second))
 
 -- "or 432 (two digits) after 1"
 unfoldable pub rejectedText : ℕ → List ℕ
-rejectedText number = line ":451:" (bytes "1") ++ line ":432:" (digitsOf 2 number)
+rejectedText number = line (bytes ":451:") (bytes "1") ++ line (bytes ":432:") (digitsOf 2 number)
 
 abbrev pub outcomeText : Outcome → List ℕ
 outcomeText (Settled day second) = settledText day second
@@ -56,7 +51,7 @@ settlementText r =
     headText (r .number) 132 (r .reference) ++ (batchText (r .stream) (r .bin) ++ outcomeText (r .outcome))
 
 abbrev pub answerText : Answer → List ℕ
-answerText Recalled = line ":451:" (bytes "0")
+answerText Recalled = line (bytes ":451:") (bytes "0")
 answerText (Kept number) = rejectedText number
 
 -- "134: 20, 12, 77E, 21, 451, and 432 after 1"

@@ -1,5 +1,6 @@
 -- The responses that a text can hold: those that its reader would take.
 use Prim.Native.Nat.{ℕ}
+use mathlib.Core.Path.{_≡_}
 use mathlib.Core.Bool.{Bool, true, _&&_, cond}
 use mathlib.Core.List.{List}
 use lib.Dec.{eqb, ltb}
@@ -53,3 +54,7 @@ writtenIf holds out at text = cond holds (written out at text) (Unfit Malformed)
 
 abbrev pub afterIf : Bool → List ℕ → ℕ → List ℕ → List ℕ
 afterIf holds out at text = cond holds (after out at text) out
+
+-- what a writer answers and leaves of a text
+abbrev pub Wrote : Bool → List ℕ → ℕ → List ℕ → Written → List ℕ → Type 0
+Wrote holds out at text w o = (w ≡ writtenIf holds out at text) × (o ≡ afterIf holds out at text)

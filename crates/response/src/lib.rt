@@ -8,11 +8,11 @@ ghost use Prim.Native.Nat.{_+_, _≤_};
 ghost use lib.ListN.{length};
 ghost use lib.Dec.{leb};
 ghost use lib.Seq.{sets};
-ghost use Rattle.chars.specs.Words.{bytes};
+ghost use Rattle.chars.specs.Words.{bytes, line};
 ghost use Rattle.codes.specs.Codes.{shortText, longText};
 ghost use Rattle.put.specs.Digits.{digitsOf};
-ghost use Rattle.response.specs.Texts.{line, headText, batchText, settledText, rejectedText, outcomeText, settlementText, answerText, recallText};
-ghost use Rattle.response.specs.Values.{isOutcome, isAnswer, isSettlement, isRecall, writtenIf, afterIf};
+ghost use Rattle.response.specs.Texts.{headText, batchText, settledText, rejectedText, outcomeText, settlementText, answerText, recallText};
+ghost use Rattle.response.specs.Values.{isOutcome, isAnswer, isSettlement, isRecall, Wrote};
 
 // How a batch ended: settled on a day at a second of it, or rejected with a number.
 pub enum Outcome {
@@ -48,24 +48,71 @@ pub enum Written {
     Unfit(Refusal),
 }
 
+// A tag of two characters between its colons, one of three, and CR LF.
+const SHORT_TAG: usize = 4;
+
+const TAG: usize = 5;
+
+const LINE_END: usize = 2;
+
+// How many digits 20, 12, the date and the time of 13E, 451 and 432 have.
+const NUMBER: usize = 7;
+
+const SUB_TYPE: usize = 3;
+
+const DATE: usize = 6;
+
+const TIME: usize = 6;
+
+const STATUS: usize = 1;
+
+const REFUSAL: usize = 2;
+
+// In the line of each: the number, which a `B` stands before, and the ends of it, of the sub type and of the stream.
+const NUMBER_AT: usize = SHORT_TAG + 1;
+
+const NUMBER_END: usize = NUMBER_AT + NUMBER;
+
+const SUB_TYPE_END: usize = SHORT_TAG + SUB_TYPE;
+
+const STREAM_END: usize = TAG + Code::SHORT;
+
 // The head is 20, 12, 77E and 21: where 12 and 21 begin in it, and how long it is without the reference.
-const SUB_TYPE_AT: usize = 14;
+const SUB_TYPE_AT: usize = NUMBER_END + LINE_END;
 
-const REFERENCE_AT: usize = 30;
+const REFERENCE_AT: usize = SUB_TYPE_AT + SUB_TYPE_END + LINE_END + TAG + LINE_END;
 
-const HEAD: usize = 36;
+const HEAD: usize = REFERENCE_AT + SHORT_TAG + LINE_END;
 
 // The batch is 22A and 119: where 119 begins in it, and how long it is without the BIN.
-const BIN_AT: usize = 11;
+const BIN_AT: usize = STREAM_END + LINE_END;
 
-const BATCH: usize = 18;
+const BATCH: usize = BIN_AT + TAG + LINE_END;
 
-// How long the end is: 451 and 13E, 451 and 432, 451 alone.
-const SETTLED: usize = 27;
+// The end is 451 alone, or 451 and 13E, or 451 and 432: how long each is, and where the second value stands in it.
+const RECALLED: usize = TAG + STATUS + LINE_END;
 
-const REJECTED: usize = 17;
+const DATE_AT: usize = RECALLED + TAG;
 
-const RECALLED: usize = 8;
+const TIME_AT: usize = DATE_AT + DATE;
+
+const TIME_END: usize = TIME_AT + TIME;
+
+const SETTLED: usize = TIME_END + LINE_END;
+
+const REFUSAL_AT: usize = RECALLED + TAG;
+
+const REFUSAL_END: usize = REFUSAL_AT + REFUSAL;
+
+const REJECTED: usize = REFUSAL_END + LINE_END;
+
+// How many characters a BIN has.
+const BIN: usize = 8;
+
+impl Settlement {
+    // A 132 of a settled batch, its reference of 16 characters.
+    pub const LONGEST: usize = HEAD + Code::LONGEST + BATCH + BIN + SETTLED;
+}
 
 // The number after the last of seven digits, of two digits, and the day after the last of 2099.
 const NUMBERS: u64 = 10_000_000;
@@ -82,51 +129,51 @@ const RECALL: u64 = 134;
 // 20: the number of the response.
 fn put_number(out: &mut [u8], at: usize, number: u64)
     requires { ⌜ at + 14 ≤ length (now out) ⌝ }
-    ensures { λ _. ⌜ now (out .exit) ≡ sets (now (out .entry)) at (line ":20:B" (digitsOf 7 number)) ⌝ }
+    ensures { λ _. ⌜ now (out .exit) ≡ sets (now (out .entry)) at (line (bytes ":20:B") (digitsOf 7 number)) ⌝ }
 {
     put::bytes(out, at, b":20:B");
-    put::digits(out, at + 5, number, 7);
-    put::bytes(out, at + 12, b"\r\n");
+    put::digits(out, at + NUMBER_AT, number, NUMBER);
+    put::bytes(out, at + NUMBER_END, b"\r\n");
 }
 
 // 12 and 77E.
 fn put_sub_type(out: &mut [u8], at: usize, kind: u64)
     requires { ⌜ at + 16 ≤ length (now out) ⌝ }
-    ensures { λ _. ⌜ now (out .exit) ≡ sets (now (out .entry)) at (line ":12:" (digitsOf 3 kind) ++ line ":77E:" []) ⌝ }
+    ensures { λ _. ⌜ now (out .exit) ≡ sets (now (out .entry)) at (line (bytes ":12:") (digitsOf 3 kind) ++ line (bytes ":77E:") []) ⌝ }
 {
     put::bytes(out, at, b":12:");
-    put::digits(out, at + 4, kind, 3);
-    put::bytes(out, at + 7, b"\r\n:77E:\r\n");
+    put::digits(out, at + SHORT_TAG, kind, SUB_TYPE);
+    put::bytes(out, at + SUB_TYPE_END, b"\r\n:77E:\r\n");
 }
 
 // 21: the reference of the request.
 fn put_reference(out: &mut [u8], at: usize, reference: Code, n: usize)
     requires { ⌜ (n ≡ length (longText reference)) × (at + (6 + n) ≤ length (now out)) ⌝ }
-    ensures { λ _. ⌜ now (out .exit) ≡ sets (now (out .entry)) at (line ":21:" (longText reference)) ⌝ }
+    ensures { λ _. ⌜ now (out .exit) ≡ sets (now (out .entry)) at (line (bytes ":21:") (longText reference)) ⌝ }
 {
     put::bytes(out, at, b":21:");
-    put::long_code(out, at + 4, reference);
-    put::bytes(out, at + 4 + n, b"\r\n");
+    put::long_code(out, at + SHORT_TAG, reference);
+    put::bytes(out, at + SHORT_TAG + n, b"\r\n");
 }
 
 // 22A: the stream.
 fn put_stream(out: &mut [u8], at: usize, stream: u64)
     requires { ⌜ at + 11 ≤ length (now out) ⌝ }
-    ensures { λ _. ⌜ now (out .exit) ≡ sets (now (out .entry)) at (line ":22A:" (shortText stream)) ⌝ }
+    ensures { λ _. ⌜ now (out .exit) ≡ sets (now (out .entry)) at (line (bytes ":22A:") (shortText stream)) ⌝ }
 {
     put::bytes(out, at, b":22A:");
-    put::short_code(out, at + 5, stream);
-    put::bytes(out, at + 9, b"\r\n");
+    put::short_code(out, at + TAG, stream);
+    put::bytes(out, at + STREAM_END, b"\r\n");
 }
 
 // 119: the BIN.
 fn put_bin(out: &mut [u8], at: usize, bin: Code, n: usize)
     requires { ⌜ (n ≡ length (longText bin)) × (at + (7 + n) ≤ length (now out)) ⌝ }
-    ensures { λ _. ⌜ now (out .exit) ≡ sets (now (out .entry)) at (line ":119:" (longText bin)) ⌝ }
+    ensures { λ _. ⌜ now (out .exit) ≡ sets (now (out .entry)) at (line (bytes ":119:") (longText bin)) ⌝ }
 {
     put::bytes(out, at, b":119:");
-    put::long_code(out, at + 5, bin);
-    put::bytes(out, at + 5 + n, b"\r\n");
+    put::long_code(out, at + TAG, bin);
+    put::bytes(out, at + TAG + n, b"\r\n");
 }
 
 // 451 and 13E of a settled batch.
@@ -134,11 +181,10 @@ fn put_settled(out: &mut [u8], at: usize, day: u64, second: u64)
     requires { ⌜ at + 27 ≤ length (now out) ⌝ }
     ensures { λ _. ⌜ now (out .exit) ≡ sets (now (out .entry)) at (settledText day second) ⌝ }
 {
-    let clock = Clock { seconds: second };
     put::bytes(out, at, b":451:0\r\n:13E:");
-    put::digits(out, at + 13, dates::date_of(day), 6);
-    put::digits(out, at + 19, clock.digits(), 6);
-    put::bytes(out, at + 25, b"\r\n");
+    put::digits(out, at + DATE_AT, dates::date_of(day), DATE);
+    put::digits(out, at + TIME_AT, clock::hhmmss_of(second), TIME);
+    put::bytes(out, at + TIME_END, b"\r\n");
 }
 
 // 451 and 432 of a refusal.
@@ -147,8 +193,8 @@ fn put_rejected(out: &mut [u8], at: usize, number: u64)
     ensures { λ _. ⌜ now (out .exit) ≡ sets (now (out .entry)) at (rejectedText number) ⌝ }
 {
     put::bytes(out, at, b":451:1\r\n:432:");
-    put::digits(out, at + 13, number, 2);
-    put::bytes(out, at + 15, b"\r\n");
+    put::digits(out, at + REFUSAL_AT, number, REFUSAL);
+    put::bytes(out, at + REFUSAL_END, b"\r\n");
 }
 
 // The lines that both responses begin with; n is the length of the reference.
@@ -259,7 +305,7 @@ fn is_settlement(r: Settlement) -> bool
 
 // 132: written whole from a place on, or not at all: 87 for what no text can hold, then 07.
 pub fn write_settlement(out: &mut [u8], at: usize, r: Settlement) -> Written
-    ensures { λ w. ⌜ (w ≡ writtenIf (isSettlement r) (now (out .entry)) at (settlementText r)) × (now (out .exit) ≡ afterIf (isSettlement r) (now (out .entry)) at (settlementText r)) ⌝ }
+    ensures { λ w. ⌜ Wrote (isSettlement r) (now (out .entry)) at (settlementText r) w (now (out .exit)) ⌝ }
 {
     if !is_settlement(r) {
         return Written::Unfit(Refusal::Malformed);
@@ -341,7 +387,7 @@ fn is_recall(r: Recall) -> bool
 
 // 134: written whole from a place on, or not at all: 87 for what no text can hold, then 07.
 pub fn write_recall(out: &mut [u8], at: usize, r: Recall) -> Written
-    ensures { λ w. ⌜ (w ≡ writtenIf (isRecall r) (now (out .entry)) at (recallText r)) × (now (out .exit) ≡ afterIf (isRecall r) (now (out .entry)) at (recallText r)) ⌝ }
+    ensures { λ w. ⌜ Wrote (isRecall r) (now (out .entry)) at (recallText r) w (now (out .exit)) ⌝ }
 {
     if !is_recall(r) {
         return Written::Unfit(Refusal::Malformed);

@@ -10,7 +10,8 @@ use lib.Dec.{leb, ltb, eqb}
 use lib.ListN.{length, getD, drop, take, length-take}
 use lib.Seq.{take-take, take-nil, getD-take}
 use Rattle.chars.specs.Chars.{isCode, isDigit, digitValue}
-use Rattle.scan.specs.Scan.{crlf, onNext, begins, litAt, run, codesAt, codeAt, digits, digitsAt, numberAt, lineEnd, lineEndAt}
+use Rattle.chars.specs.Words.{crlf}
+use Rattle.scan.specs.Scan.{onNext, begins, litAt, run, codesAt, codeAt, digits, digitsAt, numberAt, lineEnd, lineEndAt}
 use Rattle.scan.specs.declared.Run.{Run}
 use Rattle.scan.specs.declared.At.{At}
 use Rattle.scan.specs.declared.At.the-variants.{Next, No}

@@ -11,7 +11,8 @@ use lib.Dec.{ltb}
 use lib.ListN.{length, getD, drop, drop-of-length-le, length-drop}
 use lib.Seq.{drop-cons}
 use Rattle.chars.specs.Chars.{isCode, isDigit, digitValue}
-use Rattle.scan.specs.Scan.{crlf, begins, litAt, run, codesAt, codeAt, digits, digitsAt, numberAt, lineEnd, most, ten}
+use Rattle.chars.specs.Words.{crlf}
+use Rattle.scan.specs.Scan.{begins, litAt, run, codesAt, codeAt, digits, digitsAt, numberAt, lineEnd, most, ten}
 use Rattle.scan.specs.declared.Run.{Run}
 use Rattle.scan.specs.declared.Fixed.the-variants.{Value, No as Unfit}
 use Rattle.scan.specs.declared.At.{At}

@@ -11,7 +11,8 @@ use lib.Dec.{leb, eqb}
 use lib.ListN.{length, getD, drop, take, take-append-drop, length-take}
 use lib.Seq.{drop-cons, drop-drop, drop-append-seam, take-append-seam}
 use Rattle.chars.specs.Chars.{isCode, isDigit, digitValue}
-use Rattle.scan.specs.Scan.{crlf, begins, litAt, run, codesAt, codeAt, digits, digitsAt, numberAt, lineEnd, lineEndAt}
+use Rattle.chars.specs.Words.{crlf}
+use Rattle.scan.specs.Scan.{begins, litAt, run, codesAt, codeAt, digits, digitsAt, numberAt, lineEnd, lineEndAt}
 use Rattle.scan.specs.declared.Run.{Run}
 use Rattle.scan.specs.declared.At.{At}
 use Rattle.scan.specs.declared.At.the-variants.{Next, No}

@@ -4,7 +4,7 @@ use mathlib.Core.List.{List, [], _∷_}
 use mathlib.Core.Bool.{Bool, true, false, _&&_, cond}
 use lib.ListN.{length, drop}
 use lib.Dec.{leb, ltb, eqb}
-use Rattle.chars.specs.Words.{bytes}
+use Rattle.chars.specs.Words.{crlf}
 use Rattle.chars.specs.Chars.{isCode, isDigit, digitValue}
 use Rattle.scan.specs.declared.Run.{Run}
 use Rattle.scan.specs.declared.At.{At}
@@ -16,10 +16,6 @@ use Rattle.scan.specs.declared.Fixed.the-variants.{Value, No as Unfit}
 abbrev pub onNext : {A : Type 0} → At → A → (ℕ → A) → A
 onNext (Next n) d k = k n
 onNext No d k = d
-
--- "A line is `:tag:value` and CR LF."
-abbrev pub crlf : List ℕ
-crlf = bytes "\r\n"
 
 -- the list begins with the fixed string
 unfoldable pub begins : List ℕ → List ℕ → Bool

@@ -1,24 +1,46 @@
 -- Laws of cover and settlement, in the terms of the code.
 use mathlib.Core.Path.{_≡_, refl, sym, ap, _∙_}
-use mathlib.Core.Bool.{Bool, true, false, not}
+use mathlib.Core.Bool.{Bool, true, false, not, cond}
 use mathlib.Core.Logic.{inl, inr}
 use mathlib.Core.List.{List, _∷_}
 use Prim.Native.Nat.{ℕ, zero, suc, _+_, _-_, _*_, _^_, _≤_, _<_}
 use native.Mathlib.Omega.{arith}
-use lib.Dec.{leb}
+use lib.Dec.{leb, ltb}
 use lib.ListN.{length, getD, set, length-set}
 use mir.Syntax.{w64}
 use mir.Val as val
 use types.Run.{OneOf}
-use borrow.Author.Tests.{leb-true, leb-false, le-leb, lt-leb, not-true, not-false}
+use borrow.Author.Tests.{ltb-true, ltb-false, leb-true, leb-false, le-leb, lt-leb, not-true, not-false}
 use Rattle.chars.specs.Words.{bytes}
+use Rattle.chars.specs.declared.Refusal.{Refusal}
+use Rattle.chars.specs.declared.Refusal.the-variants.{BrokenTables}
 use Rattle.chars.proofs.Laws.{not-member}
 use Rattle.settle.specs.Cover.{esa, covered}
 use Rattle.settle.specs.Payments.{Payment, credit, debit, payment, paymentAt, paymentsFrom, bankOf, needsOf}
 use Rattle.settle.specs.Settlement.{Accounts, accounts, isCovered, uncovered, firstUncovered, paid, settled}
 use Rattle.settle.specs.Rules.{Ranged, Fits, Payable, AllPayable}
+use Rattle.settle.specs.Types.{batchOr}
+use Rattle.settle.specs.declared.Batch.{Batch}
+use Rattle.settle.specs.declared.BatchOr.{BatchOr}
+use Rattle.settle.specs.declared.BatchOr.the-variants.{Stands, Nowhere}
 use Rattle.settle.specs.declared.Verdict.{Verdict}
 use Rattle.settle.specs.declared.Verdict.the-variants.{Passes, Stops}
+
+-- what the answer of a batch's constructor tells
+module _ (place : ℕ) {b : BatchOr} (e : b ≡ batchOr place) where
+  pub batch-stands : {k : Batch} → b ≡ Stands k → (k .start ≡ place * 349) × (place < 32)
+  batch-stands {k = k} f = go (ltb place 32) refl (sym f ∙ e)
+    where
+      go : (t : Bool) → ltb place 32 ≡ t → Stands k ≡ cond t (Stands (record { start = place * 349 })) (Nowhere BrokenTables) → (k .start ≡ place * 349) × (place < 32)
+      go true h g = let z : k ≡ record { start = place * 349 } = cc in (ap (λ (x : Batch). x .start) z, ltb-true place 32 h)
+      go false h g = let z : _≡_ {A = ℕ} 0 1 = cc in absurd (omega arith)
+
+  pub batch-nowhere : {r : Refusal} → b ≡ Nowhere r → 32 ≤ place
+  batch-nowhere {r = r} f = go (ltb place 32) refl (sym f ∙ e)
+    where
+      go : (t : Bool) → ltb place 32 ≡ t → Nowhere r ≡ cond t (Stands (record { start = place * 349 })) (Nowhere BrokenTables) → 32 ≤ place
+      go true h g = let z : _≡_ {A = ℕ} 0 1 = cc in absurd (omega arith)
+      go false h g = ltb-false place 32 h
 
 -- a test and another that says the same
 leb-same : (a b c d : ℕ) → (a ≤ b → c ≤ d) → (b < a → d < c) → leb a b ≡ leb c d

@@ -8,6 +8,11 @@ use borrow.Author.Tests.{not-true, not-false, lt-ltb, le-ltb, lt-leb, le-leb}
 use lib.Dec.{leb, ltb}
 use lib.ListN.{length, length-append}
 use Rattle.chars.specs.declared.Refusal.the-variants.{WrongMoment, ShortBuffer}
+use Rattle.clock.specs.Clock.{clockOf}
+use Rattle.clock.specs.declared.Clock.{Clock}
+use Rattle.clock.specs.declared.Moment.{Moment}
+use Rattle.clock.specs.declared.Moment.the-variants.{At, Never}
+use Rattle.clock.proofs.Laws.{clock-is, clock-not}
 use Rattle.dates.specs.Dates.{dayOf}
 use Rattle.dates.specs.declared.Day.{Day as Date}
 use Rattle.dates.specs.declared.Day.the-variants.{Number, Untrue}
@@ -33,16 +38,16 @@ moved-day d clock t = refl
 
 -- ---- the clock
 
-module _ (a : Action) (d : Desk) (clock : ℕ) where
-  pub clock-past : 86400 ≤ clock → false ≡ rightClock a (dayOn d) clock
-  clock-past h = rw (le-ltb clock 86400 h)
+module _ (a : Action) (d : Desk) (clock : ℕ) {m : Moment} (c : m ≡ clockOf clock) where
+  pub clock-past : m ≡ Never → false ≡ rightClock a (dayOn d) clock
+  clock-past f = rw (le-ltb clock 86400 (clock-not clock c f))
 
-  module _ (h : clock < 86400) {r : Bool} (e : r ≡ isOpening a) where
+  module _ {k : Clock} (f : m ≡ At k) {r : Bool} (e : r ≡ isOpening a) where
     pub clock-anew : r ≡ true → true ≡ rightClock a (dayOn d) clock
-    clock-anew f = rw (lt-ltb clock 86400 h, sym e ∙ f)
+    clock-anew g = rw (lt-ltb clock 86400 (clock-is clock c f .1), sym e ∙ g)
 
-    pub clock-later : r ≡ false → leb (d .clock) clock ≡ rightClock a (dayOn d) clock
-    clock-later f = rw (lt-ltb clock 86400 h, sym e ∙ f)
+    pub clock-later : r ≡ false → leb (d .clock) (k .seconds) ≡ rightClock a (dayOn d) clock
+    clock-later g = let i = clock-is clock c f in rw (i .0, lt-ltb clock 86400 (i .1), sym e ∙ g)
 
 -- ---- the day
 

@@ -1,9 +1,12 @@
 // 05 and 07: the moment and the room of a call, from the day's scalars by value.
 use crate::Desk;
+use book::Book;
 use chars::Refusal;
+use clock::Clock;
 use engine::Action;
 use engine::Answer;
 use engine::Phase;
+use response::Settlement;
 use settle::Batch;
 ghost use mathlib.Core.Path.{_≡_};
 ghost use mathlib.Core.Bool.{_&&_};
@@ -14,14 +17,10 @@ ghost use Rattle.engine.specs.Kinds.{isOpening};
 ghost use Rattle.engine.specs.Calls.{isOpen, isClosed, rightClock, rightDay};
 ghost use Rattle.tables.specs.Moment.{dayOn, movedTo, Needs, Roomy, Judged};
 
-// The seconds of a day.
-const DAY: u64 = 86_400;
-// 321 texts of 105 bytes.
-const ROOM: usize = 33_705;
+// The most texts of a call: one for each live message, and the 134 of a recall.
+const TEXTS: usize = Batch::LIVE * Batch::MESSAGES + 1;
 
-const BLOCK: usize = 512;
-
-const ENTRIES: usize = 20;
+const ROOM: usize = TEXTS * Settlement::LONGEST;
 
 // (a) the clock moves.
 pub fn moved(desk: Desk, clock: u64) -> Desk
@@ -50,13 +49,13 @@ fn is_opening(action: Action) -> bool
 fn right_clock(desk: Desk, clock: u64, action: Action) -> bool
     ensures { λ r. ⌜ r ≡ rightClock action (dayOn desk) clock ⌝ }
 {
-    if DAY <= clock {
+    let clock::Moment::At(given) = Clock::new(clock) else {
         return false;
-    }
+    };
     if is_opening(action) {
         return true;
     }
-    desk.clock <= clock
+    desk.clock <= given.seconds
 }
 
 fn is_open(phase: Phase) -> bool
@@ -137,7 +136,8 @@ fn room_needed(desk: Desk, action: Action) -> usize
         Action::Status(_, _, _) => ROOM,
         Action::Tick => ROOM,
         Action::Close => ROOM,
-        Action::ClosingBook(_) => BLOCK * ((desk.banks + (ENTRIES - 1)) / ENTRIES + 1),
+        Action::ClosingBook(_) => Book::BLOCK
+            * ((desk.banks + (Book::ENTRIES - 1)) / Book::ENTRIES + 1),
     }
 }
 

@@ -10,7 +10,7 @@ use borrow.Author.Tests.{eq-eqb, ne-eqb, eqb-true, eqb-false, not-true}
 use lib.Dec.{eqb}
 use lib.ListN.{length, getD, take, drop, length-append, length-drop}
 use lib.Seq.{drop-cons, getD-drop}
-use Rattle.chars.specs.Words.{bytes}
+use Rattle.chars.specs.Words.{bytes, crlf}
 use Rattle.chars.specs.declared.Refusal.{Refusal}
 use Rattle.chars.specs.declared.Refusal.the-variants.{WrongEsa, WrongLetter}
 use Rattle.chars.specs.Chars.{isCode, isLetter, isDigit}
@@ -21,7 +21,7 @@ use Rattle.dates.specs.declared.Day.the-variants.{Number, Untrue}
 use Rattle.clock.specs.Clock.{minuteOf}
 use Rattle.clock.specs.declared.Minute.{Minute}
 use Rattle.clock.specs.declared.Minute.the-variants.{Number as Clocked, Untrue as Unclocked}
-use Rattle.scan.specs.Scan.{onNext, crlf, begins, litAt, codesAt, codeAt, digitsAt, numberAt, lineEndAt}
+use Rattle.scan.specs.Scan.{onNext, begins, litAt, codesAt, codeAt, digitsAt, numberAt, lineEndAt}
 use Rattle.scan.specs.declared.At.{At}
 use Rattle.scan.specs.declared.At.the-variants.{Next, No}
 use Rattle.scan.specs.declared.Fixed.{Fixed}

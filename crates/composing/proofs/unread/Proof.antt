@@ -3,6 +3,9 @@ use borrow.Author.Needs.{needs}
 use Rattle.composing.proofs.unread.Statement.{statement}
 use Rattle.composing.proofs.unread.Tie as tie
 
+nothing-requires : tie.Need-nothing-requires
+nothing-requires c κs = search needs
+
 headed-requires : tie.Need-headed-requires
 headed-requires c κs = search needs
 
@@ -10,4 +13,4 @@ returns : tie.Need-returns
 returns c = search unread-is
 
 pub unread-spec : {M : Type 1} → statement M
-unread-spec = tie.close (tie.spec headed-requires returns)
+unread-spec = tie.close (tie.spec nothing-requires headed-requires returns)

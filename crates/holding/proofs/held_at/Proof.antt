@@ -1,15 +1,21 @@
+use native.Mathlib.Omega.{arith}
+use Rattle.settle.proofs.Laws.{batch-stands}
 use Rattle.holding.proofs.Laws.{no-place, not-queued, too-many, queued}
 use borrow.Author.Needs.{needs}
 use Rattle.holding.proofs.held_at.Statement.{statement}
 use Rattle.holding.proofs.held_at.Tie as tie
-use Rattle.holding.proofs.held_by.Reads as held-by-reads
-use Rattle.holding.proofs.word.Reads as word-reads
+
+at-requires : tie.Need-at-requires
+at-requires c κs = search needs
+
+enum-known-batch : tie.Need-enum-known-batch
+enum-known-batch c = search needs
+
+enum-told : tie.Need-enum-told
+enum-told c = search needs
 
 returns : tie.Need-returns
 returns c = search no-place
-
-mul-start : tie.Need-mul-start
-mul-start c = search needs
 
 word-requires : tie.Need-word-requires
 word-requires c κs = search needs
@@ -18,7 +24,7 @@ returns-2 : tie.Need-returns-2
 returns-2 c = search (needs, not-queued)
 
 add-word : tie.Need-add-word
-add-word c = search needs
+add-word c = omega (arith, batch-stands (c .before .before .before .before .before .before .before .before .before .args .place) (c .before .before .before .before .before .at .ensures) (c .before .before .before .batch .given .1))
 
 word-requires-2 : tie.Need-word-requires-2
 word-requires-2 c κs = search needs
@@ -27,10 +33,10 @@ returns-3 : tie.Need-returns-3
 returns-3 c = search (needs, too-many)
 
 add-held-by : tie.Need-add-held-by
-add-held-by c = search needs
+add-held-by c = omega (arith, batch-stands (c .before .before .before .before .before .before .before .before .before .before .before .args .place) (c .before .before .before .before .before .before .before .at .ensures) (c .before .before .before .before .before .batch .given .1))
 
 held-by-requires : tie.Need-held-by-requires
-held-by-requires c κs = search needs
+held-by-requires c κs = omega (arith, batch-stands (c .before .before .before .before .before .before .before .before .before .before .before .args .place) (c .before .before .before .before .before .before .before .at .ensures) (c .before .before .before .before .before .batch .given .1))
 
 returns-4 : tie.Need-returns-4
 returns-4 c = search (needs, queued)
@@ -39,8 +45,10 @@ pub held-at-spec : {M : Type 1} → statement M
 held-at-spec =
     tie.close
     (tie.spec
+    at-requires
+    enum-known-batch
+    enum-told
     returns
-    mul-start
     word-requires
     returns-2
     add-word

@@ -2,7 +2,8 @@ use Rattle.put.proofs.Laws.{then}
 use Rattle.codes.specs.Codes.{shortText, longText}
 use Rattle.response.proofs.Laws.{short-length}
 use lib.ListN.{length-append}
-use Rattle.response.specs.Texts.{line, batchText}
+use Rattle.chars.specs.Words.{bytes, line}
+use Rattle.response.specs.Texts.{batchText}
 use borrow.Author.Needs.{needs}
 use Rattle.response.proofs.put_batch.Statement.{statement}
 use Rattle.response.proofs.put_batch.Tie as tie
@@ -23,7 +24,7 @@ returns : tie.Need-returns
 unfolding batchText
 returns c =
     let a = c .before .before .before .before .before .before .before .before .before .args in
-    then (a .out .now) (line ":22A:" (shortText (a .stream))) (line ":119:" (longText (a .bin))) (a .at)
+    then (a .out .now) (line (bytes ":22A:") (shortText (a .stream))) (line (bytes ":119:") (longText (a .bin))) (a .at)
     (c .before .before .before .before .before .before .put-stream .ensures) (c .before .before .put-bin .ensures) (simp (length-append, short-length))
 
 pub put-batch-spec : {M : Type 1} → statement M

@@ -1,6 +1,6 @@
 use mathlib.Core.Path.{refl}
 use native.Mathlib.Omega.{arith}
-use Rattle.chars.specs.Words.{bytes}
+use Rattle.chars.specs.Words.{bytes, crlf}
 use Rattle.put.proofs.Laws.{three}
 use Rattle.codes.specs.Codes.{longText}
 use borrow.Author.Needs.{needs}
@@ -37,7 +37,7 @@ same-length c = search needs
 returns : tie.Need-returns
 returns c =
     let a = c .before .before .before .before .before .before .before .before .before .before .before .before .before .before .before .args in
-    three (a .out .now) (bytes ":119:") (longText (a .bin)) (bytes "\r\n") (a .at)
+    three (a .out .now) (bytes ":119:") (longText (a .bin)) crlf (a .at)
     (c .before .before .before .before .before .before .before .before .before .before .before .bytes .ensures) (c .before .before .before .before .before .before .before .long-code .ensures) (c .before .before .bytes2 .ensures) refl (omega (arith, c .before .before .before .before .before .before .before .before .before .before .before .before .before .before .before .pre .0))
 
 pub put-bin-spec : {M : Type 1} → statement M

@@ -8,7 +8,7 @@ use Rattle.put.specs.Digits.{digitsOf}
 use Rattle.codes.specs.Codes.{longText}
 use Rattle.response.proofs.Laws.{head-pieces}
 use lib.ListN.{length-append}
-use Rattle.response.specs.Texts.{line}
+use Rattle.chars.specs.Words.{bytes, line}
 use borrow.Author.Needs.{needs}
 use Rattle.response.proofs.put_head.Statement.{statement}
 use Rattle.response.proofs.put_head.Tie as tie
@@ -34,7 +34,7 @@ same-length c = search needs
 returns : tie.Need-returns
 returns c =
     let a = c .before .before .before .before .before .before .before .before .before .before .before .before .before .args in
-    three (a .out .now) (line ":20:B" (digitsOf 7 (a .number))) (line ":12:" (digitsOf 3 (a .kind)) ++ line ":77E:" []) (line ":21:" (longText (a .reference))) (a .at)
+    three (a .out .now) (line (bytes ":20:B") (digitsOf 7 (a .number))) (line (bytes ":12:") (digitsOf 3 (a .kind)) ++ line (bytes ":77E:") []) (line (bytes ":21:") (longText (a .reference))) (a .at)
     (c .before .before .before .before .before .before .before .before .before .before .put-number .ensures) (c .before .before .before .before .before .before .put-sub-type .ensures) (c .before .before .put-reference .ensures)
     (simp (length-append, digits-length)) (simp (length-append, digits-length) (omega arith))
     ∙ ap (sets (a .out .now) (a .at)) (head-pieces (a .number) (a .kind) (a .reference))

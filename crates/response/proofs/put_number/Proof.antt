@@ -1,6 +1,6 @@
 use mathlib.Core.Path.{refl}
 use native.Mathlib.Omega.{arith}
-use Rattle.chars.specs.Words.{bytes}
+use Rattle.chars.specs.Words.{bytes, crlf}
 use Rattle.put.proofs.Laws.{three, digits-length}
 use Rattle.put.specs.Digits.{digitsOf}
 use borrow.Author.Needs.{needs}
@@ -34,7 +34,7 @@ same-length c = search needs
 returns : tie.Need-returns
 returns c =
     let a = c .before .before .before .before .before .before .before .before .before .before .before .before .before .before .before .args in
-    three (a .out .now) (bytes ":20:B") (digitsOf 7 (a .number)) (bytes "\r\n") (a .at)
+    three (a .out .now) (bytes ":20:B") (digitsOf 7 (a .number)) crlf (a .at)
     (c .before .before .before .before .before .before .before .before .before .before .before .bytes .ensures) (c .before .before .before .before .before .before .before .digits .ensures) (c .before .before .bytes2 .ensures) refl (omega (arith, digits-length 7 (a .number)))
 
 pub put-number-spec : {M : Type 1} → statement M

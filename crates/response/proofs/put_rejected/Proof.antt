@@ -1,7 +1,7 @@
 use Rattle.response.specs.Texts.{rejectedText}
 use mathlib.Core.Path.{refl}
 use native.Mathlib.Omega.{arith}
-use Rattle.chars.specs.Words.{bytes}
+use Rattle.chars.specs.Words.{bytes, crlf}
 use Rattle.put.proofs.Laws.{three, digits-length}
 use Rattle.put.specs.Digits.{digitsOf}
 use borrow.Author.Needs.{needs}
@@ -36,7 +36,7 @@ returns : tie.Need-returns
 unfolding rejectedText
 returns c =
     let a = c .before .before .before .before .before .before .before .before .before .before .before .before .before .before .before .args in
-    three (a .out .now) (bytes ":451:1\r\n:432:") (digitsOf 2 (a .number)) (bytes "\r\n") (a .at)
+    three (a .out .now) (bytes ":451:1\r\n:432:") (digitsOf 2 (a .number)) crlf (a .at)
     (c .before .before .before .before .before .before .before .before .before .before .before .bytes .ensures) (c .before .before .before .before .before .before .before .digits .ensures) (c .before .before .bytes2 .ensures) refl (omega (arith, digits-length 2 (a .number)))
 
 pub put-rejected-spec : {M : Type 1} → statement M

@@ -3,7 +3,7 @@ use mathlib.Core.List.{_++_}
 use Prim.Native.Nat.{_+_}
 use native.Mathlib.Omega.{arith}
 use lib.Seq.{sets}
-use Rattle.chars.specs.Words.{bytes}
+use Rattle.chars.specs.Words.{bytes, crlf}
 use Rattle.put.proofs.Laws.{then, three, digits-length}
 use Rattle.put.specs.Digits.{digitsOf}
 use Rattle.response.proofs.Laws.{settled-pieces}
@@ -32,11 +32,11 @@ digits-requires c κs = search needs
 add-digits-2 : tie.Need-add-digits-2
 add-digits-2 c = search needs
 
+hhmmss-of-requires : tie.Need-hhmmss-of-requires
+hhmmss-of-requires c κs = search needs
+
 digits-requires-2 : tie.Need-digits-requires-2
 digits-requires-2 c κs = search needs
-
-digits-requires-3 : tie.Need-digits-requires-3
-digits-requires-3 c κs = search needs
 
 add-bytes : tie.Need-add-bytes
 add-bytes c = search needs
@@ -56,9 +56,9 @@ returns c =
     let d = digitsOf 6 (dateOf (a .day)) in
     let t = digitsOf 6 (hhmmssOf (a .second)) in
     let o₂ = rw (c .before .before .before .before .before .before .before .before .before .before .before .before .before .date-of .ensures) at (c .before .before .before .before .before .before .before .before .before .before .before .before .digits .ensures) in
-    let o₃ = rw (c .before .before .before .before .before .before .before .before .digits2 .ensures) at (c .before .before .before .before .before .before .before .digits3 .ensures) in
+    let o₃ = rw (c .before .before .before .before .before .before .before .before .hhmmss-of .ensures) at (c .before .before .before .before .before .before .before .digits2 .ensures) in
     let three₃ = three (a .out .now) (bytes ":451:0\r\n:13E:") d t (a .at) (c .before .before .before .before .before .before .before .before .before .before .before .before .before .before .before .before .before .bytes .ensures) o₂ o₃ refl (omega (arith, digits-length 6 (dateOf (a .day)))) in
-    then (a .out .now) (bytes ":451:0\r\n:13E:" ++ (d ++ t)) (bytes "\r\n") (a .at) three₃ (c .before .before .bytes2 .ensures) (simp (length-append, digits-length) (omega arith))
+    then (a .out .now) (bytes ":451:0\r\n:13E:" ++ (d ++ t)) crlf (a .at) three₃ (c .before .before .bytes2 .ensures) (simp (length-append, digits-length) (omega arith))
     ∙ ap (sets (a .out .now) (a .at)) (settled-pieces (a .day) (a .second))
 
 pub put-settled-spec : {M : Type 1} → statement M
@@ -71,8 +71,8 @@ put-settled-spec =
     date-of-requires
     digits-requires
     add-digits-2
+    hhmmss-of-requires
     digits-requires-2
-    digits-requires-3
     add-bytes
     slice-aggregate-bytes-2
     bytes-requires-2

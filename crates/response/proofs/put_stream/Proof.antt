@@ -1,6 +1,6 @@
 use mathlib.Core.Path.{refl}
 use native.Mathlib.Omega.{arith}
-use Rattle.chars.specs.Words.{bytes}
+use Rattle.chars.specs.Words.{bytes, crlf}
 use Rattle.put.proofs.Laws.{three}
 use Rattle.codes.specs.Codes.{shortText}
 use Rattle.response.proofs.Laws.{short-length}
@@ -35,7 +35,7 @@ same-length c = search needs
 returns : tie.Need-returns
 returns c =
     let a = c .before .before .before .before .before .before .before .before .before .before .before .before .before .before .before .args in
-    three (a .out .now) (bytes ":22A:") (shortText (a .stream)) (bytes "\r\n") (a .at)
+    three (a .out .now) (bytes ":22A:") (shortText (a .stream)) crlf (a .at)
     (c .before .before .before .before .before .before .before .before .before .before .before .bytes .ensures) (c .before .before .before .before .before .before .before .short-code .ensures) (c .before .before .bytes2 .ensures) refl (omega (arith, short-length (a .stream)))
 
 pub put-stream-spec : {M : Type 1} → statement M

@@ -6,8 +6,11 @@ use Rattle.request.proofs.Named.nothing.Tie as tie
 nowhere-requires : tie.Need-nowhere-requires
 nowhere-requires c κs = search needs
 
+nothing-requires : tie.Need-nothing-requires
+nothing-requires c κs = search needs
+
 returns : tie.Need-returns
 returns c = search no-name
 
 pub nothing-spec : {M : Type 1} → statement M
-nothing-spec = tie.close (tie.spec nowhere-requires returns)
+nothing-spec = tie.close (tie.spec nowhere-requires nothing-requires returns)
