@@ -8,12 +8,11 @@ use Rattle.chars.specs.Words.{crlf}
 use Rattle.scan.specs.Scan.{litAt}
 use Rattle.scan.specs.declared.At.{At}
 use Rattle.scan.specs.declared.At.the-variants.{Next, No}
-use Rattle.values.specs.Values.{noPart}
+use Rattle.values.specs.Values.{noPart, whyUnread}
 use Rattle.values.specs.declared.Part.{Part}
 use Rattle.values.specs.declared.Value.{Value}
 use Rattle.values.specs.declared.Value.the-variants.{Read, Unread}
-use Rattle.fields.specs.Fields.{absent, broken, nothing, item, place, valueAt, closedAt, fieldAt}
-use Rattle.fields.specs.declared.Break.{Break}
+use Rattle.fields.specs.Fields.{absent, broken, nothing, item, place, valueAt, fieldAt}
 use Rattle.fields.specs.declared.Field.{Field}
 use Rattle.fields.specs.declared.Field.the-variants.{Good, Bad}
 use Rattle.fields.specs.declared.Kind.{Kind}
@@ -22,24 +21,30 @@ use Rattle.fields.specs.declared.Kind.the-variants.{Empty}
 pub nothing-is : {p : Part} → p ≡ noPart → record { part = p; number = 0 } ≡ nothing
 nothing-is e = simp e
 
-module _ (s : List ℕ) (at : ℕ) (tag : List ℕ) (kind : Kind) where
-  pub field-1 : {r : At} {b : Break} → r ≡ litAt s at tag → r ≡ No → b ≡ absent at → Bad b ≡ fieldAt s at tag kind
+-- the line of a tag and a value of a kind: by whether the tag stands there, the value, and CR LF behind it
+module _ (s : List ℕ) (at : ℕ) (tag : List ℕ) (kind : Kind) {r : At} (p : r ≡ litAt s at tag) where
+  pub no-tag : {f : Field} → r ≡ No → f ≡ Bad (absent at) → f ≡ fieldAt s at tag kind
   unfolding fieldAt
-  field-1 p p′ b = simp (← p, p′, b)
+  no-tag p′ f = simp (← p, p′, f)
 
-  pub field-2 : {r : At} {a : ℕ} {v : Value} {f : Field} → r ≡ litAt s at tag → r ≡ Next a → v ≡ valueAt s a kind → f ≡ closedAt s at a v → f ≡ fieldAt s at tag kind
-  unfolding fieldAt
-  field-2 p p′ q f = simp (← p, p′, ← q, f)
+  module _ {a : ℕ} (p′ : r ≡ Next a) {v : Value} (q : v ≡ valueAt s a kind) where
+    pub no-value : {f : Field} {x y : Refusal} → v ≡ Unread x → y ≡ whyUnread v → f ≡ Bad (broken at y) → f ≡ fieldAt s at tag kind
+    unfolding fieldAt
+    no-value q′ y f = simp (← p, p′, ← q, f, y, q′)
 
-pub field-3 : (s : List ℕ) (at : ℕ) (tag : List ℕ) {r : At} {a : ℕ} {f : Field} → r ≡ litAt s at tag → r ≡ Next a → f ≡ closedAt s at a (Read 0 a) → f ≡ fieldAt s at tag Empty
-field-3 s at tag p p′ f = field-2 s at tag Empty p p′ refl f
+    module _ {w e : ℕ} (q′ : v ≡ Read w e) {t : At} (l : t ≡ litAt s e crlf) where
+      pub no-end : {f : Field} → t ≡ No → f ≡ Bad (broken at Malformed) → f ≡ fieldAt s at tag kind
+      unfolding fieldAt
+      no-end l′ f = simp (← p, p′, ← q, q′, ← l, l′, f)
 
-module _ (s : List ℕ) (at a : ℕ) (v : Value) where
-  pub close-1 : {x : Refusal} {b : Break} → v ≡ Unread x → b ≡ broken at x → Bad b ≡ closedAt s at a v
-  close-1 q b = simp (q, b)
+      pub whole : {f : Field} {n : ℕ} → t ≡ Next n → f ≡ Good (item a e w) (place n) → f ≡ fieldAt s at tag kind
+      unfolding fieldAt
+      whole l′ f = simp (← p, p′, ← q, q′, ← l, l′, f)
 
-  pub close-2 : {t : At} {w e : ℕ} {b : Break} → v ≡ Read w e → t ≡ litAt s e crlf → t ≡ No → b ≡ broken at Malformed → Bad b ≡ closedAt s at a v
-  close-2 q l l′ b = simp (q, ← l, l′, b)
+-- the same of the line of a tag alone
+module _ (s : List ℕ) (at : ℕ) (tag : List ℕ) {r : At} (p : r ≡ litAt s at tag) {a : ℕ} (p′ : r ≡ Next a) {t : At} (l : t ≡ litAt s a crlf) where
+  pub bare-no-end : {f : Field} → t ≡ No → f ≡ Bad (broken at Malformed) → f ≡ fieldAt s at tag Empty
+  bare-no-end = no-end s at tag Empty p p′ refl refl l
 
-  pub close-3 : {t : At} {w e n : ℕ} → v ≡ Read w e → t ≡ litAt s e crlf → t ≡ Next n → Good (item a e w) (place n) ≡ closedAt s at a v
-  close-3 q l l′ = simp (q, ← l, l′)
+  pub bare-whole : {f : Field} {n : ℕ} → t ≡ Next n → f ≡ Good (item a a 0) (place n) → f ≡ fieldAt s at tag Empty
+  bare-whole = whole s at tag Empty p p′ refl refl l

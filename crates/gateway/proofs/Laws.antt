@@ -1,32 +1,53 @@
 -- Rows of words: four stores are a field, and fields one after another are a row.
-use Prim.Native.Nat.{ℕ, suc, _+_, _*_, _≤_, _<_}
+use Prim.Native.Nat.{ℕ, zero, suc, _+_, _*_, _≤_, _<_}
 use mathlib.Core.Path.{_≡_, refl, ap, sym, _∙_}
-use mathlib.Core.Bool.{Bool, true, false, cond}
+use mathlib.Core.Bool.{Bool, true, false, not, cond}
 use mir.Val.{boolByte}
 use mathlib.Core.List.{List, [], _∷_, _++_}
-use native.Mathlib.Nat.{add-zero}
+use native.Mathlib.Nat.{add-zero, zero-add, suc-add}
 use native.Mathlib.Numerals.{add-one}
 use native.Mathlib.Omega.{arith}
 use borrow.Author.Tests.{lt-ltb, le-ltb}
-use lib.ListN.{length, set, drop, getD, drop-of-length-le}
-use lib.Seq.{sets, length-sets, drop-cons}
-use Rattle.put.proofs.Laws.{then, three, sets-append}
+use lib.ListN.{length, set, replicate}
+use lib.Seq.{sets}
+use Rattle.put.proofs.Laws.{then, three}
+use Rattle.chars.specs.Words.{bytes}
 use Rattle.chars.specs.Refusals.{numberOf}
+use Rattle.scan.specs.declared.Cursor.{Cursor}
+use Rattle.fields.specs.Fields.{absent, nothing, place, fieldAt, whyNot}
 use Rattle.fields.specs.declared.Break.{Break}
+use Rattle.fields.specs.declared.Item.{Item}
+use Rattle.fields.specs.declared.Field.{Field}
+use Rattle.fields.specs.declared.Field.the-variants.{Good, Bad}
+use Rattle.fields.specs.declared.Kind.the-variants.{Count}
+use Rattle.terms.specs.Terms.{noTerms, termsAt}
+use Rattle.terms.specs.declared.Stated.{Stated}
+use Rattle.terms.specs.declared.Stated.the-variants.{Whole}
 use Rattle.terms.specs.declared.Terms.{Terms}
+use Rattle.payments.specs.Payments.{none, paymentAt, moreAt, ended, whyUnpaid, paymentsAt}
 use Rattle.payments.specs.declared.Payment.{Payment}
+use Rattle.payments.specs.declared.Payments.{Payments}
+use Rattle.payments.specs.declared.Paid.{Paid}
+use Rattle.payments.specs.declared.Paid.the-variants.{One, Unpaid}
+use Rattle.payments.specs.declared.Ending.{Ending}
+use Rattle.payments.specs.declared.Ending.the-variants.{Done, Cut}
+use Rattle.payments.proofs.Laws.{Going, going-from, going-full, going-cut, going-last, going-on}
+use Rattle.request.proofs.Laws.{settlement-2, settlement-3, settlement-4, settlement-5}
+use Rattle.request.specs.Request.{bare, refusal, settlement, cutBy, settlementAt}
 use Rattle.request.specs.declared.Address.{Address}
 use Rattle.request.specs.declared.Head.{Head}
-use Rattle.request.specs.declared.Outcome.the-variants.{Settlement, Recall, Refused}
+use Rattle.request.specs.declared.Outcome.{Outcome}
+use Rattle.request.specs.declared.Outcome.the-variants.{Recall, Refused}
 use Rattle.request.specs.declared.Reading.{Reading}
 use Rattle.book.specs.Book.{bookCheck}
 use Rattle.book.specs.declared.Answer.{Answer}
 use Rattle.book.specs.declared.Answer.the-variants.{Sound, Fault}
 use Rattle.chars.specs.declared.Refusal.{Refusal}
 use Rattle.chars.specs.declared.Refusal.the-variants.{ShortBuffer}
+use Rattle.gateway.specs.declared.Paying.{Paying}
 use Rattle.gateway.specs.Rows.{fieldWords, itemWords, codeWords, breakWords, numberIn, rowAfter}
-use Rattle.gateway.specs.Requests.{namedWords, addressWords, headWords, activationMinute, activationGiven, termsWords, paymentWords, paymentsWords, acceptedWords, reachedNumber, refusedWords, readingNumber, readingWords}
 use Rattle.codes.specs.Codes.{noCode}
+use Rattle.gateway.specs.Requests.{namedWords, addressWords, headWords, activationMinute, activationGiven, termsWords, paymentWords, paymentsWords, payingAt, acceptedWords, reachedNumber, refusedWords, readingNumber, readingWords}
 use Rattle.codes.specs.declared.Code.{Code}
 use Rattle.response.specs.declared.Settlement.{Settlement as Response132}
 use Rattle.response.specs.declared.Recall.{Recall as Response134}
@@ -66,12 +87,11 @@ payment-row row at p e f g h =
     then row (itemWords (p .side) ++ (itemWords (p .amount) ++ itemWords (p .letters))) (itemWords (p .bank)) at
     (three row (itemWords (p .side)) (itemWords (p .amount)) (itemWords (p .letters)) at (simp add-zero at e) f g refl (omega arith)) h refl
 
-pub accepted-row : (row : List ℕ) (r : Reading) {o₁ o₂ o₃ o₄ : List ℕ} → o₁ ≡ sets row 0 (headWords (r .head)) → o₂ ≡ sets o₁ 16 (termsWords (r .terms))
-    → o₃ ≡ sets o₂ 28 (itemWords (r .count)) → o₄ ≡ sets o₃ 32 (paymentsWords (r .payments)) → o₄ ≡ sets row 0 (acceptedWords r)
-unfolding acceptedWords
-accepted-row row r e f g h =
-    then row (headWords (r .head) ++ (termsWords (r .terms) ++ itemWords (r .count))) (paymentsWords (r .payments)) 0
-    (three row (headWords (r .head)) (termsWords (r .terms)) (itemWords (r .count)) 0 e f g refl refl) h refl
+pub accepted-row : (row : List ℕ) (h : Head) (t : Terms) (count : Item) (places : List ℕ) {o₁ o₂ o₃ o₄ : List ℕ} → o₁ ≡ sets row 0 (headWords h) → o₂ ≡ sets o₁ 16 (termsWords t)
+    → o₃ ≡ sets o₂ 28 (itemWords count) → o₄ ≡ sets o₃ 32 places → o₄ ≡ sets row 0 ((headWords h ++ (termsWords t ++ itemWords count)) ++ places)
+accepted-row row h t count places e f g k =
+    then row (headWords h ++ (termsWords t ++ itemWords count)) places 0
+    (three row (headWords h) (termsWords t) (itemWords count) 0 e f g refl refl) k refl
 
 pub refused-row : (row : List ℕ) (b : Break) (h : Head) {k : ℕ} {o₁ o₂ o₃ : List ℕ} → k ≡ reachedNumber (h .address .reached) → o₁ ≡ sets row 0 (breakWords b k)
     → o₂ ≡ sets o₁ 4 (itemWords (h .subtype)) → o₃ ≡ sets o₂ 8 (addressWords (h .address)) → o₃ ≡ sets row 0 (refusedWords b h)
@@ -91,41 +111,108 @@ faulty-book book e g h = simp (h, ← e, g)
 
 -- ---- the loop over the payments
 
--- where it stands that has put the first i payments
-pub record Putting (first : List ℕ) (ps : List Payment) (row : List ℕ) (i : ℕ) : Type 0 where
-  pub inside : i ≤ 10
-  pub size : length row ≡ length first
-  pub same : sets row (32 + 16 * i) (paymentsWords (drop i ps)) ≡ sets first 32 (paymentsWords ps)
+words-long : (ps : List Payment) → length (paymentsWords ps) ≡ 16 * length ps
+words-long [] = refl
+words-long (p ∷ ps) = omega (arith, words-long ps)
 
-pub putting-on : {first : List ℕ} {ps : List Payment} {row : List ℕ} {i : ℕ} {next : List ℕ} → Putting first ps row i → i < 10 → length ps ≡ 10 → (d : Payment)
-    → next ≡ sets row (32 + 16 * i) (paymentWords (getD ps i d)) → Putting first ps next (i + 1)
-putting-on {ps = ps} {row = row} {i = i} g h size d e =
-    let here : i < length ps = omega arith in
-    let past : 32 + 16 * suc i ≡ 32 + 16 * i + 16 = omega arith in
-    record {
-      inside = omega arith;
-      size = ap length e ∙ length-sets row (32 + 16 * i) (paymentWords (getD ps i d)) ∙ g .size;
-      same = rw (e, add-one, past) (sym (sets-append (paymentWords (getD ps i d)) (paymentsWords (drop (suc i) ps)) row (32 + 16 * i)) ∙ (simp (drop-cons ps i d here) at (g .same)));
-    }
+-- a run of stores behind the first words of a row
+sets-next : (x : ℕ) (l : List ℕ) (i : ℕ) (vs : List ℕ) → sets (x ∷ l) (suc i) vs ≡ x ∷ sets l i vs
+sets-next x l i [] = refl
+sets-next x l i (v ∷ vs) = sets-next x (set l i v) (suc i) vs
 
-pub putting-done : {first : List ℕ} {ps : List Payment} {row : List ℕ} {i : ℕ} → Putting first ps row i → length ps ≡ 10 → 10 ≤ i → row ≡ sets first 32 (paymentsWords ps)
-putting-done {ps = ps} {i = i} g size h =
-    let past : length ps ≤ i = omega arith in
-    simp (drop-of-length-le ps past) at (g .same)
+sets-behind : (xs l : List ℕ) (i : ℕ) (vs : List ℕ) → sets (xs ++ l) (length xs + i) vs ≡ xs ++ sets l i vs
+sets-behind [] l i vs = simp zero-add
+sets-behind (x ∷ xs) l i vs = simp suc-add (sets-next x (xs ++ l) (length xs + i) vs ∙ ap (λ (r : List ℕ). x ∷ r) (sets-behind xs l i vs))
+
+-- a payment put into its place
+put-one : (ps : List Payment) (n : ℕ) (p : Payment) → n < length ps → paymentsWords (set ps n p) ≡ sets (paymentsWords ps) (16 * n) (paymentWords p)
+put-one [] n p h = absurd (omega arith)
+put-one (q ∷ ps) zero p h = refl
+put-one (q ∷ ps) (suc n) p h =
+    let past : 16 + 16 * n ≡ 16 * suc n = omega arith in
+    ap (λ (l : List ℕ). paymentWords q ++ l) (put-one ps n p (omega arith))
+    ∙ sym (sets-behind (paymentWords q) (paymentsWords ps) (16 * n) (paymentWords p))
+    ∙ ap (λ (i : ℕ). sets (paymentsWords (q ∷ ps)) i (paymentWords p)) past
+
+-- where it stands that has read n payments, up to the place j, and put them
+pub record Put (s : List ℕ) (at : ℕ) (places : List ℕ) (n j : ℕ) : Type 0 where
+  pub items : List Payment
+  pub there : places ≡ paymentsWords items
+  pub going : Going s at items n j
+
+pub put-from : (s : List ℕ) (at : ℕ) {places : List ℕ} → places ≡ paymentsWords none → Put s at places 0 at
+put-from s at e = record { items = none; there = e; going = going-from s at refl }
+
+module _ {s : List ℕ} {at n j : ℕ} {places : List ℕ} (g : Put s at places n j) where
+  pub put-long : length places ≡ 160
+  put-long = ap length (g .there) ∙ words-long (g .items) ∙ omega (arith, g .going .size)
+
+  told : {e : Ending} {m : ℕ} {ps : List Payment} {o : List ℕ} → o ≡ paymentsWords ps → ended e m ps ≡ paymentsAt s at → (record { ending = e; n = m } ≡ payingAt s at) × (o ≡ paymentsWords (paymentsAt s at .items))
+  told o e = rw (← e) (refl, o)
+
+  pub put-full : 10 ≤ n → (record { ending = Done (place j); n = n } ≡ payingAt s at) × (places ≡ paymentsWords (paymentsAt s at .items))
+  put-full h = told (g .there) (going-full (g .going) h)
+
+  pub put-cut : {r : Paid} {b w : Break} → n < 10 → r ≡ paymentAt s j → r ≡ Unpaid b → w ≡ whyUnpaid r → (record { ending = Cut w; n = n } ≡ payingAt s at) × (places ≡ paymentsWords (paymentsAt s at .items))
+  put-cut h p q w = rw (w, q) (told (g .there) (going-cut (g .going) h p q))
+
+  module _ {r : Paid} {q : Payment} {c : Cursor} {b : Bool} {o : List ℕ} (h : n < 10) (p : r ≡ paymentAt s j) (p′ : r ≡ One q c) (f : o ≡ sets places (16 * n) (paymentWords q)) (m : b ≡ moreAt s (c .at)) where
+    one-more : o ≡ paymentsWords (set (g .items) n q)
+    one-more = f ∙ rw (g .there) (sym (put-one (g .items) n q (omega (arith, g .going .size))))
+
+    pub put-last : not b ≡ true → (record { ending = Done (place (c .at)); n = n + 1 } ≡ payingAt s at) × (o ≡ paymentsWords (paymentsAt s at .items))
+    put-last m′ = told one-more (going-last (g .going) h p p′ m m′)
+
+    pub put-on : not b ≡ false → Put s at o (n + 1) (c .at)
+    put-on m′ = record { items = set (g .items) n q; there = one-more; going = going-on (g .going) h p p′ m m′ }
 
 -- ---- what the reader of requests answers
 
-module _ (row : List ℕ) (r : Reading) {n : ℕ} {o : List ℕ} where
-  pub settled-reading : r .outcome ≡ Settlement → (n ≡ 0) × (o ≡ sets row 0 (acceptedWords r)) → (n ≡ readingNumber r) × (o ≡ sets row 0 (readingWords r))
-  unfolding acceptedWords
-  settled-reading e p = rw e p
+-- "nothing changed" but the words of the break
+pub refused-reading : (row : List ℕ) (h : Head) {b : Break} {r : Reading} {n : ℕ} {o : List ℕ} → refusal (h .subtype) b (h .address) ≡ r
+    → (n ≡ numberOf (b .refusal)) × (o ≡ sets row 0 (refusedWords b h)) → (n ≡ readingNumber r) × (o ≡ sets row 0 (readingWords r))
+unfolding refusedWords
+refused-reading row h e p = rw (← e) p
 
-  pub recalled-reading : r .outcome ≡ Recall → (n ≡ 0) × (o ≡ sets row 0 (acceptedWords r)) → (n ≡ readingNumber r) × (o ≡ sets row 0 (readingWords r))
-  unfolding acceptedWords
-  recalled-reading e p = rw e p
+pub settled-reading : (row : List ℕ) (h : Head) (t : Terms) (x : Payments) (count : Item) {r : Reading} {n : ℕ} {o places : List ℕ} → settlement h t x count ≡ r → places ≡ paymentsWords (x .items)
+    → (n ≡ 0) × (o ≡ sets row 0 ((headWords h ++ (termsWords t ++ itemWords count)) ++ places)) → (n ≡ readingNumber r) × (o ≡ sets row 0 (readingWords r))
+unfolding acceptedWords
+settled-reading row h t x count e w p = rw (← e) (rw w at p)
 
-  pub refused-reading : {b : Break} → r .outcome ≡ Refused b → (n ≡ numberOf (b .refusal)) × (o ≡ sets row 0 (refusedWords b (r .head))) → (n ≡ readingNumber r) × (o ≡ sets row 0 (readingWords r))
-  refused-reading e p = rw e p
+pub recalled-reading : (row : List ℕ) (h : Head) {t : Terms} {count : Item} {r : Reading} {n : ℕ} {o : List ℕ} → bare Recall h ≡ r → t ≡ noTerms → count ≡ nothing
+    → (n ≡ 0) × (o ≡ sets row 0 ((headWords h ++ (termsWords t ++ itemWords count)) ++ replicate 160 0)) → (n ≡ readingNumber r) × (o ≡ sets row 0 (readingWords r))
+unfolding acceptedWords
+recalled-reading row h e t c p = rw (← e) (rw (t, c) at p)
+
+-- of a text that begins so
+module _ (row : List ℕ) {x r : Reading} {n : ℕ} {o : List ℕ} (e : x ≡ r) where
+  pub begun-row : (n ≡ readingNumber x) × (o ≡ sets row 0 (readingWords x)) → (n ≡ readingNumber r) × (o ≡ sets row 0 (readingWords r))
+  begun-row p = rw (← e) p
+
+pub begun-refused : (row : List ℕ) (h : Head) {y : Outcome} {b : Break} {r : Reading} {n : ℕ} {o : List ℕ} → bare y h ≡ r → y ≡ Refused b
+    → (n ≡ numberOf (b .refusal)) × (o ≡ sets row 0 (refusedWords b h)) → (n ≡ readingNumber r) × (o ≡ sets row 0 (readingWords r))
+begun-refused row h e f p = rw (← e, f) p
+
+-- the refusals of a 131 behind its address, and that it is one
+module _ (s : List ℕ) (at : ℕ) (h : Head) {t : Stated} {u : Terms} {c : Cursor} (p : t ≡ termsAt s at) (p′ : t ≡ Whole u c) {y : Paying} (q : y ≡ payingAt s (c .at)) where
+  so-ends : {e : Ending} → y .ending ≡ e → paymentsAt s (c .at) .ending ≡ e
+  so-ends e = sym (ap (λ (z : Paying). z .ending) q) ∙ e
+
+  pub cut-off : {b w : Break} → y .ending ≡ Cut b → w ≡ cutBy (y .ending) → refusal (h .subtype) w (h .address) ≡ settlementAt s at h
+  cut-off q′ w = settlement-2 s at h p p′ refl (so-ends q′) (w ∙ ap (λ (z : Paying). cutBy (z .ending)) q) refl
+
+  module _ {d : Cursor} (q′ : y .ending ≡ Done d) {f : Field} (r : f ≡ fieldAt s (d .at) (bytes ":203:") (Count (y .n))) where
+    counted : f ≡ fieldAt s (d .at) (bytes ":203:") (Count (paymentsAt s (c .at) .n))
+    counted = r ∙ ap (λ (z : Paying). fieldAt s (d .at) (bytes ":203:") (Count (z .n))) q
+
+    pub uncounted : {b w : Break} → f ≡ Bad b → w ≡ whyNot f → refusal (h .subtype) w (h .address) ≡ settlementAt s at h
+    uncounted r′ w = settlement-3 s at h p p′ refl (so-ends q′) counted r′ w refl
+
+    pub followed : {i : Item} {e : Cursor} {w : Break} → f ≡ Good i e → e .at < length s → w ≡ absent (e .at) → refusal (h .subtype) w (h .address) ≡ settlementAt s at h
+    followed r′ l w = settlement-4 s at h p p′ refl (so-ends q′) counted r′ l w refl
+
+    pub settles : {i : Item} {e : Cursor} → f ≡ Good i e → length s ≤ e .at → settlement h u (paymentsAt s (c .at)) i ≡ settlementAt s at h
+    settles r′ l = settlement-5 s at h p p′ refl (so-ends q′) counted r′ l
 
 -- ---- rows of too few words
 

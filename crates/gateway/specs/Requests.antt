@@ -6,6 +6,7 @@ use Rattle.fields.specs.declared.Break.{Break}
 use Rattle.terms.specs.declared.Activation.{Activation}
 use Rattle.terms.specs.declared.Activation.the-variants.{AtOnce, Minute}
 use Rattle.terms.specs.declared.Terms.{Terms}
+use Rattle.payments.specs.Payments.{paymentsAt}
 use Rattle.payments.specs.declared.Payment.{Payment}
 use Rattle.request.specs.Request.{requestAt}
 use Rattle.request.specs.declared.Named.{Named}
@@ -16,6 +17,7 @@ use Rattle.request.specs.declared.Head.{Head}
 use Rattle.request.specs.declared.Outcome.{Outcome}
 use Rattle.request.specs.declared.Outcome.the-variants.{Settlement, Recall, Refused}
 use Rattle.request.specs.declared.Reading.{Reading}
+use Rattle.gateway.specs.declared.Paying.{Paying}
 use Rattle.gateway.specs.Rows.{fieldWords, itemWords, codeWords, breakWords, numberIn, rowAfter}
 
 abbrev pub namedWords : Named → List ℕ
@@ -52,6 +54,10 @@ paymentWords p = (itemWords (p .side) ++ (itemWords (p .amount) ++ itemWords (p 
 abbrev pub paymentsWords : List Payment → List ℕ
 paymentsWords [] = []
 paymentsWords (p ∷ ps) = paymentWords p ++ paymentsWords ps
+
+-- how the payments of a text end, and how many there are
+abbrev pub payingAt : List ℕ → ℕ → Paying
+payingAt s at = record { ending = paymentsAt s at .ending; n = paymentsAt s at .n }
 
 -- 203 stands before the payments, whose places are ten
 unfoldable pub acceptedWords : Reading → List ℕ

@@ -9,7 +9,10 @@ use book::Answer;
 use chars::Refusal;
 use codes::Code;
 use fields::Break;
+use fields::Field;
 use fields::Item;
+use payments::Ending;
+use payments::Paid;
 use payments::Payment;
 use reply::Parts;
 use reply::ReadResponse;
@@ -19,10 +22,11 @@ use request::Head;
 use request::Named;
 use request::Outcome;
 use request::Reached;
-use request::Reading;
 use response::Recall;
 use response::Settlement;
+use scan::Cursor;
 use terms::Activation;
+use terms::Stated;
 use terms::Terms;
 use values::Part;
 ghost use mathlib.Core.Path.{_≡_};
@@ -32,7 +36,9 @@ ghost use Prim.Native.Nat.{_+_, _-_, _≤_};
 ghost use lib.ListN.{length};
 ghost use lib.Seq.{sets};
 ghost use Rattle.gateway.specs.Rows.{fieldWords, itemWords, codeWords, breakWords};
-ghost use Rattle.gateway.specs.Requests.{namedWords, addressWords, headWords, activationMinute, activationGiven, termsWords, paymentWords, paymentsWords, acceptedWords, reachedNumber, refusedWords, readingNumber, readingWords, requestNumber, requestRow};
+ghost use Rattle.payments.specs.Payments.{none, paymentsAt};
+ghost use Rattle.request.specs.Request.{settlementAt, recallAt, requestAt};
+ghost use Rattle.gateway.specs.Requests.{namedWords, addressWords, headWords, activationMinute, activationGiven, termsWords, paymentWords, paymentsWords, payingAt, reachedNumber, refusedWords, readingNumber, readingWords, requestNumber, requestRow};
 ghost use Rattle.gateway.specs.Responses.{numberWords, batchWords, statusWords, outcomeStatus, outcomeFirst, outcomeSecond, answerStatus, answerNumber, settlementWords, recallWords, replyNumber, replyWords, responseNumber, responseRow};
 ghost use Rattle.gateway.specs.Books.{bookNumber};
 ghost use Rattle.chars.specs.Refusals.{numberOf};
@@ -113,6 +119,12 @@ pub const REACHED_NOTHING: u64 = 0;
 pub const REACHED_STREAM: u64 = 1;
 
 pub const REACHED_BIN: u64 = 2;
+
+// How the payments of a text end, and how many there are.
+pub struct Paying {
+    pub ending: Ending,
+    pub n: usize,
+}
 
 // The break of a text in full: the reader's number, where the line begins, its number, 1 if a field is missing,
 // the tags that may stand there, and where the value begins.
@@ -233,31 +245,58 @@ fn put_payment(row: &mut [u64], at: usize, p: Payment)
     put_item(row, at + PAYMENT_BANK, bank);
 }
 
-// All ten places, of which those past the payments are zero.
-fn put_payments(row: &mut [u64], ps: [Payment; 10])
-    requires { ⌜ 192 ≤ length (now row) ⌝ }
-    ensures { λ _. ⌜ now (row .exit) ≡ sets (now (row .entry)) 32 (paymentsWords ps) ⌝ }
+// The payments that stand at a cursor, each put into its place as it is read: how they end, and how many there are.
+fn put_payments(places: &mut [u64], text: &[u8], c: Cursor) -> Paying
+    requires { ⌜ now places ≡ paymentsWords none ⌝ }
+    ensures { λ r. ⌜ (r ≡ payingAt (now (text .entry)) (c .at)) × (now (places .exit) ≡ paymentsWords (paymentsAt (now (text .entry)) (c .at) .items)) ⌝ }
+{
+    let mut n = 0;
+    let mut at = c.at;
+    while n < PAYMENTS {
+        let r = payments::read_payment(text, Cursor { at });
+        let Paid::One(p, next) = r else {
+            return Paying {
+                ending: Ending::Cut(r.why()),
+                n,
+            };
+        };
+        put_payment(places, PAYMENT_WORDS * n, p);
+        n += 1;
+        at = next.at;
+        if !payments::more(text, Cursor { at }) {
+            return Paying {
+                ending: Ending::Done(Cursor { at }),
+                n,
+            };
+        }
+    }
+    Paying {
+        ending: Ending::Done(Cursor { at }),
+        n,
+    }
+}
+
+// Words one behind another, from a place on.
+fn put_words(row: &mut [u64], at: usize, words: &[u64])
+    requires { ⌜ at + length (now words) ≤ length (now row) ⌝ }
+    ensures { λ _. ⌜ now (row .exit) ≡ sets (now (row .entry)) at (now (words .entry)) ⌝ }
 {
     let mut i = 0;
-    while i < PAYMENTS {
-        let p = ps[i];
-        put_payment(row, REQUEST_PAYMENTS + PAYMENT_WORDS * i, p);
+    while i < words.len() {
+        row[at + i] = words[i];
         i += 1;
     }
 }
 
-fn put_accepted(row: &mut [u64], r: Reading) -> u64
+// All ten places of the payments, of which those past the last are zero.
+fn put_accepted(row: &mut [u64], head: Head, terms: Terms, count: Item, places: &[u64; 160]) -> u64
     requires { ⌜ 192 ≤ length (now row) ⌝ }
-    ensures { λ n. ⌜ (n ≡ 0) × (now (row .exit) ≡ sets (now (row .entry)) 0 (acceptedWords r)) ⌝ }
+    ensures { λ n. ⌜ (n ≡ 0) × (now (row .exit) ≡ sets (now (row .entry)) 0 ((headWords head ++ (termsWords terms ++ itemWords count)) ++ now (places .entry))) ⌝ }
 {
-    let head = r.head;
-    let terms = r.terms;
-    let count = r.count;
-    let payments = r.payments;
     put_head(row, head);
     put_terms(row, terms);
     put_item(row, REQUEST_COUNT, count);
-    put_payments(row, payments);
+    put_words(row, REQUEST_PAYMENTS, places);
     0
 }
 
@@ -296,16 +335,55 @@ fn put_refused(row: &mut [u64], b: Break, h: Head) -> u64
     refusal.number()
 }
 
-fn put_reading(row: &mut [u64], r: Reading) -> u64
+// After 119 of a 131. Nothing is put before all was read.
+fn put_settling(row: &mut [u64], text: &[u8], c: Cursor, head: Head) -> u64
     requires { ⌜ 192 ≤ length (now row) ⌝ }
-    ensures { λ n. ⌜ (n ≡ readingNumber r) × (now (row .exit) ≡ sets (now (row .entry)) 0 (readingWords r)) ⌝ }
+    ensures { λ n. ⌜ (n ≡ readingNumber (settlementAt (now (text .entry)) (c .at) head)) × (now (row .exit) ≡ sets (now (row .entry)) 0 (readingWords (settlementAt (now (text .entry)) (c .at) head))) ⌝ }
 {
-    let outcome = r.outcome;
-    let head = r.head;
+    let t = terms::read_terms(text, c);
+    let Stated::Whole(terms, past) = t else {
+        return put_refused(row, t.why(), head);
+    };
+    let mut places = [0u64; 160];
+    let p = put_payments(&mut places, text, past);
+    let ending = p.ending;
+    let Ending::Done(then) = ending else {
+        return put_refused(row, request::cut(ending), head);
+    };
+    let f = fields::read_count(text, then, p.n as u64);
+    let Field::Good(count, next) = f else {
+        return put_refused(row, f.why(), head);
+    };
+    if next.at < text.len() {
+        return put_refused(row, Break::absent(next.at), head);
+    }
+    put_accepted(row, head, terms, count, &places)
+}
+
+// After 119 of a 133.
+fn put_recalling(row: &mut [u64], text: &[u8], c: Cursor, head: Head) -> u64
+    requires { ⌜ 192 ≤ length (now row) ⌝ }
+    ensures { λ n. ⌜ (n ≡ readingNumber (recallAt (now (text .entry)) (c .at) head)) × (now (row .exit) ≡ sets (now (row .entry)) 0 (readingWords (recallAt (now (text .entry)) (c .at) head))) ⌝ }
+{
+    if c.at < text.len() {
+        return put_refused(row, Break::absent(c.at), head);
+    }
+    let places = [0u64; 160];
+    put_accepted(row, head, Terms::nothing(), Item::nothing(), &places)
+}
+
+fn put_request(row: &mut [u64], text: &[u8]) -> u64
+    requires { ⌜ 192 ≤ length (now row) ⌝ }
+    ensures { λ n. ⌜ (n ≡ readingNumber (requestAt (now (text .entry)))) × (now (row .exit) ≡ sets (now (row .entry)) 0 (readingWords (requestAt (now (text .entry))))) ⌝ }
+{
+    let b = request::read_beginning(text);
+    let outcome = b.outcome;
+    let head = b.head;
+    let next = b.next;
     match outcome {
-        Outcome::Settlement => put_accepted(row, r),
-        Outcome::Recall => put_accepted(row, r),
-        Outcome::Refused(b) => put_refused(row, b, head),
+        Outcome::Settlement => put_settling(row, text, next, head),
+        Outcome::Recall => put_recalling(row, text, next, head),
+        Outcome::Refused(why) => put_refused(row, why, head),
     }
 }
 
@@ -318,7 +396,7 @@ pub extern "C" fn purmagheli_read_request(text: &[u8], row: &mut [u64]) -> u64
     if row.len() < REQUEST_WORDS {
         return Refusal::ShortBuffer.number();
     }
-    put_reading(row, request::read_request(text))
+    put_request(row, text)
 }
 
 // 20, 12 and 21.

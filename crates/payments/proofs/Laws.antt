@@ -1,23 +1,24 @@
 -- The steps over a payment, and a turn of the loop over the payments.
 use Prim.Native.Nat.{ℕ, suc, _+_, _-_, _≤_, _<_}
-use mathlib.Core.Path.{_≡_, refl, _∙_}
+use mathlib.Core.Path.{_≡_, refl}
 use mathlib.Core.List.{List}
-use mathlib.Core.Bool.{Bool, true, false, not}
+use mathlib.Core.Bool.{Bool, true, false, not, cond}
 use native.Mathlib.Omega.{arith}
 use borrow.Author.Tests.{eq-eqb, ne-eqb, not-true, not-false}
+use lib.Dec.{eqb}
 use lib.ListN.{length, set, replicate, length-set}
 use Rattle.chars.specs.Words.{bytes}
-use Rattle.scan.specs.Scan.{litAt}
+use Rattle.scan.specs.Scan.{onNext, litAt}
 use Rattle.scan.specs.declared.Cursor.{Cursor}
 use Rattle.scan.specs.declared.At.{At}
 use Rattle.scan.specs.declared.At.the-variants.{Next, No}
-use Rattle.fields.specs.Fields.{wrong, nothing, place, fieldAt, whyNot}
+use Rattle.fields.specs.Fields.{wrong, nothing, place, onGood, fieldAt, whyNot}
 use Rattle.fields.specs.declared.Break.{Break}
 use Rattle.fields.specs.declared.Item.{Item}
 use Rattle.fields.specs.declared.Field.{Field}
 use Rattle.fields.specs.declared.Field.the-variants.{Good, Bad}
 use Rattle.fields.specs.declared.Kind.the-variants.{Word, Side, Amount, Letters}
-use Rattle.payments.specs.Payments.{payment, noPayment, bankAt, creditAt, debitAt, paymentAt, moreAt, ended, paymentsOn, paymentsAt}
+use Rattle.payments.specs.Payments.{payment, noPayment, bankAt, creditAt, debitAt, paymentAt, statusAt, moreAt, ended, paymentsOn, paymentsAt}
 use Rattle.payments.specs.declared.Payment.{Payment}
 use Rattle.payments.specs.declared.Paid.{Paid}
 use Rattle.payments.specs.declared.Paid.the-variants.{One, Unpaid}
@@ -26,47 +27,60 @@ use Rattle.payments.specs.declared.Ending.the-variants.{Done, Cut}
 pub no-payment : {i : Item} → i ≡ nothing → payment i i i i ≡ noPayment
 no-payment e = simp e
 
+-- the two sides of a payment, told by its letters
+by-status : (s : List ℕ) (at : ℕ) (side amount : Item) → cond (eqb (side .number) 0) (creditAt s at side amount) (debitAt s at side amount) ≡ onGood (statusAt s at side) Unpaid (λ letters c. bankAt s (c .at) side amount letters)
+unfolding statusAt creditAt debitAt
+by-status s at side amount = go (eqb (side .number) 0) (litAt s at (bytes ":113:"))
+  where
+    go : (b : Bool) (r : At) → cond b (onNext r (bankAt s at side amount nothing) (λ a. Unpaid (wrong at))) (onGood (fieldAt s at (bytes ":113:") Letters) Unpaid (λ letters c. bankAt s (c .at) side amount letters)) ≡ onGood (cond b (onNext r (Good nothing (place at)) (λ a. Bad (wrong at))) (fieldAt s at (bytes ":113:") Letters)) Unpaid (λ letters c. bankAt s (c .at) side amount letters)
+    go true (Next a) = refl
+    go true No = refl
+    go false r = refl
+
 module _ (s : List ℕ) (at : ℕ) where
-  module _ (side amount : Item) where
-    pub bank-1 : (letters : Item) {f : Field} {b w : Break} → f ≡ fieldAt s at (bytes ":102:") (Word 4) → f ≡ Bad b → w ≡ whyNot f → Unpaid w ≡ bankAt s at side amount letters
-    unfolding bankAt
-    bank-1 letters p p′ w = simp (← p, w, p′)
+  module _ (side : Item) where
+    pub credit-letters : {r : At} {a : ℕ} {b : Break} → side .number ≡ 0 → r ≡ litAt s at (bytes ":113:") → r ≡ Next a → b ≡ wrong at → Bad b ≡ statusAt s at side
+    unfolding statusAt
+    credit-letters h p p′ b = simp (eq-eqb _ _ h, ← p, p′, b)
 
-    pub bank-2 : (letters : Item) {f : Field} {i : Item} {c : Cursor} → f ≡ fieldAt s at (bytes ":102:") (Word 4) → f ≡ Good i c → One (payment side amount letters i) c ≡ bankAt s at side amount letters
-    unfolding bankAt
-    bank-2 letters p p′ = simp (← p, p′)
+    pub credit-bare : {r : At} {i : Item} {c : Cursor} → side .number ≡ 0 → r ≡ litAt s (c .at) (bytes ":113:") → r ≡ No → i ≡ nothing → c .at ≡ at → Good i c ≡ statusAt s at side
+    unfolding statusAt
+    credit-bare h p p′ i e = simp (eq-eqb _ _ h, ← e, ← p, p′, i)
 
-    pub credit-1 : {r : At} {a : ℕ} {b : Break} → r ≡ litAt s at (bytes ":113:") → r ≡ Next a → b ≡ wrong at → Unpaid b ≡ creditAt s at side amount
-    unfolding creditAt
-    credit-1 p p′ b = simp (← p, p′, b)
+    pub debit-broken : {f : Field} {b w : Break} → (side .number ≡ 0 → ⊥) → f ≡ fieldAt s at (bytes ":113:") Letters → f ≡ Bad b → w ≡ whyNot f → Bad w ≡ statusAt s at side
+    unfolding statusAt
+    debit-broken h p p′ w = simp (ne-eqb _ _ h, ← p, w, p′)
 
-    pub credit-2 : {r : At} {i : Item} {o : Paid} → r ≡ litAt s at (bytes ":113:") → r ≡ No → i ≡ nothing → o ≡ bankAt s at side amount i → o ≡ creditAt s at side amount
-    unfolding creditAt
-    credit-2 p p′ e q = q ∙ simp (← p, p′, e)
+    pub debit-letters : {f : Field} {i : Item} {c : Cursor} → (side .number ≡ 0 → ⊥) → f ≡ fieldAt s at (bytes ":113:") Letters → f ≡ Good i c → Good i c ≡ statusAt s at side
+    unfolding statusAt
+    debit-letters h p p′ = simp (ne-eqb _ _ h, ← p, p′)
 
-    pub debit-1 : {f : Field} {b w : Break} → f ≡ fieldAt s at (bytes ":113:") Letters → f ≡ Bad b → w ≡ whyNot f → Unpaid w ≡ debitAt s at side amount
-    unfolding debitAt
-    debit-1 p p′ w = simp (← p, w, p′)
+  module _ {f : Field} (p : f ≡ fieldAt s at (bytes ":127:") Side) where
+    pub no-side : {b w : Break} → f ≡ Bad b → w ≡ whyNot f → Unpaid w ≡ paymentAt s at
+    unfolding paymentAt
+    no-side p′ w = simp (← p, w, p′)
 
-    pub debit-2 : {f : Field} {i : Item} {c : Cursor} {o : Paid} → f ≡ fieldAt s at (bytes ":113:") Letters → f ≡ Good i c → o ≡ bankAt s (c .at) side amount i → o ≡ debitAt s at side amount
-    unfolding debitAt
-    debit-2 p p′ q = simp (← p, p′, ← q)
+    module _ {side : Item} {c : Cursor} (p′ : f ≡ Good side c) {g : Field} (q : g ≡ fieldAt s (c .at) (bytes ":32B:") Amount) where
+      pub no-amount : {b w : Break} → g ≡ Bad b → w ≡ whyNot g → Unpaid w ≡ paymentAt s at
+      unfolding paymentAt
+      no-amount q′ w = simp (← p, p′, ← q, w, q′)
 
-  pub payment-1 : {f : Field} {b w : Break} → f ≡ fieldAt s at (bytes ":127:") Side → f ≡ Bad b → w ≡ whyNot f → Unpaid w ≡ paymentAt s at
-  unfolding paymentAt
-  payment-1 p p′ w = simp (← p, w, p′)
+      module _ {amount : Item} {d : Cursor} (q′ : g ≡ Good amount d) {h : Field} (l : h ≡ statusAt s (d .at) side) where
+        so-far : onGood h Unpaid (λ letters e. bankAt s (e .at) side amount letters) ≡ paymentAt s at
+        unfolding paymentAt
+        so-far = rw l (simp (← p, p′, ← q, q′, by-status s (d .at) side amount))
 
-  pub payment-2 : {f g : Field} {i : Item} {c : Cursor} {b w : Break} → f ≡ fieldAt s at (bytes ":127:") Side → f ≡ Good i c → g ≡ fieldAt s (c .at) (bytes ":32B:") Amount → g ≡ Bad b → w ≡ whyNot g → Unpaid w ≡ paymentAt s at
-  unfolding paymentAt
-  payment-2 p p′ q q′ w = simp (← p, p′, ← q, w, q′)
+        pub no-letters : {b w : Break} → h ≡ Bad b → w ≡ whyNot h → Unpaid w ≡ paymentAt s at
+        no-letters l′ w = rw (w, l′) (simp l′ at so-far)
 
-  pub payment-3 : {f g : Field} {i m : Item} {c d : Cursor} {o : Paid} → f ≡ fieldAt s at (bytes ":127:") Side → f ≡ Good i c → g ≡ fieldAt s (c .at) (bytes ":32B:") Amount → g ≡ Good m d → i .number ≡ 0 → o ≡ creditAt s (d .at) i m → o ≡ paymentAt s at
-  unfolding paymentAt
-  payment-3 p p′ q q′ h o = simp (← p, p′, ← q, q′, eq-eqb _ _ h, ← o)
+        module _ {letters : Item} {e : Cursor} (l′ : h ≡ Good letters e) {k : Field} (m : k ≡ fieldAt s (e .at) (bytes ":102:") (Word 4)) where
+          pub no-bank : {b w : Break} → k ≡ Bad b → w ≡ whyNot k → Unpaid w ≡ paymentAt s at
+          unfolding bankAt
+          no-bank m′ w = rw (w, m′) (simp (l′, ← m, m′) at so-far)
 
-  pub payment-4 : {f g : Field} {i m : Item} {c d : Cursor} {o : Paid} → f ≡ fieldAt s at (bytes ":127:") Side → f ≡ Good i c → g ≡ fieldAt s (c .at) (bytes ":32B:") Amount → g ≡ Good m d → (i .number ≡ 0 → ⊥) → o ≡ debitAt s (d .at) i m → o ≡ paymentAt s at
-  unfolding paymentAt
-  payment-4 p p′ q q′ h o = simp (← p, p′, ← q, q′, ne-eqb _ _ h, ← o)
+          pub whole : {bank : Item} {x : Cursor} → k ≡ Good bank x → One (payment side amount letters bank) x ≡ paymentAt s at
+          unfolding bankAt
+          whole m′ = simp (l′, ← m, m′) at so-far
 
   pub more-1 : {r : At} {n : ℕ} → r ≡ litAt s at (bytes ":127:") → r ≡ Next n → true ≡ moreAt s at
   unfolding moreAt

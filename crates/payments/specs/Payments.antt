@@ -8,9 +8,11 @@ use Rattle.chars.specs.Words.{bytes}
 use Rattle.scan.specs.Scan.{onNext, litAt}
 use Rattle.scan.specs.declared.Cursor.{Cursor}
 use Rattle.values.specs.Values.{stands}
-use Rattle.fields.specs.Fields.{wrong, nothing, place, onGood, fieldAt}
+use Rattle.fields.specs.Fields.{absent, wrong, nothing, place, onGood, fieldAt}
 use Rattle.fields.specs.declared.Break.{Break}
 use Rattle.fields.specs.declared.Item.{Item}
+use Rattle.fields.specs.declared.Field.{Field}
+use Rattle.fields.specs.declared.Field.the-variants.{Good, Bad}
 use Rattle.fields.specs.declared.Kind.the-variants.{Word, Side, Amount, Letters}
 use Rattle.payments.specs.declared.Payment.{Payment}
 use Rattle.payments.specs.declared.Paid.{Paid}
@@ -48,9 +50,20 @@ paymentAt s at =
     onGood (fieldAt s (c .at) (bytes ":32B:") Amount) Unpaid (λ amount d.
     cond (eqb (side .number) 0) (creditAt s (d .at) side amount) (debitAt s (d .at) side amount)))
 
+-- 113 of a side: a credit has no letters
+unfoldable pub statusAt : List ℕ → ℕ → Item → Field
+statusAt s at side =
+    cond (eqb (side .number) 0)
+    (onNext (litAt s at (bytes ":113:")) (Good nothing (place at)) (λ a. Bad (wrong at)))
+    (fieldAt s at (bytes ":113:") Letters)
+
 -- a further payment begins
 unfoldable pub moreAt : List ℕ → ℕ → Bool
 moreAt s at = stands (litAt s at (bytes ":127:"))
+
+abbrev pub whyUnpaid : Paid → Break
+whyUnpaid (One p c) = absent 0
+whyUnpaid (Unpaid b) = b
 
 abbrev pub onPaid : {A : Type 0} → Paid → (Break → A) → (Payment → Cursor → A) → A
 onPaid (One p c) d k = k p c

@@ -6,7 +6,7 @@ use fields::Item;
 use scan::At;
 use scan::Cursor;
 ghost use mathlib.Core.Path.{_≡_};
-ghost use Rattle.payments.specs.Payments.{noPayment, bankAt, creditAt, debitAt, paymentAt, moreAt, paymentsAt};
+ghost use Rattle.payments.specs.Payments.{noPayment, statusAt, whyUnpaid, paymentAt, moreAt, paymentsAt};
 
 // A payment's fields. Its side is 0 for CR and 1 for DR; a credit's letters are 0.
 pub struct Payment {
@@ -37,13 +37,54 @@ pub enum Paid {
     Unpaid(Break),
 }
 
-// 102, which ends a payment.
-fn read_bank(s: &[u8], c: Cursor, side: Item, amount: Item, letters: Item) -> Paid
-    ensures { λ r. ⌜ r ≡ bankAt (now (s .entry)) (c .at) side amount letters ⌝ }
+impl Paid {
+    // The break; one of the text's beginning for a payment that was read.
+    pub fn why(self) -> Break
+        ensures { λ r. ⌜ r ≡ whyUnpaid self ⌝ }
+    {
+        match self {
+            Paid::One(_, _) => Break::absent(Cursor::START),
+            Paid::Unpaid(b) => b,
+        }
+    }
+}
+
+// 113, which stands after DR and never after CR: a credit has no letters.
+fn read_letters(s: &[u8], c: Cursor, side: Item) -> Field
+    ensures { λ r. ⌜ r ≡ statusAt (now (s .entry)) (c .at) side ⌝ }
 {
-    let f = fields::read_word(s, c, b":102:", 4);
-    let Field::Good(bank, next) = f else {
+    if side.number == 0 {
+        let at = c.at;
+        if let At::Next(_) = scan::lit(s, at, b":113:") {
+            return Field::Bad(Break::wrong(at, Refusal::Malformed));
+        }
+        return Field::Good(Item::nothing(), c);
+    }
+    let f = fields::read_letters(s, c);
+    let Field::Good(letters, next) = f else {
+        return Field::Bad(f.why());
+    };
+    Field::Good(letters, next)
+}
+
+pub fn read_payment(s: &[u8], c: Cursor) -> Paid
+    ensures { λ r. ⌜ r ≡ paymentAt (now (s .entry)) (c .at) ⌝ }
+{
+    let f = fields::read_side(s, c);
+    let Field::Good(side, past) = f else {
         return Paid::Unpaid(f.why());
+    };
+    let g = fields::read_amount(s, past);
+    let Field::Good(amount, then) = g else {
+        return Paid::Unpaid(g.why());
+    };
+    let h = read_letters(s, then, side);
+    let Field::Good(letters, last) = h else {
+        return Paid::Unpaid(h.why());
+    };
+    let k = fields::read_bank(s, last);
+    let Field::Good(bank, next) = k else {
+        return Paid::Unpaid(k.why());
     };
     Paid::One(
         Payment {
@@ -54,46 +95,6 @@ fn read_bank(s: &[u8], c: Cursor, side: Item, amount: Item, letters: Item) -> Pa
         },
         next,
     )
-}
-
-// After 32B of a credit: no 113.
-fn read_credit(s: &[u8], c: Cursor, side: Item, amount: Item) -> Paid
-    ensures { λ r. ⌜ r ≡ creditAt (now (s .entry)) (c .at) side amount ⌝ }
-{
-    let at = c.at;
-    if let At::Next(_) = scan::lit(s, at, b":113:") {
-        return Paid::Unpaid(Break::wrong(at, Refusal::Malformed));
-    }
-    read_bank(s, c, side, amount, Item::nothing())
-}
-
-// After 32B of a debit: 113.
-fn read_debit(s: &[u8], c: Cursor, side: Item, amount: Item) -> Paid
-    ensures { λ r. ⌜ r ≡ debitAt (now (s .entry)) (c .at) side amount ⌝ }
-{
-    let f = fields::read_letters(s, c, b":113:");
-    let Field::Good(letters, next) = f else {
-        return Paid::Unpaid(f.why());
-    };
-    read_bank(s, next, side, amount, letters)
-}
-
-pub fn read_payment(s: &[u8], c: Cursor) -> Paid
-    ensures { λ r. ⌜ r ≡ paymentAt (now (s .entry)) (c .at) ⌝ }
-{
-    let f = fields::read_side(s, c, b":127:");
-    let Field::Good(side, past) = f else {
-        return Paid::Unpaid(f.why());
-    };
-    let g = fields::read_amount(s, past, b":32B:");
-    let Field::Good(amount, next) = g else {
-        return Paid::Unpaid(g.why());
-    };
-    if side.number == 0 {
-        read_credit(s, next, side, amount)
-    } else {
-        read_debit(s, next, side, amount)
-    }
 }
 
 // How the payments end: at a cursor, or in a break.
@@ -110,7 +111,7 @@ pub struct Payments {
 }
 
 // A further payment begins.
-fn more(s: &[u8], c: Cursor) -> bool
+pub fn more(s: &[u8], c: Cursor) -> bool
     ensures { λ r. ⌜ r ≡ moreAt (now (s .entry)) (c .at) ⌝ }
 {
     if let At::Next(_) = scan::lit(s, c.at, b":127:") {

@@ -130,7 +130,7 @@ fn read_number(s: &[u8]) -> Field
     let At::Next(a) = scan::lit(s, Cursor::START, b":20:") else {
         return Field::Bad(Break::absent(Cursor::START));
     };
-    match fields::read_numeral(s, Cursor { at: a }, b"B", 7) {
+    match fields::read_serial(s, Cursor { at: a }) {
         Field::Bad(_) => Field::Bad(Break::wrong(Cursor::START, Refusal::Malformed)),
         Field::Good(i, next) => {
             let part = i.part;
@@ -152,23 +152,23 @@ fn read_number(s: &[u8]) -> Field
 fn read_reference(s: &[u8], c: Cursor) -> Field
     ensures { λ r. ⌜ r ≡ requestReferenceAt (now (s .entry)) (c .at) ⌝ }
 {
-    let f = fields::read_empty(s, c, b":77E:");
+    let f = fields::read_empty(s, c);
     let Field::Good(_, next) = f else {
         return Field::Bad(f.why());
     };
-    fields::read_reference(s, next, b":21:")
+    fields::read_requested(s, next)
 }
 
 // 22A and 119.
 fn read_batch(s: &[u8], c: Cursor) -> Batched
     ensures { λ r. ⌜ r ≡ batchAt (now (s .entry)) (c .at) ⌝ }
 {
-    let f = fields::read_word(s, c, b":22A:", 4);
+    let f = fields::read_stream(s, c);
     let Field::Good(stream, past) = f else {
         return Batched::Lost(f.why());
     };
     let part = stream.part;
-    let g = fields::read_bin(s, past, b":119:", part);
+    let g = fields::read_bin(s, past, part);
     let Field::Good(bin, next) = g else {
         return Batched::Lost(g.why());
     };
@@ -179,7 +179,7 @@ fn read_batch(s: &[u8], c: Cursor) -> Batched
 fn read_settled(s: &[u8], c: Cursor, status: Part) -> Ended
     ensures { λ r. ⌜ r ≡ settledAt (now (s .entry)) (c .at) status ⌝ }
 {
-    let f = fields::read_numeral(s, c, b":13E:", 12);
+    let f = fields::read_moment(s, c);
     let Field::Good(i, next) = f else {
         return Ended::Unclear(f.why());
     };
@@ -198,7 +198,7 @@ fn read_settled(s: &[u8], c: Cursor, status: Part) -> Ended
 fn read_rejected(s: &[u8], c: Cursor, status: Part) -> Ended
     ensures { λ r. ⌜ r ≡ rejectedAt (now (s .entry)) (c .at) status ⌝ }
 {
-    let f = fields::read_numeral(s, c, b":432:", 2);
+    let f = fields::read_refusal(s, c);
     let Field::Good(i, next) = f else {
         return Ended::Unclear(f.why());
     };
@@ -210,7 +210,7 @@ fn read_rejected(s: &[u8], c: Cursor, status: Part) -> Ended
 fn read_ended(s: &[u8], c: Cursor) -> Ended
     ensures { λ r. ⌜ r ≡ endedAt (now (s .entry)) (c .at) ⌝ }
 {
-    let f = fields::read_numeral(s, c, b":451:", 1);
+    let f = fields::read_status(s, c);
     let Field::Good(i, next) = f else {
         return Ended::Unclear(f.why());
     };
@@ -227,7 +227,7 @@ fn read_ended(s: &[u8], c: Cursor) -> Ended
 fn read_answer(s: &[u8], c: Cursor) -> Answered
     ensures { λ r. ⌜ r ≡ answerAt (now (s .entry)) (c .at) ⌝ }
 {
-    let f = fields::read_numeral(s, c, b":451:", 1);
+    let f = fields::read_status(s, c);
     let Field::Good(i, past) = f else {
         return Answered::Without(f.why());
     };
@@ -236,7 +236,7 @@ fn read_answer(s: &[u8], c: Cursor) -> Answered
     match n {
         0 => Answered::With(Answer::Recalled, status, Part::nowhere(), past),
         1 => {
-            let g = fields::read_numeral(s, past, b":432:", 2);
+            let g = fields::read_refusal(s, past);
             let Field::Good(j, next) = g else {
                 return Answered::Without(g.why());
             };
@@ -370,7 +370,7 @@ pub fn read_response(s: &[u8]) -> ReadResponse
     let Field::Good(number, past) = f else {
         return ReadResponse::refused(f.why());
     };
-    let g = fields::read_numeral(s, past, b":12:", 3);
+    let g = fields::read_sub_type(s, past);
     let Field::Good(subtype, next) = g else {
         return ReadResponse::refused(g.why());
     };

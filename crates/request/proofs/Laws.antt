@@ -1,10 +1,10 @@
 -- The steps over a request, by what their parts answer.
-use Prim.Native.Nat.{ℕ, _-_, _≤_, _<_}
-use mathlib.Core.Path.{_≡_, _∙_}
+use Prim.Native.Nat.{ℕ, _≤_, _<_}
+use mathlib.Core.Path.{_≡_, refl, ap, _∙_}
 use mathlib.Core.List.{List, [], _∷_}
-use mathlib.Core.Bool.{true, false}
-use native.Mathlib.Omega.{arith}
+use mathlib.Core.Bool.{Bool, true, false, cond}
 use borrow.Author.Tests.{eq-eqb, ne-eqb, lt-ltb, le-ltb}
+use lib.Dec.{eqb}
 use lib.ListN.{length, replicate}
 use Rattle.chars.specs.Words.{bytes, member}
 use Rattle.chars.specs.declared.Refusal.the-variants.{OtherSubType}
@@ -13,7 +13,7 @@ use Rattle.codes.specs.declared.Code.{Code}
 use Rattle.scan.specs.declared.Cursor.{Cursor}
 use Rattle.values.specs.Values.{noPart, codeOf}
 use Rattle.values.specs.declared.Part.{Part}
-use Rattle.fields.specs.Fields.{absent, broken, nothing, fieldAt, whyNot}
+use Rattle.fields.specs.Fields.{absent, broken, nothing, place, onGood, fieldAt, whyNot}
 use Rattle.fields.specs.declared.Break.{Break}
 use Rattle.fields.specs.declared.Item.{Item}
 use Rattle.fields.specs.declared.Field.{Field}
@@ -23,11 +23,11 @@ use Rattle.terms.specs.Terms.{noTerms, termsAt, unstated}
 use Rattle.terms.specs.declared.Terms.{Terms}
 use Rattle.terms.specs.declared.Stated.{Stated}
 use Rattle.terms.specs.declared.Stated.the-variants.{Whole, Partial}
-use Rattle.payments.specs.Payments.{none, noPayment, paymentsAt}
+use Rattle.payments.specs.Payments.{noPayment, paymentsAt}
 use Rattle.payments.specs.declared.Payment.{Payment}
 use Rattle.payments.specs.declared.Payments.{Payments}
 use Rattle.payments.specs.declared.Ending.the-variants.{Done, Cut}
-use Rattle.request.specs.Request.{noName, namedAt, address, nowhere, toStream, head, bare, refusal, unread, settlement, addressAt, cutBy, settlementAt, recallAt, messageAt, requestAt}
+use Rattle.request.specs.Request.{noName, namedAt, address, nowhere, toStream, head, bare, refusal, settlement, onTo, addressAt, cutBy, settlementAt, recallAt, messageAt, requestAt, brokenOff, addressedAt, beginningAt, readOn}
 use Rattle.request.specs.declared.Named.{Named}
 use Rattle.request.specs.declared.Reached.the-variants.{Nothing, Stream, Bin as Both}
 use Rattle.request.specs.declared.Address.{Address}
@@ -35,8 +35,9 @@ use Rattle.request.specs.declared.Addressed.{Addressed}
 use Rattle.request.specs.declared.Addressed.the-variants.{To, Lost}
 use Rattle.request.specs.declared.Head.{Head}
 use Rattle.request.specs.declared.Outcome.{Outcome}
-use Rattle.request.specs.declared.Outcome.the-variants.{Recall, Refused}
+use Rattle.request.specs.declared.Outcome.the-variants.{Settlement, Recall, Refused}
 use Rattle.request.specs.declared.Reading.{Reading}
+use Rattle.request.specs.declared.Begun.{Begun}
 
 module _ (s : List ℕ) (p : Part) where
   pub named-is : {c : Code} → c ≡ codeOf s p → record { part = p; code = c } ≡ namedAt s p
@@ -108,34 +109,91 @@ module _ (s : List ℕ) (at : ℕ) where
     recall-2 l o = o ∙ simp (le-ltb _ _ l)
 
   module _ (reference : Named) (t : Item) where
-    pub message-1 : {x : Addressed} {b : Break} {a : Address} {o : Reading} → x ≡ addressAt s at → x ≡ Lost b a → o ≡ refusal t b a → o ≡ messageAt s at reference t
-    unfolding messageAt
-    message-1 p p′ o = o ∙ simp (← p, p′)
+    pub addressed-1 : {x : Addressed} {b : Break} {a : Address} {o : Begun} → x ≡ addressAt s at → x ≡ Lost b a → o ≡ brokenOff t b a → o ≡ addressedAt s at reference t
+    unfolding addressedAt
+    addressed-1 p p′ o = o ∙ simp (← p, p′)
 
-    pub message-2 : {x : Addressed} {a : Address} {c : Cursor} {o : Reading} → x ≡ addressAt s at → x ≡ To a c → t .number ≡ 131 → o ≡ settlementAt s (c .at) (head reference t a) → o ≡ messageAt s at reference t
-    unfolding messageAt
-    message-2 p p′ h o = o ∙ simp (← p, p′, eq-eqb _ _ h)
+    pub addressed-2 : {x : Addressed} {a : Address} {c : Cursor} → x ≡ addressAt s at → x ≡ To a c → t .number ≡ 131 → record { outcome = Settlement; head = head reference t a; next = c } ≡ addressedAt s at reference t
+    unfolding addressedAt
+    addressed-2 p p′ h = simp (← p, p′, eq-eqb _ _ h)
 
-    pub message-3 : {x : Addressed} {a : Address} {c : Cursor} {o : Reading} → x ≡ addressAt s at → x ≡ To a c → (t .number ≡ 131 → ⊥) → o ≡ recallAt s (c .at) (head reference t a) → o ≡ messageAt s at reference t
-    unfolding messageAt
-    message-3 p p′ h o = o ∙ simp (← p, p′, ne-eqb _ _ h)
+    pub addressed-3 : {x : Addressed} {a : Address} {c : Cursor} → x ≡ addressAt s at → x ≡ To a c → (t .number ≡ 131 → ⊥) → record { outcome = Recall; head = head reference t a; next = c } ≡ addressedAt s at reference t
+    unfolding addressedAt
+    addressed-3 p p′ h = simp (← p, p′, ne-eqb _ _ h)
 
-pub unread-is : (b : Break) {i : Item} {a : Address} {o : Reading} → i ≡ nothing → a ≡ nowhere → o ≡ refusal i b a → o ≡ unread b
+abbrev off : Item → Break → Address → ℕ → Begun
+off t b a at = record { outcome = Refused b; head = head noName t a; next = place at }
+
+pub broken-off : (t : Item) (b : Break) (a : Address) {n : Named} {z : Cursor} → n ≡ noName → z .at ≡ 0 → record { outcome = Refused b; head = head n t a; next = z } ≡ brokenOff t b a
+broken-off t b a n z = rw n (ap (off t b a) z)
+
+pub unread-is : (b : Break) {i : Item} {a : Address} {o : Begun} → i ≡ nothing → a ≡ nowhere → o ≡ brokenOff i b a → o ≡ brokenOff nothing b nowhere
 unread-is b i a o = o ∙ simp (i, a)
 
 module _ (s : List ℕ) where
-  pub request-1 : {f : Field} {z : Cursor} {b w : Break} {o : Reading} → z .at ≡ 0 → f ≡ fieldAt s (z .at) (bytes ":20:") Reference → f ≡ Bad b → w ≡ whyNot f → o ≡ unread w → o ≡ requestAt s
-  unfolding requestAt
-  request-1 z p p′ w o = o ∙ simp (← z, ← p, w, p′)
+  pub beginning-1 : {f : Field} {z : Cursor} {b w : Break} {o : Begun} → z .at ≡ 0 → f ≡ fieldAt s (z .at) (bytes ":20:") Reference → f ≡ Bad b → w ≡ whyNot f → o ≡ brokenOff nothing w nowhere → o ≡ beginningAt s
+  unfolding beginningAt
+  beginning-1 z p p′ w o = o ∙ simp (← z, ← p, w, p′)
 
-  pub request-2 : {f g : Field} {z c : Cursor} {i : Item} {b w : Break} {o : Reading} → z .at ≡ 0 → f ≡ fieldAt s (z .at) (bytes ":20:") Reference → f ≡ Good i c → g ≡ fieldAt s (c .at) (bytes ":12:") (Numeral 3) → g ≡ Bad b → w ≡ whyNot g → o ≡ unread w → o ≡ requestAt s
-  unfolding requestAt
-  request-2 z p p′ q q′ w o = o ∙ simp (← z, ← p, p′, ← q, w, q′)
+  pub beginning-2 : {f g : Field} {z c : Cursor} {i : Item} {b w : Break} {o : Begun} → z .at ≡ 0 → f ≡ fieldAt s (z .at) (bytes ":20:") Reference → f ≡ Good i c → g ≡ fieldAt s (c .at) (bytes ":12:") (Numeral 3) → g ≡ Bad b → w ≡ whyNot g → o ≡ brokenOff nothing w nowhere → o ≡ beginningAt s
+  unfolding beginningAt
+  beginning-2 z p p′ q q′ w o = o ∙ simp (← z, ← p, p′, ← q, w, q′)
 
-  pub request-3 : {f g : Field} {z c d : Cursor} {i t : Item} {n : Named} {o : Reading} → z .at ≡ 0 → f ≡ fieldAt s (z .at) (bytes ":20:") Reference → f ≡ Good i c → g ≡ fieldAt s (c .at) (bytes ":12:") (Numeral 3) → g ≡ Good t d → member (t .number) (131 ∷ 133 ∷ []) ≡ true → n ≡ namedAt s (i .part) → o ≡ messageAt s (d .at) n t → o ≡ requestAt s
-  unfolding requestAt
-  request-3 z p p′ q q′ m n o = o ∙ simp (← z, ← p, p′, ← q, q′, m, n)
+  pub beginning-3 : {f g : Field} {z c d : Cursor} {i t : Item} {n : Named} {o : Begun} → z .at ≡ 0 → f ≡ fieldAt s (z .at) (bytes ":20:") Reference → f ≡ Good i c → g ≡ fieldAt s (c .at) (bytes ":12:") (Numeral 3) → g ≡ Good t d → member (t .number) (131 ∷ 133 ∷ []) ≡ true → n ≡ namedAt s (i .part) → o ≡ addressedAt s (d .at) n t → o ≡ beginningAt s
+  unfolding beginningAt
+  beginning-3 z p p′ q q′ m n o = o ∙ simp (← z, ← p, p′, ← q, q′, m, n)
 
-  pub request-4 : {f g : Field} {z c d : Cursor} {i t : Item} {w : Break} {o : Reading} → z .at ≡ 0 → f ≡ fieldAt s (z .at) (bytes ":20:") Reference → f ≡ Good i c → g ≡ fieldAt s (c .at) (bytes ":12:") (Numeral 3) → g ≡ Good t d → member (t .number) (131 ∷ 133 ∷ []) ≡ false → w ≡ broken (c .at) OtherSubType → o ≡ unread w → o ≡ requestAt s
-  unfolding requestAt
-  request-4 z p p′ q q′ m w o = o ∙ simp (← z, ← p, p′, ← q, q′, m, w)
+  pub beginning-4 : {f g : Field} {z c d : Cursor} {i t : Item} {w : Break} {o : Begun} → z .at ≡ 0 → f ≡ fieldAt s (z .at) (bytes ":20:") Reference → f ≡ Good i c → g ≡ fieldAt s (c .at) (bytes ":12:") (Numeral 3) → g ≡ Good t d → member (t .number) (131 ∷ 133 ∷ []) ≡ false → w ≡ broken (c .at) OtherSubType → o ≡ brokenOff nothing w nowhere → o ≡ beginningAt s
+  unfolding beginningAt
+  beginning-4 z p p′ q q′ m w o = o ∙ simp (← z, ← p, p′, ← q, q′, m, w)
+
+  -- a beginning and what follows it are the request
+  on-field : (f : Field) (d : Break → Begun) (k : Item → Cursor → Begun) (d′ : Break → Reading) (k′ : Item → Cursor → Reading) → ((b : Break) → readOn s (d b) ≡ d′ b) → ((i : Item) (c : Cursor) → readOn s (k i c) ≡ k′ i c) → readOn s (onGood f d k) ≡ onGood f d′ k′
+  on-field (Good i c) d k d′ k′ p q = q i c
+  on-field (Bad b) d k d′ k′ p q = p b
+
+  on-address : (x : Addressed) (d : Break → Address → Begun) (k : Address → Cursor → Begun) (d′ : Break → Address → Reading) (k′ : Address → Cursor → Reading) → ((b : Break) (a : Address) → readOn s (d b a) ≡ d′ b a) → ((a : Address) (c : Cursor) → readOn s (k a c) ≡ k′ a c) → readOn s (onTo x d k) ≡ onTo x d′ k′
+  on-address (To a c) d k d′ k′ p q = q a c
+  on-address (Lost b a) d k d′ k′ p q = p b a
+
+  on-test : (y : Bool) (a b : Begun) (a′ b′ : Reading) → readOn s a ≡ a′ → readOn s b ≡ b′ → readOn s (cond y a b) ≡ cond y a′ b′
+  on-test true a b a′ b′ p q = p
+  on-test false a b a′ b′ p q = q
+
+  on-broken : (t : Item) (b : Break) (a : Address) → readOn s (brokenOff t b a) ≡ refusal t b a
+  unfolding readOn
+  on-broken t b a = refl
+
+  on-settles : (h : Head) (c : Cursor) → readOn s (record { outcome = Settlement; head = h; next = c }) ≡ settlementAt s (c .at) h
+  unfolding readOn
+  on-settles h c = refl
+
+  on-recalls : (h : Head) (c : Cursor) → readOn s (record { outcome = Recall; head = h; next = c }) ≡ recallAt s (c .at) h
+  unfolding readOn
+  on-recalls h c = refl
+
+  pub by-beginning : readOn s (beginningAt s) ≡ requestAt s
+  unfolding beginningAt requestAt addressedAt messageAt
+  by-beginning =
+      on-field (fieldAt s 0 (bytes ":20:") Reference) _ _ _ _ (λ b. on-broken nothing b nowhere) (λ reference c.
+      on-field (fieldAt s (c .at) (bytes ":12:") (Numeral 3)) _ _ _ _ (λ b. on-broken nothing b nowhere) (λ t d.
+      on-test (member (t .number) (131 ∷ 133 ∷ [])) _ _ _ _
+      (on-address (addressAt s (d .at)) _ _ _ _ (on-broken t) (λ a e.
+      on-test (eqb (t .number) 131) _ _ _ _ (on-settles (head (namedAt s (reference .part)) t a) e) (on-recalls (head (namedAt s (reference .part)) t a) e)))
+      (on-broken nothing (broken (c .at) OtherSubType) nowhere)))
+
+  module _ {x : Begun} (p : x ≡ beginningAt s) where
+    so : readOn s x ≡ requestAt s
+    so = rw p by-beginning
+
+    pub request-settles : {o : Reading} → x .outcome ≡ Settlement → o ≡ settlementAt s (x .next .at) (x .head) → o ≡ requestAt s
+    unfolding readOn
+    request-settles h q = q ∙ (simp h at so)
+
+    pub request-recalls : {o : Reading} → x .outcome ≡ Recall → o ≡ recallAt s (x .next .at) (x .head) → o ≡ requestAt s
+    unfolding readOn
+    request-recalls h q = q ∙ (simp h at so)
+
+    pub request-breaks : {o : Reading} {b : Break} → x .outcome ≡ Refused b → o ≡ bare (x .outcome) (x .head) → o ≡ requestAt s
+    unfolding readOn
+    request-breaks h q = q ∙ ap (λ y. bare y (x .head)) h ∙ (simp h at so)

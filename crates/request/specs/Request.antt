@@ -10,7 +10,7 @@ use Rattle.codes.specs.Codes.{noCode}
 use Rattle.scan.specs.declared.Cursor.{Cursor}
 use Rattle.values.specs.Values.{noPart, codeOf}
 use Rattle.values.specs.declared.Part.{Part}
-use Rattle.fields.specs.Fields.{absent, broken, nothing, onGood, fieldAt}
+use Rattle.fields.specs.Fields.{absent, broken, nothing, place, onGood, fieldAt}
 use Rattle.fields.specs.declared.Break.{Break}
 use Rattle.fields.specs.declared.Item.{Item}
 use Rattle.fields.specs.declared.Kind.the-variants.{Empty, Reference, Numeral, Word, Bin, Count}
@@ -30,6 +30,7 @@ use Rattle.request.specs.declared.Head.{Head}
 use Rattle.request.specs.declared.Outcome.{Outcome}
 use Rattle.request.specs.declared.Outcome.the-variants.{Settlement, Recall, Refused}
 use Rattle.request.specs.declared.Reading.{Reading}
+use Rattle.request.specs.declared.Begun.{Begun}
 
 -- a reference or a BIN and its code
 unfoldable pub namedAt : List ℕ → Part → Named
@@ -114,3 +115,35 @@ requestAt s =
     cond (member (t .number) (131 ∷ 133 ∷ []))
     (messageAt s (d .at) (namedAt s (reference .part)) t)
     (unread (broken (c .at) OtherSubType))))
+
+-- ---- the same in two parts: how a text begins, and what follows
+
+abbrev pub brokenOff : Item → Break → Address → Begun
+brokenOff t b a = record { outcome = Refused b; head = head noName t a; next = place 0 }
+
+-- 77E, 22A and 119
+unfoldable pub addressedAt : List ℕ → ℕ → Named → Item → Begun
+addressedAt s at reference t =
+    onTo (addressAt s at) (brokenOff t) (λ a c.
+    cond (eqb (t .number) 131)
+    (record { outcome = Settlement; head = head reference t a; next = c })
+    (record { outcome = Recall; head = head reference t a; next = c }))
+
+-- 20 and 12 before them
+unfoldable pub beginningAt : List ℕ → Begun
+beginningAt s =
+    onGood (fieldAt s 0 (bytes ":20:") Reference) (λ b. brokenOff nothing b nowhere) (λ reference c.
+    onGood (fieldAt s (c .at) (bytes ":12:") (Numeral 3)) (λ b. brokenOff nothing b nowhere) (λ t d.
+    cond (member (t .number) (131 ∷ 133 ∷ []))
+    (addressedAt s (d .at) (namedAt s (reference .part)) t)
+    (brokenOff nothing (broken (c .at) OtherSubType) nowhere)))
+
+abbrev pub onOutcome : {A : Type 0} → Outcome → A → A → (Break → A) → A
+onOutcome Settlement settles recalls breaks = settles
+onOutcome Recall settles recalls breaks = recalls
+onOutcome (Refused b) settles recalls breaks = breaks b
+
+-- what is read of a text that begins so
+unfoldable pub readOn : List ℕ → Begun → Reading
+readOn s b =
+    onOutcome (b .outcome) (settlementAt s (b .next .at) (b .head)) (recallAt s (b .next .at) (b .head)) (λ why. bare (Refused why) (b .head))

@@ -11,7 +11,8 @@ use terms::Stated;
 use terms::Terms;
 use values::Part;
 ghost use mathlib.Core.Path.{_≡_};
-ghost use Rattle.request.specs.Request.{noName, namedAt, nowhere, toStream, bare, refusal, unread, addressAt, cutBy, settlementAt, recallAt, messageAt, requestAt};
+ghost use Rattle.fields.specs.Fields.{nothing};
+ghost use Rattle.request.specs.Request.{noName, namedAt, nowhere, toStream, bare, refusal, addressAt, cutBy, settlementAt, recallAt, brokenOff, addressedAt, beginningAt, requestAt};
 
 // A reference or a BIN: where it stands, and its code.
 pub struct Named {
@@ -135,29 +136,22 @@ impl Reading {
             },
         )
     }
-
-    // Nothing but the break.
-    fn unread(b: Break) -> Reading
-        ensures { λ r. ⌜ r ≡ unread b ⌝ }
-    {
-        Reading::refused(Item::nothing(), b, Address::nowhere())
-    }
 }
 
 // 77E, 22A and 119.
 fn read_address(s: &[u8], c: Cursor) -> Addressed
     ensures { λ r. ⌜ r ≡ addressAt (now (s .entry)) (c .at) ⌝ }
 {
-    let f = fields::read_empty(s, c, b":77E:");
+    let f = fields::read_empty(s, c);
     let Field::Good(_, past) = f else {
         return Addressed::Lost(f.why(), Address::nowhere());
     };
-    let g = fields::read_word(s, past, b":22A:", 4);
+    let g = fields::read_stream(s, past);
     let Field::Good(stream, then) = g else {
         return Addressed::Lost(g.why(), Address::nowhere());
     };
     let part = stream.part;
-    let h = fields::read_bin(s, then, b":119:", part);
+    let h = fields::read_bin(s, then, part);
     let Field::Good(bin, next) = h else {
         return Addressed::Lost(h.why(), Address::to_stream(stream));
     };
@@ -173,7 +167,7 @@ fn read_address(s: &[u8], c: Cursor) -> Addressed
 }
 
 // The break that ends the payments; one of the text's beginning where they end well.
-fn cut(e: Ending) -> Break
+pub fn cut(e: Ending) -> Break
     ensures { λ r. ⌜ r ≡ cutBy e ⌝ }
 {
     match e {
@@ -198,7 +192,7 @@ fn read_settlement(s: &[u8], c: Cursor, head: Head) -> Reading
         return Reading::refused(subtype, cut(ending), address);
     };
     let n = p.n;
-    let f = fields::read_count(s, then, b":203:", n as u64);
+    let f = fields::read_count(s, then, n as u64);
     let Field::Good(count, next) = f else {
         return Reading::refused(subtype, f.why(), address);
     };
@@ -228,12 +222,44 @@ fn read_recall(s: &[u8], c: Cursor, head: Head) -> Reading
     Reading::bare(Outcome::Recall, head)
 }
 
+// How a text begins, up to 119: as a settlement or a recall, with its head and the cursor past it. Of a text that breaks before, the
+// head holds only the sub type and the address, as far as they were read.
+pub struct Begun {
+    pub outcome: Outcome,
+    pub head: Head,
+    pub next: Cursor,
+}
+
+impl Begun {
+    // The break, the sub type and the address so far.
+    fn broken(subtype: Item, b: Break, address: Address) -> Begun
+        ensures { λ r. ⌜ r ≡ brokenOff subtype b address ⌝ }
+    {
+        Begun {
+            outcome: Outcome::Refused(b),
+            head: Head {
+                reference: Named::nothing(),
+                subtype,
+                address,
+            },
+            next: Cursor::new(),
+        }
+    }
+
+    // Nothing but the break.
+    fn unread(b: Break) -> Begun
+        ensures { λ r. ⌜ r ≡ brokenOff nothing b nowhere ⌝ }
+    {
+        Begun::broken(Item::nothing(), b, Address::nowhere())
+    }
+}
+
 // After 12, of either sub type.
-fn read_message(s: &[u8], c: Cursor, reference: Named, subtype: Item) -> Reading
-    ensures { λ r. ⌜ r ≡ messageAt (now (s .entry)) (c .at) reference subtype ⌝ }
+fn read_addressed(s: &[u8], c: Cursor, reference: Named, subtype: Item) -> Begun
+    ensures { λ r. ⌜ r ≡ addressedAt (now (s .entry)) (c .at) reference subtype ⌝ }
 {
     match read_address(s, c) {
-        Addressed::Lost(b, address) => Reading::refused(subtype, b, address),
+        Addressed::Lost(b, address) => Begun::broken(subtype, b, address),
         Addressed::To(address, next) => {
             let head = Head {
                 reference,
@@ -242,28 +268,51 @@ fn read_message(s: &[u8], c: Cursor, reference: Named, subtype: Item) -> Reading
             };
             let n = subtype.number;
             match n {
-                131 => read_settlement(s, next, head),
-                _ => read_recall(s, next, head),
+                131 => Begun {
+                    outcome: Outcome::Settlement,
+                    head,
+                    next,
+                },
+                _ => Begun {
+                    outcome: Outcome::Recall,
+                    head,
+                    next,
+                },
             }
         }
+    }
+}
+
+// 20, 12, 77E, 22A and 119.
+pub fn read_beginning(s: &[u8]) -> Begun
+    ensures { λ r. ⌜ r ≡ beginningAt (now (s .entry)) ⌝ }
+{
+    let f = fields::read_reference(s, Cursor::new());
+    let Field::Good(reference, past) = f else {
+        return Begun::unread(f.why());
+    };
+    let g = fields::read_sub_type(s, past);
+    let Field::Good(subtype, next) = g else {
+        return Begun::unread(g.why());
+    };
+    let part = reference.part;
+    let n = subtype.number;
+    match n {
+        131 | 133 => read_addressed(s, next, name_at(s, part), subtype),
+        _ => Begun::unread(Break::wrong(past.at, Refusal::OtherSubType)),
     }
 }
 
 pub fn read_request(s: &[u8]) -> Reading
     ensures { λ r. ⌜ r ≡ requestAt (now (s .entry)) ⌝ }
 {
-    let f = fields::read_reference(s, Cursor::new(), b":20:");
-    let Field::Good(reference, past) = f else {
-        return Reading::unread(f.why());
-    };
-    let g = fields::read_numeral(s, past, b":12:", 3);
-    let Field::Good(subtype, next) = g else {
-        return Reading::unread(g.why());
-    };
-    let part = reference.part;
-    let n = subtype.number;
-    match n {
-        131 | 133 => read_message(s, next, name_at(s, part), subtype),
-        _ => Reading::unread(Break::wrong(past.at, Refusal::OtherSubType)),
+    let b = read_beginning(s);
+    let outcome = b.outcome;
+    let head = b.head;
+    let next = b.next;
+    match outcome {
+        Outcome::Settlement => read_settlement(s, next, head),
+        Outcome::Recall => read_recall(s, next, head),
+        Outcome::Refused(_) => Reading::bare(outcome, head),
     }
 }

@@ -99,18 +99,67 @@ pub codes-down : (s : List ℕ) (j n : ℕ) → 0 < n → j < length s → isCod
 codes-down s j zero h k e = absurd (omega arith)
 codes-down s j (suc n) h k e = codes-step s j n k e ∙ ap (codesAt s (j + 1)) (omega arith)
 
+-- a run is no longer than its list
+run-within : (is : ℕ → Bool) (n : ℕ) (l : List ℕ) → run is n l ≤ length l
+unfolding run
+run-within is zero l = omega arith
+run-within is (suc n) [] = omega arith
+run-within is (suc n) (x ∷ l) = go (is x) (run-within is n l)
+  where
+    go : (b : Bool) → run is n l ≤ length l → cond b (suc (run is n l)) zero ≤ suc (length l)
+    go true h = omega arith
+    go false h = omega arith
+
 module _ (s : List ℕ) (at n : ℕ) where
   pub codes-from : {e : ℕ} → e ≡ codesAt s at n → at ≤ e
   unfolding codesAt
   codes-from p = omega arith
 
-  pub code-1 : {e : ℕ} → e ≡ codesAt s at n → e - at ≡ n → Next e ≡ codeAt s at n
+  code-1 : {e : ℕ} → e ≡ codesAt s at n → e ≡ at + n → Next e ≡ codeAt s at n
   unfolding codesAt codeAt
-  code-1 {e} p q = let z : run isCode n (drop at s) ≡ n = omega arith in simp (eq-eqb _ _ z) (ap Next (omega arith))
+  code-1 {e} p q = let z : run isCode n (drop at s) ≡ n = omega arith in simp (eq-eqb _ _ z) (ap Next q)
 
-  pub code-2 : {e : ℕ} → e ≡ codesAt s at n → (e - at ≡ n → ⊥) → No ≡ codeAt s at n
+  code-2 : {e : ℕ} → e ≡ codesAt s at n → (e ≡ at + n → ⊥) → No ≡ codeAt s at n
   unfolding codesAt codeAt
   code-2 {e} p q = let z : (run isCode n (drop at s) ≡ n → ⊥) = λ y. q (omega arith) in simp (ne-eqb _ _ z)
+
+  pub code-short : {m : ℕ} → m ≡ length s - at → m < n → No ≡ codeAt s at n
+  unfolding codesAt
+  code-short e h = code-2 refl (λ y. let z = run-within isCode n (drop at s) in absurd (omega (arith, e, h, y, rw length-drop at z)))
+
+  -- where the loop of `code` stands: the first i are A-Z 0-9, and n are there
+  pub record Coding (i : ℕ) : Type 0 where
+    pub within : i ≤ n
+    pub fits : n ≤ length s - at
+    pub same : codesAt s (at + i) (n - i) ≡ codesAt s at n
+
+  pub code-from : {m : ℕ} → m ≡ length s - at → n ≤ m → Coding 0
+  code-from e h =
+      let y : at + 0 ≡ at = omega arith in
+      let z : n - 0 ≡ n = omega arith in
+      record { within = omega arith; fits = omega (arith, e, h); same = rw (y, z) }
+
+  module _ {i : ℕ} (m : Coding i) where
+    pub code-inside : i < n → at + i < length s
+    code-inside h = omega (arith, h, m .fits)
+
+    pub code-not : {b : Bool} → i < n → b ≡ isCode (getD s (at + i) 0) → not b ≡ true → No ≡ codeAt s at n
+    code-not h p q = code-2 (sym (codes-stop s (at + i) (n - i) (code-inside h) (sym p ∙ not-true _ q)) ∙ m .same) (λ y. absurd (omega (arith, h, y)))
+
+    pub code-on : {b : Bool} → i < n → b ≡ isCode (getD s (at + i) 0) → not b ≡ false → Coding (i + 1)
+    code-on h p q = record {
+      within = omega arith;
+      fits = m .fits;
+      same =
+          let y : at + (i + 1) ≡ at + i + 1 = omega arith in
+          let z : n - (i + 1) ≡ n - i - 1 = omega arith in
+          rw (y, z) (sym (codes-down s (at + i) (n - i) (omega arith) (code-inside h) (sym p ∙ not-false _ q)) ∙ m .same);
+    }
+
+    pub code-all : n ≤ i → Next (at + i) ≡ codeAt s at n
+    code-all h =
+        let z : n - i ≡ 0 = omega arith in
+        code-1 (sym (codes-none s (at + i) 0) ∙ rw z at (m .same)) (omega (arith, h, m .within))
 
 -- the same of a run of digits
 module _ (s : List ℕ) (j v : ℕ) where
@@ -244,39 +293,74 @@ module _ (s : List ℕ) (j : ℕ) where
       let b : begins crlf (getD s j 0 ∷ drop (suc j) s) ≡ false = rw (← d) (lit-not crlf (sym p ∙ q)) in
       simp (z, add-one, d, b)
 
-pub digits-from : (n at v : ℕ) (l : List ℕ) → at ≤ digits n at v l .end
+-- a run of digits ends within its list
+digits-within : (n at v : ℕ) (l : List ℕ) → digits n at v l .end ≤ at + length l
 unfolding digits
-digits-from zero at v l = omega arith
-digits-from (suc n) at v [] = omega arith
-digits-from (suc n) at v (x ∷ l) = go (isDigit x) (digits-from n (at + 1) (v * 10 + digitValue x) l)
+digits-within zero at v l = omega arith
+digits-within (suc n) at v [] = omega arith
+digits-within (suc n) at v (x ∷ l) = go (isDigit x) (digits-within n (at + 1) (v * 10 + digitValue x) l)
   where
-    go : (b : Bool) → at + 1 ≤ digits n (at + 1) (v * 10 + digitValue x) l .end → at ≤ cond b (digits n (at + 1) (v * 10 + digitValue x) l) (record { end = at; value = v }) .end
+    go : (b : Bool) → digits n (at + 1) (v * 10 + digitValue x) l .end ≤ at + 1 + length l → cond b (digits n (at + 1) (v * 10 + digitValue x) l) (record { end = at; value = v }) .end ≤ at + suc (length l)
     go true h = omega arith
     go false h = omega arith
 
 -- a number of a fixed width
-module _ (s : List ℕ) (at n : ℕ) {w : Run} (d : w ≡ digitsAt s at (most n)) (h : n ≤ 18) where
-  pub number-from : at ≤ w .end
+module _ (s : List ℕ) (at n : ℕ) (h : n ≤ 18) where
+  number-1 : {w : Run} → w ≡ digitsAt s at n → w .end ≡ at + n → Value (w .value) (w .end) ≡ numberAt s at n
+  unfolding numberAt
+  number-1 {w} d e = simp (le-leb n 18 h, ← d, eq-eqb _ _ e) (ap (Value (w .value)) e)
+
+  number-2 : {w : Run} → w ≡ digitsAt s at n → (w .end ≡ at + n → ⊥) → Unfit ≡ numberAt s at n
+  unfolding numberAt
+  number-2 d e = simp (le-leb n 18 h, ← d, ne-eqb _ _ e)
+
+  pub number-short : {m : ℕ} → m ≡ length s - at → m < n → Unfit ≡ numberAt s at n
   unfolding digitsAt
-  number-from = rw d (digits-from (most n) at 0 (drop at s))
+  number-short e g = number-2 refl (λ y. let z = digits-within n at 0 (drop at s) in absurd (omega (arith, e, g, y, rw length-drop at z)))
 
-  same : w ≡ digitsAt s at n
-  same = d ∙ ap (digitsAt s at) (most-id n h)
+-- where the loop of `number` stands: the first i are digits and make v, and n are there
+pub record Counting (s : List ℕ) (at n i v : ℕ) : Type 0 where
+  pub few : n ≤ 18
+  pub within : i ≤ n
+  pub fits : n ≤ length s - at
+  pub going : Going s at n (n - i) (at + i) v
 
-  pub number-fits : w .value < ten (most n) → w .value < ten n
-  number-fits f = rw (← most-id n h) f
+module _ (s : List ℕ) (at n : ℕ) where
+  pub number-from : {m : ℕ} → n ≤ 18 → m ≡ length s - at → n ≤ m → Counting s at n 0 0
+  number-from h e g =
+      let y : at + 0 ≡ at = omega arith in
+      let z : n - 0 ≡ n = omega arith in
+      record { few = h; within = omega arith; fits = omega (arith, e, g); going = rw (y, z) (going-start s at n) }
 
-  pub number-1 : w .end - at ≡ n → Value (w .value) (w .end) ≡ numberAt s at n
-  unfolding numberAt
-  number-1 e =
-      let f : w .end ≡ at + n = omega (arith, number-from) in
-      simp (le-leb n 18 h, ← same, eq-eqb _ _ f) (ap (Value (w .value)) f)
+  module _ {i v : ℕ} (m : Counting s at n i v) where
+    pub number-inside : i < n → at + i < length s
+    number-inside g = omega (arith, g, m .fits)
 
-  pub number-2 : (w .end - at ≡ n → ⊥) → Unfit ≡ numberAt s at n
-  unfolding numberAt
-  number-2 e =
-      let f : (w .end ≡ at + n → ⊥) = λ y. e (omega arith) in
-      simp (le-leb n 18 h, ← same, ne-eqb _ _ f)
+    pub number-room : i < n → v < ten 17
+    number-room g = going-fits (m .going) (m .few) (omega arith)
+
+    pub number-not : {b : Bool} → i < n → b ≡ isDigit (getD s (at + i) 0) → not b ≡ true → Unfit ≡ numberAt s at n
+    number-not g p q = number-2 s at n (m .few) (going-stop (m .going) (number-inside g) p q .0) (λ y. absurd (omega (arith, g, y)))
+
+    pub number-on : {b : Bool} {d : ℕ} → i < n → b ≡ isDigit (getD s (at + i) 0) → not b ≡ false → d ≡ digitValue (getD s (at + i) 0) → d < 10 → Counting s at n (i + 1) (v * 10 + d)
+    number-on g p q e f = record {
+      few = m .few;
+      within = omega arith;
+      fits = m .fits;
+      going =
+          let y : at + (i + 1) ≡ at + i + 1 = omega arith in
+          let z : n - (i + 1) ≡ n - i - 1 = omega arith in
+          rw (y, z) (going-on (m .going) (omega arith) (number-inside g) p q e f);
+    }
+
+    told : n ≤ i → Told s at n (record { end = at + i; value = v })
+    told g = going-none (m .going) (omega arith)
+
+    pub number-all : n ≤ i → Value v (at + i) ≡ numberAt s at n
+    number-all g = number-1 s at n (m .few) (told g .0) (omega (arith, g, m .within))
+
+    pub number-fits : n ≤ i → v < ten n
+    number-fits g = told g .1
 
 pub number-long : (s : List ℕ) (at n : ℕ) → 18 < n → Unfit ≡ numberAt s at n
 unfolding numberAt

@@ -73,8 +73,17 @@ pub fn codes(s: &[u8], at: usize, max: usize) -> usize
 pub fn code(s: &[u8], at: usize, n: usize) -> At
     ensures { λ r. ⌜ r ≡ codeAt (now (s .entry)) at n ⌝ }
 {
-    let e = codes(s, at, n);
-    if e - at == n { At::Next(e) } else { At::No }
+    if left(s, at) < n {
+        return At::No;
+    }
+    let mut i = 0;
+    while i < n {
+        if !chars::is_code(s[at + i]) {
+            return At::No;
+        }
+        i += 1;
+    }
+    At::Next(at + i)
 }
 
 // Past the digits that stand at a place, and the number that they make.
@@ -120,13 +129,20 @@ pub fn number(s: &[u8], at: usize, n: usize) -> Fixed
     if n > 18 {
         return Fixed::No;
     }
-    let w = digits(s, at, n);
-    let e = w.end;
-    if e - at == n {
-        Fixed::Value(w.value, e)
-    } else {
-        Fixed::No
+    if left(s, at) < n {
+        return Fixed::No;
     }
+    let mut v: u64 = 0;
+    let mut i = 0;
+    while i < n {
+        let b = s[at + i];
+        if !chars::is_digit(b) {
+            return Fixed::No;
+        }
+        v = v * 10 + chars::digit_value(b);
+        i += 1;
+    }
+    Fixed::Value(v, at + i)
 }
 
 // Where the first CR LF at or after a place stands, no more than `max` bytes on.

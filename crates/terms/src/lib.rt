@@ -39,7 +39,7 @@ pub fn read_activation(s: &[u8], c: Cursor) -> Activated
     if let At::No = scan::lit(s, c.at, b":175:") {
         return Activated::Given(Activation::AtOnce, Part::nowhere(), c);
     }
-    let f = fields::read_time(s, c, b":175:");
+    let f = fields::read_time(s, c);
     let Field::Good(i, next) = f else {
         return Activated::Ungiven(f.why());
     };
@@ -94,11 +94,11 @@ impl Stated {
 pub fn read_terms(s: &[u8], c: Cursor) -> Stated
     ensures { λ r. ⌜ r ≡ termsAt (now (s .entry)) (c .at) ⌝ }
 {
-    let f = fields::read_numbers(s, c, b":16A:");
+    let f = fields::read_numbers(s, c);
     let Field::Good(i, past) = f else {
         return Stated::Partial(f.why());
     };
-    let g = fields::read_date(s, past, b":171:");
+    let g = fields::read_date(s, past);
     let Field::Good(date, then) = g else {
         return Stated::Partial(g.why());
     };

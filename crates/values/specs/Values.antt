@@ -5,6 +5,7 @@ use mathlib.Core.Bool.{Bool, true, false, _&&_, _||_, cond}
 use lib.ListN.{drop, take}
 use lib.Dec.{leb, eqb}
 use Rattle.chars.specs.Words.{bytes}
+use Rattle.chars.specs.declared.Refusal.{Refusal}
 use Rattle.chars.specs.declared.Refusal.the-variants.{Malformed}
 use Rattle.clock.specs.Clock.{minuteOf}
 use Rattle.clock.specs.declared.Minute.{Minute}
@@ -39,6 +40,11 @@ codeOf s p = longOf (textOf s p)
 -- "the first break gives 87"
 abbrev pub malformed : Value
 malformed = Unread Malformed
+
+-- why a value was not read; 87 of one that was
+abbrev pub whyUnread : Value → Refusal
+whyUnread (Read v e) = Malformed
+whyUnread (Unread r) = r
 
 abbrev pub stands : At → Bool
 stands (Next n) = true

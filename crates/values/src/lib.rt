@@ -6,7 +6,7 @@ use scan::Fixed;
 ghost use mathlib.Core.Path.{_≡_};
 ghost use Prim.Native.Nat.{_+_, _<_};
 ghost use lib.ListN.{drop, getD};
-ghost use Rattle.values.specs.Values.{noPart, textOf, codeOf, referenceAt, forbiddenAt, numeralAt, wordAt, binAt, numbersAt, countIn, dateAt, timeAt, sideAt, amountAt, hundredths, countAt};
+ghost use Rattle.values.specs.Values.{noPart, whyUnread, textOf, codeOf, referenceAt, forbiddenAt, numeralAt, wordAt, binAt, numbersAt, countIn, dateAt, timeAt, sideAt, amountAt, hundredths, countAt};
 ghost use Rattle.values.specs.Letters.{isStatus, isFourth, judgedAt, lettersAt};
 
 // Where a value stands in the text.
@@ -28,6 +28,18 @@ impl Part {
 pub enum Value {
     Read(u64, usize),
     Unread(Refusal),
+}
+
+impl Value {
+    // Why there is no such value; 87 of one that was read.
+    pub fn why(self) -> Refusal
+        ensures { λ r. ⌜ r ≡ whyUnread self ⌝ }
+    {
+        match self {
+            Value::Read(_, _) => Refusal::Malformed,
+            Value::Unread(r) => r,
+        }
+    }
 }
 
 // The part of the text itself.

@@ -13,14 +13,16 @@ put-terms-requires c κs = search needs
 put-item-requires : tie.Need-put-item-requires
 put-item-requires c κs = search needs
 
-put-payments-requires : tie.Need-put-payments-requires
-put-payments-requires c κs = search needs
+put-words-requires : tie.Need-put-words-requires
+put-words-requires c κs = search needs
 
 same-length : tie.Need-same-length
 same-length c = search needs
 
 returns : tie.Need-returns
-returns c = (refl, accepted-row _ (c .before .before .before .before .before .before .before .before .before .before .before .before .before .before .before .before .before .before .before .before .before .args .r) (c .before .before .before .before .before .before .before .before .before .before .before .before .before .before .put-head .ensures) (c .before .before .before .before .before .before .before .before .before .before .put-terms .ensures) (c .before .before .before .before .before .before .put-item .ensures) (c .before .before .put-payments .ensures))
+returns c =
+    let args = c .before .before .before .before .before .before .before .before .before .before .before .before .before .before .before .before .before .before .args in
+    (refl, accepted-row (args .row .now) (args .head) (args .terms) (args .count) (args .places .now) (c .before .before .before .before .before .before .before .before .before .before .before .before .before .before .before .put-head .ensures) (c .before .before .before .before .before .before .before .before .before .before .before .put-terms .ensures) (c .before .before .before .before .before .before .before .put-item .ensures) (c .before .before .put-words .ensures))
 
 pub put-accepted-spec : {M : Type 1} → statement M
 put-accepted-spec =
@@ -29,6 +31,6 @@ put-accepted-spec =
     put-head-requires
     put-terms-requires
     put-item-requires
-    put-payments-requires
+    put-words-requires
     same-length
     returns)

@@ -3,11 +3,8 @@ use borrow.Author.Needs.{needs}
 use Rattle.reply.proofs.read_answer.Statement.{statement}
 use Rattle.reply.proofs.read_answer.Tie as tie
 
-slice-aggregate-read-numeral : tie.Need-slice-aggregate-read-numeral
-slice-aggregate-read-numeral c = search needs
-
-read-numeral-requires : tie.Need-read-numeral-requires
-read-numeral-requires c κs = search needs
+read-status-requires : tie.Need-read-status-requires
+read-status-requires c κs = search needs
 
 enum-known-f : tie.Need-enum-known-f
 enum-known-f c = search needs
@@ -24,11 +21,8 @@ returns c = search answer-1
 nowhere-requires : tie.Need-nowhere-requires
 nowhere-requires c κs = search needs
 
-slice-aggregate-read-numeral-2 : tie.Need-slice-aggregate-read-numeral-2
-slice-aggregate-read-numeral-2 c = search needs
-
-read-numeral-requires-2 : tie.Need-read-numeral-requires-2
-read-numeral-requires-2 c κs = search needs
+read-refusal-requires : tie.Need-read-refusal-requires
+read-refusal-requires c κs = search needs
 
 enum-known-g : tie.Need-enum-known-g
 enum-known-g c = search needs
@@ -58,15 +52,13 @@ pub read-answer-spec : {M : Type 1} → statement M
 read-answer-spec =
     tie.close
     (tie.spec
-    slice-aggregate-read-numeral
-    read-numeral-requires
+    read-status-requires
     enum-known-f
     enum-told
     why-requires
     returns
     nowhere-requires
-    slice-aggregate-read-numeral-2
-    read-numeral-requires-2
+    read-refusal-requires
     enum-known-g
     enum-told-2
     why-requires-2

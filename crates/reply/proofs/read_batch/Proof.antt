@@ -3,11 +3,8 @@ use borrow.Author.Needs.{needs}
 use Rattle.reply.proofs.read_batch.Statement.{statement}
 use Rattle.reply.proofs.read_batch.Tie as tie
 
-slice-aggregate-read-word : tie.Need-slice-aggregate-read-word
-slice-aggregate-read-word c = search needs
-
-read-word-requires : tie.Need-read-word-requires
-read-word-requires c κs = search needs
+read-stream-requires : tie.Need-read-stream-requires
+read-stream-requires c κs = search needs
 
 enum-known-f : tie.Need-enum-known-f
 enum-known-f c = search needs
@@ -20,9 +17,6 @@ why-requires c κs = search needs
 
 returns : tie.Need-returns
 returns c = search batch-1
-
-slice-aggregate-read-bin : tie.Need-slice-aggregate-read-bin
-slice-aggregate-read-bin c = search needs
 
 read-bin-requires : tie.Need-read-bin-requires
 read-bin-requires c κs = search needs
@@ -46,13 +40,11 @@ pub read-batch-spec : {M : Type 1} → statement M
 read-batch-spec =
     tie.close
     (tie.spec
-    slice-aggregate-read-word
-    read-word-requires
+    read-stream-requires
     enum-known-f
     enum-told
     why-requires
     returns
-    slice-aggregate-read-bin
     read-bin-requires
     enum-known-g
     enum-told-2

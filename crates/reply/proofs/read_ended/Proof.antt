@@ -3,11 +3,8 @@ use borrow.Author.Needs.{needs}
 use Rattle.reply.proofs.read_ended.Statement.{statement}
 use Rattle.reply.proofs.read_ended.Tie as tie
 
-slice-aggregate-read-numeral : tie.Need-slice-aggregate-read-numeral
-slice-aggregate-read-numeral c = search needs
-
-read-numeral-requires : tie.Need-read-numeral-requires
-read-numeral-requires c κs = search needs
+read-status-requires : tie.Need-read-status-requires
+read-status-requires c κs = search needs
 
 enum-known-f : tie.Need-enum-known-f
 enum-known-f c = search needs
@@ -43,8 +40,7 @@ pub read-ended-spec : {M : Type 1} → statement M
 read-ended-spec =
     tie.close
     (tie.spec
-    slice-aggregate-read-numeral
-    read-numeral-requires
+    read-status-requires
     enum-known-f
     enum-told
     why-requires

@@ -21,11 +21,8 @@ absent-requires c κs = search needs
 returns : tie.Need-returns
 returns c = search number-1
 
-slice-aggregate-read-numeral : tie.Need-slice-aggregate-read-numeral
-slice-aggregate-read-numeral c = search needs
-
-read-numeral-requires : tie.Need-read-numeral-requires
-read-numeral-requires c κs = search needs
+read-serial-requires : tie.Need-read-serial-requires
+read-serial-requires c κs = search needs
 
 enum-told-2 : tie.Need-enum-told-2
 enum-told-2 c = search needs
@@ -52,8 +49,7 @@ read-number-spec =
     enum-told
     absent-requires
     returns
-    slice-aggregate-read-numeral
-    read-numeral-requires
+    read-serial-requires
     enum-told-2
     wrong-requires
     enum-known-i

@@ -3,9 +3,6 @@ use borrow.Author.Needs.{needs}
 use Rattle.reply.proofs.read_reference.Statement.{statement}
 use Rattle.reply.proofs.read_reference.Tie as tie
 
-slice-aggregate-read-empty : tie.Need-slice-aggregate-read-empty
-slice-aggregate-read-empty c = search needs
-
 read-empty-requires : tie.Need-read-empty-requires
 read-empty-requires c κs = search needs
 
@@ -21,11 +18,8 @@ why-requires c κs = search needs
 returns : tie.Need-returns
 returns c = search reference-1
 
-slice-aggregate-read-reference : tie.Need-slice-aggregate-read-reference
-slice-aggregate-read-reference c = search needs
-
-read-reference-requires : tie.Need-read-reference-requires
-read-reference-requires c κs = search needs
+read-requested-requires : tie.Need-read-requested-requires
+read-requested-requires c κs = search needs
 
 returns-2 : tie.Need-returns-2
 returns-2 c = search reference-2
@@ -34,12 +28,10 @@ pub read-reference-spec : {M : Type 1} → statement M
 read-reference-spec =
     tie.close
     (tie.spec
-    slice-aggregate-read-empty
     read-empty-requires
     enum-known-f
     enum-told
     why-requires
     returns
-    slice-aggregate-read-reference
-    read-reference-requires
+    read-requested-requires
     returns-2)

@@ -3,11 +3,8 @@ use borrow.Author.Needs.{needs}
 use Rattle.reply.proofs.read_rejected.Statement.{statement}
 use Rattle.reply.proofs.read_rejected.Tie as tie
 
-slice-aggregate-read-numeral : tie.Need-slice-aggregate-read-numeral
-slice-aggregate-read-numeral c = search needs
-
-read-numeral-requires : tie.Need-read-numeral-requires
-read-numeral-requires c κs = search needs
+read-refusal-requires : tie.Need-read-refusal-requires
+read-refusal-requires c κs = search needs
 
 enum-known-f : tie.Need-enum-known-f
 enum-known-f c = search needs
@@ -28,8 +25,7 @@ pub read-rejected-spec : {M : Type 1} → statement M
 read-rejected-spec =
     tie.close
     (tie.spec
-    slice-aggregate-read-numeral
-    read-numeral-requires
+    read-refusal-requires
     enum-known-f
     enum-told
     why-requires

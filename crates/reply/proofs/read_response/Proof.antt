@@ -21,11 +21,8 @@ refused-requires c κs = search needs
 returns : tie.Need-returns
 returns c = search response-1
 
-slice-aggregate-read-numeral : tie.Need-slice-aggregate-read-numeral
-slice-aggregate-read-numeral c = search needs
-
-read-numeral-requires : tie.Need-read-numeral-requires
-read-numeral-requires c κs = search needs
+read-sub-type-requires : tie.Need-read-sub-type-requires
+read-sub-type-requires c κs = search needs
 
 enum-known-g : tie.Need-enum-known-g
 enum-known-g c = search needs
@@ -73,8 +70,7 @@ read-response-spec =
     why-requires
     refused-requires
     returns
-    slice-aggregate-read-numeral
-    read-numeral-requires
+    read-sub-type-requires
     enum-known-g
     enum-told-2
     why-requires-2

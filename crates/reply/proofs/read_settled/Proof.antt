@@ -3,11 +3,8 @@ use borrow.Author.Needs.{needs}
 use Rattle.reply.proofs.read_settled.Statement.{statement}
 use Rattle.reply.proofs.read_settled.Tie as tie
 
-slice-aggregate-read-numeral : tie.Need-slice-aggregate-read-numeral
-slice-aggregate-read-numeral c = search needs
-
-read-numeral-requires : tie.Need-read-numeral-requires
-read-numeral-requires c κs = search needs
+read-moment-requires : tie.Need-read-moment-requires
+read-moment-requires c κs = search needs
 
 enum-known-f : tie.Need-enum-known-f
 enum-known-f c = search needs
@@ -58,8 +55,7 @@ pub read-settled-spec : {M : Type 1} → statement M
 read-settled-spec =
     tie.close
     (tie.spec
-    slice-aggregate-read-numeral
-    read-numeral-requires
+    read-moment-requires
     enum-known-f
     enum-told
     why-requires

@@ -41,9 +41,6 @@ refused-requires-2 c κs = search needs
 returns-2 : tie.Need-returns-2
 returns-2 c = search settlement-2
 
-slice-aggregate-read-count : tie.Need-slice-aggregate-read-count
-slice-aggregate-read-count c = search needs
-
 read-count-requires : tie.Need-read-count-requires
 read-count-requires c κs = search needs
 
@@ -60,14 +57,11 @@ refused-requires-3 : tie.Need-refused-requires-3
 refused-requires-3 c κs = search needs
 
 returns-3 : tie.Need-returns-3
-returns-3 c = let c1 = c .before in
-    let c2 = c1 .before in
-    let c4 = c2 .before .before in
-    let c7 = c4 .before .before .before in
-    let c9 = c7 .before .before in
-    let c11 = c9 .before .before in
-    let c13 = c11 .before .before in
-    settlement-3 _ _ _ (c13 .read-terms .ensures) (c11 .t .given .1) (c9 .read-payments .ensures) (c7 .ending .given .1) (c4 .read-count .ensures) (c2 .enum-told3 .given .1) (c1 .why2 .ensures) (c .refused3 .ensures)
+returns-3 c =
+    let count = c .before .before .before .before in
+    let payments = count .before .before .before .before in
+    let terms = payments .before .before .before .before in
+    settlement-3 _ _ _ (terms .read-terms .ensures) (payments .before .before .t .given .1) (payments .read-payments .ensures) (count .before .before .ending .given .1) (count .read-count .ensures) (c .before .before .enum-told3 .given .1) (c .before .why2 .ensures) (c .refused3 .ensures)
 
 absent-requires : tie.Need-absent-requires
 absent-requires c κs = search needs
@@ -76,15 +70,11 @@ refused-requires-4 : tie.Need-refused-requires-4
 refused-requires-4 c κs = search needs
 
 returns-4 : tie.Need-returns-4
-returns-4 c = let c1 = c .before in
-    let c2 = c1 .before in
-    let c5 = c2 .before .before .before in
-    let c7 = c5 .before .before in
-    let c10 = c7 .before .before .before in
-    let c12 = c10 .before .before in
-    let c14 = c12 .before .before in
-    let c16 = c14 .before .before in
-    settlement-4 _ _ _ (c16 .read-terms .ensures) (c14 .t .given .1) (c12 .read-payments .ensures) (c10 .ending .given .1) (c7 .read-count .ensures) (c5 .f .given .1) (c2 .if1 .taken) (c1 .absent .ensures) (c .refused4 .ensures)
+returns-4 c =
+    let count = c .before .before .before .before .before .before .before in
+    let payments = count .before .before .before .before in
+    let terms = payments .before .before .before .before in
+    settlement-4 _ _ _ (terms .read-terms .ensures) (payments .before .before .t .given .1) (payments .read-payments .ensures) (count .before .before .ending .given .1) (count .read-count .ensures) (c .before .before .before .before .before .f .given .1) (c .before .before .if1 .taken) (c .before .absent .ensures) (c .refused4 .ensures)
 
 returns-5 : tie.Need-returns-5
 returns-5 c = search settlement-5
@@ -105,7 +95,6 @@ read-settlement-spec =
     cut-requires
     refused-requires-2
     returns-2
-    slice-aggregate-read-count
     read-count-requires
     enum-known-f
     enum-told-3

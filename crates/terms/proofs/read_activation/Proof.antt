@@ -21,9 +21,6 @@ returns c = search activation-1
 enum-told-2 : tie.Need-enum-told-2
 enum-told-2 c = search needs
 
-slice-aggregate-read-time : tie.Need-slice-aggregate-read-time
-slice-aggregate-read-time c = search needs
-
 read-time-requires : tie.Need-read-time-requires
 read-time-requires c κs = search needs
 
@@ -52,7 +49,6 @@ read-activation-spec =
     nowhere-requires
     returns
     enum-told-2
-    slice-aggregate-read-time
     read-time-requires
     enum-known-f
     enum-told-3

@@ -3,9 +3,6 @@ use borrow.Author.Needs.{needs}
 use Rattle.terms.proofs.read_terms.Statement.{statement}
 use Rattle.terms.proofs.read_terms.Tie as tie
 
-slice-aggregate-read-numbers : tie.Need-slice-aggregate-read-numbers
-slice-aggregate-read-numbers c = search needs
-
 read-numbers-requires : tie.Need-read-numbers-requires
 read-numbers-requires c κs = search needs
 
@@ -20,9 +17,6 @@ why-requires c κs = search needs
 
 returns : tie.Need-returns
 returns c = search terms-1
-
-slice-aggregate-read-date : tie.Need-slice-aggregate-read-date
-slice-aggregate-read-date c = search needs
 
 read-date-requires : tie.Need-read-date-requires
 read-date-requires c κs = search needs
@@ -67,13 +61,11 @@ pub read-terms-spec : {M : Type 1} → statement M
 read-terms-spec =
     tie.close
     (tie.spec
-    slice-aggregate-read-numbers
     read-numbers-requires
     enum-known-f
     enum-told
     why-requires
     returns
-    slice-aggregate-read-date
     read-date-requires
     enum-known-g
     enum-told-2
