@@ -1,0 +1,38 @@
+#!/usr/bin/env python3
+"""The constants of the crates that include/purmagheli.h repeats, as `NAME number`, a line each: those that are public in the sources of gateway and
+lending, and the room and the tries of a call. One that is said by others, as `TEXTS * Settlement::LONGEST`, is worked out."""
+import glob
+import re
+
+SHOWN = sorted(glob.glob("crates/gateway/src/*.rt")) + ["crates/lending/src/lib.rt"]
+ROOM = "crates/tables/src/moment.rt"
+TRIES = "crates/settle/src/lib.rt"
+OTHERS = ["crates/codes/src/lib.rt", "crates/response/src/lib.rt"]
+
+said = {}  # (file, name) of a file's own constants, (None, Type::NAME) of a type's: the file and what it says
+public = []
+for path in SHOWN + [ROOM, TRIES] + OTHERS:
+    owner = None
+    for line in open(path):
+        owner = (re.match(r"impl (\w+) \{$", line) or [None, owner])[1] if not line.startswith("}") else None
+        found = re.match(r" *(pub )?const (\w+): \w+ = (.*);$", line)
+        if found:
+            said[(None, f"{owner}::{found[2]}") if owner else (path, found[2])] = (path, found[3])
+            if found[1] and not owner and path in SHOWN:
+                public.append((path, found[2]))
+
+
+def number(path, text):
+    def known(name):
+        return str(number(*said[(None, name[0]) if "::" in name[0] else (path, name[0])]))
+
+    text = re.sub(r"[A-Za-z]\w*(::\w+)?", known, text.replace("_", "") if text.replace("_", "").isdigit() else text)
+    if not re.fullmatch(r"[0-9+*() ]+", text):
+        raise SystemExit(f"tests/header: {path} has a constant that is not worked out here: {text}")
+    return eval(text)
+
+
+for path, name in public:
+    print(name, number(*said[(path, name)]))
+print("ROOM", number(*said[(ROOM, "ROOM")]))
+print("TRIES", number(*said[(None, "Batch::TRIES")]))
