@@ -31,7 +31,7 @@ pub fn complete(
 {
     let a = place * Batch::WIDTH;
     let e = a + Batch::WIDTH;
-    if batches[a + 7] != batches[a + 4] {
+    if batches[a + Batch::MESSAGES_THERE] != batches[a + Batch::COUNT] {
         queue::wake_batch(memory, place);
         return Acted {
             answer: Answer::Done,

@@ -12,6 +12,9 @@ ghost use Rattle.tables.specs.Rows.{batchRows, entriesIn};
 ghost use Rattle.entry_rules.specs.EntryRules.{codeOf};
 ghost use Rattle.table_rules.specs.TableRules.{binsFrom, placesOf, Counts, CrossRules};
 
+// The second word of a BIN in a batch's row.
+const BIN_LOW: usize = Batch::BIN + 1;
+
 // No live BIN from a place on is this one.
 fn bin_alone(batches: &[u64], from: usize, high: u64, low: u64) -> bool
     requires { ⌜ (length (now batches) ≡ 11168) × (from ≤ 32) ⌝ }
@@ -26,8 +29,8 @@ fn bin_alone(batches: &[u64], from: usize, high: u64, low: u64) -> bool
         if entries::same(
             high,
             low,
-            batches[place * 349 + 2],
-            batches[place * 349 + 3],
+            batches[place * Batch::WIDTH + Batch::BIN],
+            batches[place * Batch::WIDTH + BIN_LOW],
         ) {
             return false;
         }
@@ -50,8 +53,8 @@ fn bins_differ(batches: &[u64]) -> bool
         if !bin_alone(
             batches,
             place + 1,
-            batches[place * 349 + 2],
-            batches[place * 349 + 3],
+            batches[place * Batch::WIDTH + Batch::BIN],
+            batches[place * Batch::WIDTH + BIN_LOW],
         ) {
             return false;
         }
@@ -75,8 +78,8 @@ fn bins_remembered(batches: &[u64], bins: &[u64], today: u64) -> bool
             bins,
             512,
             0,
-            batches[place * 349 + 2],
-            batches[place * 349 + 3],
+            batches[place * Batch::WIDTH + Batch::BIN],
+            batches[place * Batch::WIDTH + BIN_LOW],
             today,
         ) {
             return false;
