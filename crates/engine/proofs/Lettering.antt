@@ -42,21 +42,25 @@ first-letter x a b c d s h =
     (λ e. let g : ((isStatus b && (isStatus c && true)) && (isFourth d && true)) ≡ true = rw e at h in rw s g)
     (λ e. let z : false ≡ true = rw e at h in absurd (false≢true z))
 
-spelled-four : (l : ℕ) → shortText l ≡ (l / 256 / 256 / 256 % 256) ∷ (l / 256 / 256 % 256) ∷ (l / 256 % 256) ∷ (l % 256) ∷ []
+pub spelled-four : (l : ℕ) → shortText l ≡ (l / 256 / 256 / 256 % 256) ∷ (l / 256 / 256 % 256) ∷ (l / 256 % 256) ∷ (l % 256) ∷ []
 unfolding shortText unpacked
 spelled-four l = refl
 
-new-letters : (x l : ℕ) → x < 256 → isStatus x ≡ true → areLetters (shortText l) ≡ true → areLetters (shortText (withEsa x l)) ≡ true
+pub set-esa : (x l : ℕ) → x < 256 → shortText (withEsa x l) ≡ x ∷ (l / 256 / 256 % 256) ∷ (l / 256 % 256) ∷ (l % 256) ∷ []
 unfolding withEsa
-new-letters x l b s h =
+set-esa x l b =
     let v : ℕ = x * 16777216 + l % 16777216 in
     let e₁ : v / 256 / 256 / 256 % 256 ≡ x = omega arith in
     let e₂ : v / 256 / 256 % 256 ≡ l / 256 / 256 % 256 = omega arith in
     let e₃ : v / 256 % 256 ≡ l / 256 % 256 = omega arith in
     let e₄ : v % 256 ≡ l % 256 = omega arith in
+    spelled-four v ∙ rw (e₁, e₂, e₃, e₄)
+
+new-letters : (x l : ℕ) → x < 256 → isStatus x ≡ true → areLetters (shortText l) ≡ true → areLetters (shortText (withEsa x l)) ≡ true
+new-letters x l b s h =
     let g : areLetters ((l / 256 / 256 / 256 % 256) ∷ (l / 256 / 256 % 256) ∷ (l / 256 % 256) ∷ (l % 256) ∷ []) ≡ true = rw (spelled-four l) at h in
-    let four : shortText v ≡ x ∷ (l / 256 / 256 % 256) ∷ (l / 256 % 256) ∷ (l % 256) ∷ [] = spelled-four v ∙ rw (e₁, e₂, e₃, e₄) in
-    ap (λ (z : List ℕ). areLetters z) four ∙ first-letter x (l / 256 / 256 / 256 % 256) (l / 256 / 256 % 256) (l / 256 % 256) (l % 256) s g
+    ap (λ (z : List ℕ). areLetters z) (set-esa x l b)
+    ∙ first-letter x (l / 256 / 256 / 256 % 256) (l / 256 / 256 % 256) (l / 256 % 256) (l % 256) s g
 
 small-letters : (x l : ℕ) → x < 256 → withEsa x l < 4294967296
 unfolding withEsa

@@ -16,3 +16,4 @@ pub mod Happened
 pub mod Waiting
 pub mod Promises
 pub mod LeftBehind
+pub mod Lettered
