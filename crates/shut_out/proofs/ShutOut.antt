@@ -163,7 +163,7 @@ forgetting s t = record { day = t .day; house = t .house; books = t .books; batc
 
 -- ---- days on which they show it
 
-abbrev deeds : List Call → List Deed
+abbrev pub deeds : List Call → List Deed
 deeds cs = map calls cs
 
 abbrev opening : Call
@@ -215,7 +215,7 @@ abbrev secondDay : Call
 secondDay = asked 9 0 0 Opening (book 9896 (bank "AAAA" 5 0 ∷ bank "BBBB" 0 0 ∷ []))
 
 -- what an engine leaves of a call after others
-abbrev left-by : (Engine → Call → Result) → List Call → Call → Result
+abbrev pub left-by : (Engine → Call → Result) → List Call → Call → Result
 left-by f cs c = f (course f start (deeds cs)) c
 
 -- a queued batch of place p, alone or before others, would pass
@@ -265,12 +265,12 @@ shown = record {
 }
 
 -- what the right engine and a wrong one leave of a refused call
-record Refuses (f : Engine → Call → Result) (cs : List Call) (c : Call) (q : Refusal) : Type 0 where
-  moment : judge (course call start (deeds cs) .state) c ≡ Done
-  right : left-by call cs c .answer ≡ Refused q
-  wrong : left-by f cs c .answer ≡ Refused q
+pub record Refuses (f : Engine → Call → Result) (cs : List Call) (c : Call) (q : Refusal) : Type 0 where
+  pub moment : judge (course call start (deeds cs) .state) c ≡ Done
+  pub right : left-by call cs c .answer ≡ Refused q
+  pub wrong : left-by f cs c .answer ≡ Refused q
 
-abbrev standsAt : ℕ → Result → Bool
+abbrev pub standsAt : ℕ → Result → Bool
 standsAt p r = isFree (getD (r .engine .state .batches .places) p free)
 
 abbrev queueOf : Result → List ℕ
@@ -403,7 +403,7 @@ waking-others-shut-out h =
     omega arith
 
 -- what a refused call leaves is one thing
-left-one : (f : Engine → Call → Result) (cs : List Call) (c : Call) (q : Refusal) → Always f LeftBehind → kindOf (c .asked .action) ≡ steps → Refuses f cs c q → left-by f cs c ≡ left-by call cs c
+pub left-one : (f : Engine → Call → Result) (cs : List Call) (c : Call) (q : Refusal) → Always f LeftBehind → kindOf (c .asked .action) ≡ steps → Refuses f cs c q → left-by f cs c ≡ left-by call cs c
 left-one f cs c q h k g = h (deeds cs) c (g .moment) k q (g .wrong) ∙ sym (rows-are-kept (deeds cs) c (g .moment) k q (g .right))
 
 pub unequal-kept-shut-out : Always (callActing (leavingInstead 1 begunStays)) LeftBehind → ⊥
