@@ -1,11 +1,15 @@
 -- Status changes of a batch with two payers, and a sub-limit of a suspended bank.
 use Prim.Native.Nat.{ℕ}
 use mathlib.Core.Path.{_≡_, refl}
-use mathlib.Core.List.{List, [], _∷_, _++_}
+use mathlib.Core.List.{List, [], _∷_, _++_, map}
 use Rattle.chars.specs.Words.{bytes}
 use Rattle.engine.specs.declared.Action.the-variants.{Opening, SubLimit, Tick}
-use Rattle.engine.specs.Calls.{Call}
-use Rattle.engine.proofs.Stories.{asked, says, code, bank, flagged, book, request, dr, cr, reply132, line, quiet, plays}
+use Rattle.codes.specs.Codes.{shortText}
+use Rattle.settle.specs.Payments.{Payment, credit, debit}
+use Rattle.engine.specs.State.{paymentsAt}
+use Rattle.engine.specs.Calls.{Call, call}
+use Rattle.engine.specs.Course.{start, calls, course}
+use Rattle.engine.proofs.Stories.{asked, says, code, bank, flagged, book, request, dr, cr, reply132, line, quiet, goes, plays}
 use Rattle.engine.proofs.DaysChanges.{P, status}
 
 abbrev pub A : ℕ
@@ -36,3 +40,19 @@ pub letters : plays letters-calls
     ∷ []
 unfolding plays
 letters = refl
+
+-- the credit, cash and fourth letters stay as they came, and so do those of the other payer
+abbrev kept-calls : List Call
+kept-calls =
+    asked 9 0 0 Opening (book 9895 (bank "AAAA" 0 0 ∷ bank "BBBB" 0 0 ∷ bank "DDDD" 0 0 ∷ []))
+    ∷ says 10 0 1 (request "L1" "PROP0001" "01/01" (dr "AAAA" "1," "ADPZ" ++ (dr "BBBB" "8," "A DY" ++ (cr "DDDD" "9," ++ bytes ":203:3\r\n"))))
+    ∷ asked 10 0 2 (status "AAAA" "PROP0001" P) []
+    ∷ []
+
+abbrev spell : Payment → List ℕ
+spell (credit k c) = []
+spell (debit l k c) = shortText l
+
+pub kept : map spell (paymentsAt (course call start (map calls kept-calls) .state .batches) 0) ≡ bytes "PDPZ" ∷ bytes "A DY" ∷ [] ∷ []
+unfolding goes course
+kept = refl

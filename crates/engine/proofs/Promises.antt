@@ -14,7 +14,8 @@ use Rattle.queue.specs.Promise.{Trail}
 use Rattle.queue.specs.History.{replay}
 use Rattle.queue.proofs.Promises.{settled-are-passes}
 use Rattle.engine.specs.declared.Phase.the-variants.{Closed}
-use Rattle.engine.specs.declared.Action.the-variants.{Message, Tick}
+use Rattle.engine.specs.declared.Action.{Action}
+use Rattle.engine.specs.declared.Action.the-variants.{Tick}
 use Rattle.engine.specs.declared.Answer.{Answer}
 use Rattle.engine.specs.declared.Answer.the-variants.{Done, Refused}
 use Rattle.engine.specs.Kinds.{Kind, opens, steps, gives, kindOf, isClose}
@@ -28,10 +29,12 @@ use Rattle.engine.specs.Answered.{acted, outcome, timesIn, todays, await
 use Rattle.engine.specs.Course.{start, Deed, calls, after, course, since}
 use Rattle.engine.specs.Happened.{history}
 use Rattle.engine.proofs.Course.{since-course, course-last}
-use Rattle.engine.specs.Promises.{Agree, Alike, Along, Always, BalancesFollow, Closes, Covered, CoveredBy, Enough, Ledger, NonePasses, Numbered, OpensRight, Stranger, TestsByRule, Tried, Unchanged, Written, answered, asking, ledgerAfter, ledgerIn, noLedger, numberedBy, then, triesBy}
+use Rattle.engine.specs.Promises.{Agree, Alike, Along, Always, BalancesFollow, Closes, Covered, CoveredBy, Enough, Ledger, NonePasses, Numbered, OpensRight, Stranger, StrangersLeaveAll, TestsByRule, Tried, Unchanged, Written, answered, asking, ledgerAfter, ledgerIn, noLedger, numberedBy, then, triesBy}
 use Rattle.engine.proofs.Agreement.{Faithful, call-faithful, cleared-faithful, tests-agree-all-days}
 use Rattle.engine.proofs.Refusals.{refusals-change-nothing, refused-openings-change-nothing}
 use Rattle.engine.proofs.Strangers.{a-stranger-is-a-tick}
+use Rattle.engine.specs.Lettered.{LettersStay}
+use Rattle.engine.proofs.LettersStay.{call-letters}
 use Rattle.engine.proofs.Demand.{ledgerBy, ledger, anew, Stands, PaidBy, Paid, call-stands, fresh-stands}
 use Rattle.engine.proofs.Validity.{valid-kept, call-valid}
 use Rattle.engine.proofs.Output.{call-out}
@@ -299,9 +302,17 @@ tests-agree = record {
 
 -- ---- a stranger's message leaves what a tick leaves
 
-pub strangers-leave-all : (ds : List Deed) (c : Call) (sender : ℕ) → Stranger (begun (at ds .state) (c .asked .clock)) sender (requestAt (c .asked .input))
-    → Alike (call (at ds) (asking (Message sender) c)) (call (at ds) (asking Tick c))
-strangers-leave-all ds c sender h = a-stranger-is-a-tick (at ds) c sender h
+pub strangers-leave-all : Always call StrangersLeaveAll
+strangers-leave-all ds c sender e =
+    subst
+    (λ (a : Action). Stranger (begun (at ds .state) (c .asked .clock)) sender (requestAt (c .asked .input)) → Alike (call (at ds) (asking a c)) (call (at ds) (asking Tick c)))
+    (sym e)
+    (a-stranger-is-a-tick (at ds) c sender)
+
+-- ---- a status change changes one letter
+
+pub letters-stay : Always call LettersStay
+letters-stay ds c = call-letters (at ds) c
 
 -- ---- the total never changes within a day
 

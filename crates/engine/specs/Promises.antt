@@ -10,6 +10,7 @@ use Rattle.chars.specs.declared.Refusal.{Refusal}
 use Rattle.codes.specs.declared.Code.{Code}
 use Rattle.dates.specs.Dates.{dayOf}
 use Rattle.dates.specs.declared.Day.the-variants.{Number}
+use Rattle.request.specs.Request.{requestAt}
 use Rattle.request.specs.declared.Reading.{Reading}
 use Rattle.reply.specs.Reply.{responseAt}
 use Rattle.reply.specs.declared.Reply.{Reply as Response}
@@ -22,7 +23,7 @@ use Rattle.settle.specs.Rules.{sum}
 use Rattle.queue.specs.Tests.{passedOf}
 use Rattle.queue.specs.Promise.{Trail, Stuck, broughtBy, takenBy}
 use Rattle.engine.specs.declared.Action.{Action}
-use Rattle.engine.specs.declared.Action.the-variants.{Opening, ClosingBook}
+use Rattle.engine.specs.declared.Action.the-variants.{Opening, Message, Tick, ClosingBook}
 use Rattle.engine.specs.declared.Phase.the-variants.{Open}
 use Rattle.engine.specs.declared.Answer.{Answer}
 use Rattle.engine.specs.declared.Answer.the-variants.{Done, Refused}
@@ -31,7 +32,7 @@ use Rattle.engine.specs.State.{at, State, paymentsAt}
 use Rattle.engine.specs.Replies.{Reply, settlement, recall, binStream, textOf, textsFrom}
 use Rattle.engine.specs.Messages.{Acted, streamCode, streamPlace, administrator}
 use Rattle.engine.specs.Days.{opened, openingAnswer, banksOf, closingText}
-use Rattle.engine.specs.Calls.{Call, Engine, Result, roomNeeded, rowsNeeded, judge, refused, call, cleared}
+use Rattle.engine.specs.Calls.{Call, Engine, Result, roomNeeded, rowsNeeded, judge, begun, refused, call, cleared}
 use Rattle.engine.specs.Course.{start, Deed, clears, calls, course, since}
 use Rattle.engine.specs.Answered.{acted, outcome, steppedReplies, repliesOf, answeredAfter}
 use Rattle.engine.specs.Happened.{history, ByRule}
@@ -232,3 +233,8 @@ pub record Alike (x y : Result) : Type 0 where
   pub out : x .out ≡ y .out
   pub tries : x .tries ≡ y .tries
   pub engine : x .engine ≡ y .engine
+
+-- "Letting a stranger's message end another administrator's batch" is an error: such a message leaves what a tick at its clock leaves
+abbrev pub StrangersLeaveAll : Engine → Call → Result → Type 0
+StrangersLeaveAll e c r = (sender : ℕ) → c .asked .action ≡ Message sender
+    → Stranger (begun (e .state) (c .asked .clock)) sender (requestAt (c .asked .input)) → Alike r (call e (asking Tick c))
