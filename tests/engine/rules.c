@@ -1,13 +1,13 @@
 /* The table rules of document 01 over the words as they are lent (docs/FORMAT.md; R1 to R15 of docs/DECISIONS.md). */
 #include <string.h>
 
-#include "plain.h"
+#include "tests/engine/plain.h"
 
 /* A digit is 1, a letter of A-Z 2. */
 static const uint8_t kind[256] = {
-    ['0'] = 1, ['1'] = 1, ['2'] = 1, ['3'] = 1, ['4'] = 1, ['5'] = 1, ['6'] = 1, ['7'] = 1, ['8'] = 1, ['9'] = 1, ['A'] = 2, ['B'] = 2,
-    ['C'] = 2, ['D'] = 2, ['E'] = 2, ['F'] = 2, ['G'] = 2, ['H'] = 2, ['I'] = 2, ['J'] = 2, ['K'] = 2, ['L'] = 2, ['M'] = 2, ['N'] = 2,
-    ['O'] = 2, ['P'] = 2, ['Q'] = 2, ['R'] = 2, ['S'] = 2, ['T'] = 2, ['U'] = 2, ['V'] = 2, ['W'] = 2, ['X'] = 2, ['Y'] = 2, ['Z'] = 2,
+    ['0'] = 1, ['1'] = 1, ['2'] = 1, ['3'] = 1, ['4'] = 1, ['5'] = 1, ['6'] = 1, ['7'] = 1, ['8'] = 1, ['9'] = 1, ['A'] = 130, [' '] = 128, ['B'] = 2,
+    ['C'] = 2, ['D'] = 130, ['E'] = 2, ['F'] = 2, ['G'] = 2, ['H'] = 2, ['I'] = 2, ['J'] = 2, ['K'] = 2, ['L'] = 2, ['M'] = 2, ['N'] = 2,
+    ['O'] = 2, ['P'] = 130, ['Q'] = 2, ['R'] = 2, ['S'] = 2, ['T'] = 2, ['U'] = 2, ['V'] = 2, ['W'] = 2, ['X'] = 2, ['Y'] = 2, ['Z'] = 2,
 };
 
 static int all_zero(const void *p, size_t bytes) {
@@ -20,26 +20,28 @@ static int all_zero(const void *p, size_t bytes) {
 
 /* ---- codes */
 
-static int is_four(uint64_t code) { return code >> 32 == 0 && kind[code >> 24] && kind[code >> 16 & 255] && kind[code >> 8 & 255] && kind[code & 255]; }
+static int is_four(uint64_t code) { return code >> 32 == 0 && (kind[code >> 24]&3) && (kind[code >> 16 & 255]&3) && (kind[code >> 8 & 255]&3) && (kind[code & 255]&3); }
 
-/* How many characters of A-Z 0-9 stand there, zeros behind them; -1 where another does, or one behind a zero. */
-static int spelled(uint64_t half) {
-    int n = 0;
-    for (; half; half <<= 8, n++)
-        if (!kind[half >> 56]) return -1;
-    return n;
+
+#define B(x) (UINT64_C(0x0101010101010101) * (x))
+/* all eight bytes of A-Z 0-9 */
+static inline int eight(uint64_t v) {
+    uint64_t d = (v + B(0x50)) & ~(v + B(0x46)), u = (v + B(0x3f)) & ~(v + B(0x25));
+    return (((d | u) & ~v) & B(0x80)) == B(0x80);
 }
+/* zeros at the end filled up with '0' */
+static inline uint64_t filled(uint64_t v) { int z = __builtin_ctzll(v) & 56; return v | (B(0x30) & ((UINT64_C(1) << z) - 1)); }
 
-static int is_reference(const uint64_t code[2]) {
+static inline int is_reference(const uint64_t code[2]) {
     uint64_t first = code[0] >> 32;
-    int n = spelled(code[0]);
-    if (n < 1 || (code[1] && (n < 8 || spelled(code[1]) < 0))) return 0;
-    return first != 0x52495453 && first != 0x41434C52 && first != 0x41535843; /* RITS, ACLR, ASXC */
+    if (code[1] ? !(eight(code[0]) & eight(filled(code[1]))) : !code[0] || !eight(filled(code[0]))) return 0;
+    return first != 0x52495453 && first != 0x41434C52 && first != 0x41535843;
 }
 
-static int is_bin(const uint64_t code[2]) {
-    uint64_t v = code[0];
-    return code[1] == 0 && is_four(v >> 32) && kind[v >> 24 & 255] == 1 && kind[v >> 16 & 255] == 1 && kind[v >> 8 & 255] == 1 && kind[v & 255] == 1;
+static inline int is_bin(const uint64_t code[2]) {
+    uint64_t v = code[0], low = v | 0x3030303000000000u; (void)low;
+    uint64_t d = (v + B(0x50)) & ~(v + B(0x46)), u = (v + B(0x3f)) & ~(v + B(0x25));
+    return code[1] == 0 && (((d | (u & 0xffffffff00000000u)) & ~v) & B(0x80)) == B(0x80);
 }
 
 /* ---- the house */
@@ -67,11 +69,11 @@ static int banks_right(const plain_engine *e, const plain_desk *d) {
 
 /* ---- batches */
 
-static int is_status(uint64_t c) { return c == 'A' || c == 'D' || c == 'P' || c == ' '; }
+static inline int is_status(uint64_t c) { return kind[c] >> 7; }
 
 static int are_letters(uint64_t v) {
     uint64_t fourth = v & 255;
-    return v >> 32 == 0 && is_status(v >> 24) && is_status(v >> 16 & 255) && is_status(v >> 8 & 255) && (fourth == ' ' || kind[fourth] == 2);
+    return v >> 32 == 0 && is_status(v >> 24) && is_status(v >> 16 & 255) && is_status(v >> 8 & 255) && (fourth == ' ' || (kind[fourth] & 2));
 }
 
 static int messages_right(const plain_batch *b) {
@@ -159,25 +161,24 @@ static void add(plain_index *x, const uint64_t code[2], int place) {
     x->slots[s] = (uint16_t)(place + 1);
 }
 
-/* Each entry zero or a whole one of no later day, none remembered twice. */
-static int entries_right(const uint64_t (*entries)[3], int n, uint64_t today, int (*allowed)(const uint64_t *), plain_index *x) {
+
+static inline __attribute__((always_inline)) int entries_right(const uint64_t (*entries)[3], int n, uint64_t today, int references, plain_index *x, uint64_t *noted) {
     memset(x->slots, 0, sizeof x->slots);
     x->entries = entries;
     x->free = -1;
+    uint64_t count = 0;
     for (int i = n - 1; i >= 0; i--) {
         const uint64_t *entry = entries[i];
-        if (!(entry[0] | entry[1] | entry[2])) {
-            x->free = i;
-            continue;
-        }
-        if (entry[2] > today || !allowed(entry)) return 0;
-        if (!plain_remembered(entry[2], today)) {
-            x->free = i;
-            continue;
-        }
-        if (plain_find(x, entry) >= 0) return 0;
-        add(x, entry, i);
+        if (!(entry[0] | entry[1] | entry[2])) { x->free = i; continue; }
+        if (entry[2] > today || !(references ? is_reference(entry) : is_bin(entry))) return 0;
+        count += entry[2] == today;
+        if (today - entry[2] > 14) { x->free = i; continue; }
+        size_t s = slot_of(entry);
+        for (; x->slots[s]; s = (s + 1) % 4096)
+            if (same(entries[x->slots[s] - 1], entry)) return 0;
+        x->slots[s] = (uint16_t)(i + 1);
     }
+    *noted = count;
     return 1;
 }
 
@@ -193,21 +194,20 @@ static int live_bins_right(const plain_engine *e, const plain_index *bins) {
     return 1;
 }
 
-/* "texts written today and live messages together no more than today's references" */
-static int texts_right(const plain_engine *e, const plain_desk *d) {
-    uint64_t noted = 0, messages = 0;
-    for (int i = 0; i < PLAIN_REFERENCES; i++) noted += e->references[i][0] && e->references[i][2] == d->date;
+static int texts_right(const plain_engine *e, const plain_desk *d, uint64_t noted) {
+    uint64_t messages = 0;
     for (int p = 0; p < PLAIN_BATCHES; p++) messages += plain_batch_at(e, p)->messages;
     return d->texts <= noted && messages <= noted - d->texts;
 }
 
 int plain_right(const plain_engine *e, plain_index *references, plain_index *bins) {
     const plain_desk *d = plain_desk_of(e);
+    uint64_t noted, unused;
     if (d->phase == PLAIN_FRESH) return all_zero(e, sizeof *e);
     if (d->phase > PLAIN_CLOSED || d->date > 36524 || d->clock > 86399) return 0;
     if (!streams_right(d) || !banks_right(e, d)) return 0;
     if (d->phase == PLAIN_OPEN ? !batches_right(e, d) : !all_zero(e->batches, sizeof e->batches)) return 0;
-    if (!entries_right(e->references, PLAIN_REFERENCES, d->date, is_reference, references)) return 0;
-    if (!entries_right(e->bins, PLAIN_BINS, d->date, is_bin, bins)) return 0;
-    return live_bins_right(e, bins) && texts_right(e, d);
+    if (!entries_right(e->references, PLAIN_REFERENCES, d->date, 1, references, &noted)) return 0;
+    if (!entries_right(e->bins, PLAIN_BINS, d->date, 0, bins, &unused)) return 0;
+    return live_bins_right(e, bins) && texts_right(e, d, noted);
 }

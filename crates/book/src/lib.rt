@@ -29,6 +29,9 @@ pub struct Book {
 }
 
 impl Book {
+    // How each block begins.
+    pub const MARK: [u8; 2] = *b"BF";
+
     // Bytes of a block, of its words before the check, and of a stream's and a bank's entry.
     pub const BLOCK: usize = 512;
 
@@ -186,7 +189,16 @@ pub fn head_right(s: &[u8], at: usize, letter: u8, number: u8, blocks: u8) -> bo
     requires { ⌜ at ≤ 2560 ⌝ }
     ensures { λ r. ⌜ r ≡ headRight (now (s .entry)) at letter number blocks ⌝ }
 {
-    let head = [b'B', b'F', letter, number, byte(s, at + 4), blocks, 0, 0];
+    let head = [
+        Book::MARK[0],
+        Book::MARK[1],
+        letter,
+        number,
+        byte(s, at + 4),
+        blocks,
+        0,
+        0,
+    ];
     if let At::Next(_) = scan::lit(s, at, &head) {
         true
     } else {

@@ -148,7 +148,20 @@ fn put_stream_block(out: &mut [u8], day: u64, row: &[u64], n: usize, blocks: usi
     requires { ⌜ (n ≤ 8) × (2 * n ≤ length (now row)) × (blocks ≤ 5) × (512 ≤ length (now out)) ⌝ }
     ensures { λ _. ⌜ now (out .exit) ≡ sets (now (out .entry)) 0 (streamBlock day (each (streamOf (now (row .entry))) 0 n) blocks) ⌝ }
 {
-    put::bytes(out, 0, &[b'B', b'F', b'S', 0, n as u8, blocks as u8, 0, 0]);
+    put::bytes(
+        out,
+        0,
+        &[
+            Book::MARK[0],
+            Book::MARK[1],
+            b'S',
+            0,
+            n as u8,
+            blocks as u8,
+            0,
+            0,
+        ],
+    );
     put::digits(out, 8, dates::date_of(day), 6);
     put::bytes(out, 14, &[0, 0]);
     put_streams(out, row, n);
@@ -175,7 +188,16 @@ fn put_bank_block(
     put::bytes(
         out,
         at,
-        &[b'B', b'F', b'B', k as u8, n as u8, blocks as u8, 0, 0],
+        &[
+            Book::MARK[0],
+            Book::MARK[1],
+            b'B',
+            k as u8,
+            n as u8,
+            blocks as u8,
+            0,
+            0,
+        ],
     );
     put_banks(
         out,

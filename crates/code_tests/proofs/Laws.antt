@@ -144,42 +144,12 @@ module _ (c : Code) (high : c .high < 18446744073709551616) (low : c .low < 1844
       ∙ ap (allAre isZero) (drop-at (p .text) (p .zeros) (length (p .text)) refl)
       ∙ p .none
 
-  pub plain-reference : {a : Bool} → (a ≡ true → Plain c) → not a ≡ false → {b : Bool} → (b ≡ true → forbidden (longText c) ≡ false) → not b ≡ false → true ≡ isReference c
-  plain-reference {a} f e {b} g h =
+  pub plain-reference : {a : Bool} → (a ≡ true → Plain c) → not a ≡ false → {d : Bool} → d ≡ forbidden (longText c) → not d ≡ isReference c
+  plain-reference {a} f e {d} ed =
       let p = f (not-false a e) in
       let s : ltb 0 (length (longText c)) ≡ true = lt-ltb 0 (length (longText c)) (subst (λ (l : List ℕ). 0 < length l) (sym (text-is p)) (p .some)) in
       let k : allAre isCode (longText c) ≡ true = ap (allAre isCode) (text-is p) ∙ p .codes in
-      rw (plain-whole p, s, k, g (not-false b h))
-
--- ---- the beginning
-
-module _ (c : Code) {a b : ℕ} (ea : a ≡ getD (spelled c) 0 0) (eb : b ≡ getD (spelled c) 1 0) where
-  none-of : begins (bytes "RITS") (longText c) ≡ false → begins (bytes "ACLR") (longText c) ≡ false → begins (bytes "ASXC") (longText c) ≡ false → forbidden (longText c) ≡ false
-  none-of f g h = rw (f, g, h)
-
-  first-off : (p q r t : ℕ) → 1 ≤ p → 1 ≤ q → 1 ≤ r → 1 ≤ t → (a ≡ p → ⊥) → begins (p ∷ q ∷ r ∷ t ∷ []) (longText c) ≡ false
-  first-off p q r t hp hq hr ht n = sym (begin-0 p q r t hp hq hr ht c ea n)
-
-  second-off : (p q r t : ℕ) → 1 ≤ p → 1 ≤ q → 1 ≤ r → 1 ≤ t → a ≡ p → (b ≡ q → ⊥) → begins (p ∷ q ∷ r ∷ t ∷ []) (longText c) ≡ false
-  second-off p q r t hp hq hr ht e n = sym (begin-1 p q r t hp hq hr ht c ea e eb n)
-
-  pub free-r : a ≡ 82 → not (eqb b 73) ≡ true → forbidden (longText c) ≡ false
-  free-r e f =
-      none-of (second-off 82 73 84 83 (omega arith) (omega arith) (omega arith) (omega arith) e (λ d. eqb-false b 73 (not-true (eqb b 73) f) d))
-      (first-off 65 67 76 82 (omega arith) (omega arith) (omega arith) (omega arith) (λ d. omega arith))
-      (first-off 65 83 88 67 (omega arith) (omega arith) (omega arith) (omega arith) (λ d. omega arith))
-
-  pub free-other : (a ≡ 82 → ⊥) → (a ≡ 65 → ⊥) → forbidden (longText c) ≡ false
-  free-other n m =
-      none-of (first-off 82 73 84 83 (omega arith) (omega arith) (omega arith) (omega arith) n)
-      (first-off 65 67 76 82 (omega arith) (omega arith) (omega arith) (omega arith) m)
-      (first-off 65 83 88 67 (omega arith) (omega arith) (omega arith) (omega arith) m)
-
-  pub free-a : (a ≡ 82 → ⊥) → a ≡ 65 → (b ≡ 67 → ⊥) → not (eqb b 83) ≡ true → forbidden (longText c) ≡ false
-  free-a n e m f =
-      none-of (first-off 82 73 84 83 (omega arith) (omega arith) (omega arith) (omega arith) n)
-      (second-off 65 67 76 82 (omega arith) (omega arith) (omega arith) (omega arith) e m)
-      (second-off 65 83 88 67 (omega arith) (omega arith) (omega arith) (omega arith) e (λ d. eqb-false b 83 (not-true (eqb b 83) f) d))
+      rw (plain-whole p, s, k, ← ed)
 
 -- ---- BINs
 

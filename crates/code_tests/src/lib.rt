@@ -81,35 +81,16 @@ fn is_plain(c: Code) -> bool
     are_codes(c.high, 8)
 }
 
-// By the first two characters, none of the forbidden beginnings.
-fn is_free(c: Code) -> bool
-    ensures { λ r. ⌜ (r ≡ true → forbidden (longText c) ≡ false) ⌝ }
-{
-    let first = c.byte(0);
-    let second = c.byte(1);
-    if first == b'R' {
-        return second != b'I';
-    }
-    if first != b'A' {
-        return true;
-    }
-    if second == b'C' {
-        return false;
-    }
-    second != b'S'
-}
-
 // "reference, 1 to 16 of A-Z 0-9, not beginning RITS, ACLR or ASXC"
 pub fn is_reference(c: Code) -> bool
     ensures { λ r. ⌜ r ≡ isReference c ⌝ }
 {
-    if !is_plain(c) {
-        return names::is_reference(c);
+    let high = c.high;
+    let low = c.low;
+    if !is_plain(Code { high, low }) {
+        return names::is_reference(Code { high, low });
     }
-    if !is_free(c) {
-        return names::is_reference(c);
-    }
-    true
+    !names::is_forbidden(Code { high, low })
 }
 
 // "BIN: the 4 of the stream, then 4 digits"

@@ -1,6 +1,6 @@
 -- Remembered entries by the slot of their code: from the first entry of a slot a chain leads on to the next, and no entry of the slot
 -- lies between.
-use Prim.Native.Nat.{ℕ, _+_, _*_, _%_, _≤_, _<_}
+use Prim.Native.Nat.{ℕ, _+_, _*_, _%_, _^_, _≤_, _<_}
 use mathlib.Core.Path.{_≡_}
 use mathlib.Core.Bool.{Bool, true, not, _&&_}
 use mathlib.Core.List.{List}
@@ -14,7 +14,7 @@ use Rattle.entry_rules.specs.EntryRules.{entryOf, codeOf, entriesFrom}
 
 -- a prime below 2,048 spreads numbers that differ in their last digits
 abbrev pub slotOf : (high low : ℕ) → ℕ
-slotOf high low = (high % 2039 * 257 + low % 2039) % 2039
+slotOf high low = (high + low) % 2 ^ 64 % 2039
 
 module _ (t : List ℕ) (n today : ℕ) where
   abbrev pub keptAt : ℕ → Bool

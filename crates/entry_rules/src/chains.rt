@@ -18,7 +18,7 @@ const SLOTS: u64 = 2039;
 fn slot(high: u64, low: u64) -> usize
     ensures { λ r. ⌜ (r ≡ slotOf high low) × (r < 2039) ⌝ }
 {
-    ((high % SLOTS * 257 + low % SLOTS) % SLOTS) as usize
+    (std::num::wrapping_add_u64(high, low) % SLOTS) as usize
 }
 
 fn wide(k: u16) -> usize

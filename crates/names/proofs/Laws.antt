@@ -11,7 +11,7 @@ use lib.Seq.{take-at, drop-at, drop-nil, drop-cons, take-all, getD-take, length-
 use borrow.Author.Tests.{not-true, not-false, lt-ltb, eqb-true, eq-eqb, ne-eqb}
 use Rattle.chars.specs.Words.{bytes}
 use Rattle.chars.specs.Chars.{isCode, isDigit}
-use Rattle.codes.specs.Codes.{unpacked, named, spelled, longText, longOf, packOn, packed, Bytes, filled}
+use Rattle.codes.specs.Codes.{unpacked, named, spelled, longText, longOf, packOn, packed, Bytes, NoZero, filled}
 use Rattle.codes.specs.declared.Code.{Code}
 use Rattle.codes.proofs.Laws.{unpack-length, spelled-length, unpack-pack, pack-unpack, pack-take, bytes-drop, filled-split, named-at}
 use Rattle.scan.specs.Scan.{begins}
@@ -271,26 +271,40 @@ module _ (p q r t : ℕ) (hp : 1 ≤ p) (hq : 1 ≤ q) (hr : 1 ≤ r) (ht : 1 �
       (begins-step r y (t ∷ []) (z ∷ s) hr
       ∙ ap (λ (b : Bool). eqb y r && b) (begins-step t z [] s ht ∙ ap (λ (b : Bool). eqb z t && b) (begins-none (named s)))))
 
-  module _ (c : Code) where
-    first-four : begins (p ∷ q ∷ r ∷ t ∷ []) (longText c)
-        ≡ eqb (getD (spelled c) 0 0) p && (eqb (getD (spelled c) 1 0) q && (eqb (getD (spelled c) 2 0) r && (eqb (getD (spelled c) 3 0) t && true)))
-    unfolding longText
-    first-four = begins-four (spelled c) (omega (arith, spelled-length c))
+spread : (w : List ℕ) → length w ≡ 4 → w ≡ getD w 0 0 ∷ getD w 1 0 ∷ getD w 2 0 ∷ getD w 3 0 ∷ []
+spread [] e = absurd (omega arith)
+spread (p ∷ []) e = absurd (omega arith)
+spread (p ∷ q ∷ []) e = absurd (omega arith)
+spread (p ∷ q ∷ r ∷ []) e = absurd (omega arith)
+spread (p ∷ q ∷ r ∷ t ∷ []) e = refl
+spread (p ∷ q ∷ r ∷ t ∷ u ∷ w) e = absurd (omega arith)
 
-    module _ {a : ℕ} (ea : a ≡ getD (spelled c) 0 0) where
-      pub begin-0 : (a ≡ p → ⊥) → false ≡ begins (p ∷ q ∷ r ∷ t ∷ []) (longText c)
-      begin-0 n = rw (first-four, ← ea, ne-eqb a p n)
+module _ (w : List ℕ) (c : Code) (four : length w ≡ 4) (some : NoZero w) where
+  first-four : begins w (longText c)
+      ≡ eqb (getD (spelled c) 0 0) (getD w 0 0)
+      && (eqb (getD (spelled c) 1 0) (getD w 1 0) && (eqb (getD (spelled c) 2 0) (getD w 2 0) && (eqb (getD (spelled c) 3 0) (getD w 3 0) && true)))
+  unfolding longText
+  first-four =
+      let n = subst NoZero (spread w four) some in
+      ap (λ (l : List ℕ). begins l (named (spelled c))) (spread w four)
+      ∙ begins-four (getD w 0 0) (getD w 1 0) (getD w 2 0) (getD w 3 0) (n .0) (n .1 .0) (n .1 .1 .0) (n .1 .1 .1 .0) (spelled c) (omega (arith, spelled-length c))
 
-      module _ (e : a ≡ p) {b : ℕ} (eb : b ≡ getD (spelled c) 1 0) where
-        pub begin-1 : (b ≡ q → ⊥) → false ≡ begins (p ∷ q ∷ r ∷ t ∷ []) (longText c)
-        begin-1 n = rw (first-four, ← ea, ← eb, eq-eqb a p e, ne-eqb b q n)
+  module _ {a : ℕ} (ea : a ≡ getD (spelled c) 0 0) where
+    pub begin-0 : (a ≡ getD w 0 0 → ⊥) → false ≡ begins w (longText c)
+    begin-0 n = rw (first-four, ← ea, ne-eqb a (getD w 0 0) n)
 
-        module _ (f : b ≡ q) {d : ℕ} (ed : d ≡ getD (spelled c) 2 0) where
-          pub begin-2 : (d ≡ r → ⊥) → false ≡ begins (p ∷ q ∷ r ∷ t ∷ []) (longText c)
-          begin-2 n = rw (first-four, ← ea, ← eb, ← ed, eq-eqb a p e, eq-eqb b q f, ne-eqb d r n)
+    module _ (e : a ≡ getD w 0 0) {b : ℕ} (eb : b ≡ getD (spelled c) 1 0) where
+      pub begin-1 : (b ≡ getD w 1 0 → ⊥) → false ≡ begins w (longText c)
+      begin-1 n = rw (first-four, ← ea, ← eb, eq-eqb a (getD w 0 0) e, ne-eqb b (getD w 1 0) n)
 
-          pub begin-3 : d ≡ r → {x : ℕ} → x ≡ getD (spelled c) 3 0 → eqb x t ≡ begins (p ∷ q ∷ r ∷ t ∷ []) (longText c)
-          begin-3 g {x} ex = rw (first-four, ← ea, ← eb, ← ed, ← ex, eq-eqb a p e, eq-eqb b q f, eq-eqb d r g) (sym (and-end (eqb x t)))
+      module _ (f : b ≡ getD w 1 0) {d : ℕ} (ed : d ≡ getD (spelled c) 2 0) where
+        pub begin-2 : (d ≡ getD w 2 0 → ⊥) → false ≡ begins w (longText c)
+        begin-2 n = rw (first-four, ← ea, ← eb, ← ed, eq-eqb a (getD w 0 0) e, eq-eqb b (getD w 1 0) f, ne-eqb d (getD w 2 0) n)
+
+        pub begin-3 : d ≡ getD w 2 0 → {x : ℕ} → x ≡ getD (spelled c) 3 0 → eqb x (getD w 3 0) ≡ begins w (longText c)
+        begin-3 g {x} ex =
+            rw (first-four, ← ea, ← eb, ← ed, ← ex, eq-eqb a (getD w 0 0) e, eq-eqb b (getD w 1 0) f, eq-eqb d (getD w 2 0) g)
+            (sym (and-end (eqb x (getD w 3 0))))
 
 module _ (l : List ℕ) {a : Bool} (ea : a ≡ begins (bytes "RITS") l) where
   pub forbid-1 : a ≡ true → true ≡ forbidden l

@@ -5,9 +5,16 @@ ghost use mathlib.Core.List.{_∷_, []};
 ghost use Prim.Native.Nat.{ℕ, _+_, _≤_, _<_};
 ghost use lib.ListN.{length, take, drop};
 ghost use Rattle.chars.specs.Chars.{isCode, isDigit};
-ghost use Rattle.codes.specs.Codes.{longText};
+ghost use Rattle.codes.specs.Codes.{NoZero, longText};
 ghost use Rattle.scan.specs.Scan.{begins};
 ghost use Rattle.names.specs.Names.{allAre, isWhole, forbidden, isReference, isBin, binStream};
+
+// The forbidden beginnings.
+const RITS: [u8; 4] = *b"RITS";
+
+const ACLR: [u8; 4] = *b"ACLR";
+
+const ASXC: [u8; 4] = *b"ASXC";
 
 // The number after the last of four characters.
 const SHORT_END: u64 = 4_294_967_296;
@@ -56,34 +63,34 @@ fn are_digits(c: Code) -> bool
     true
 }
 
-// Four characters stand first.
-fn begins_with(c: Code, first: u8, second: u8, third: u8, fourth: u8) -> bool
-    requires { ⌜ (1 ≤ first) × (1 ≤ second) × (1 ≤ third) × (1 ≤ fourth) ⌝ }
-    ensures { λ r. ⌜ r ≡ begins (first ∷ second ∷ third ∷ fourth ∷ []) (longText c) ⌝ }
+// The code begins with a word of four characters.
+fn begins_with(c: Code, word: &[u8; 4]) -> bool
+    requires { ⌜ (length (now word) ≡ 4) × NoZero (now word) ⌝ }
+    ensures { λ r. ⌜ r ≡ begins (now (word .entry)) (longText c) ⌝ }
 {
-    if c.byte(0) != first {
+    if c.byte(0) != word[0] {
         return false;
     }
-    if c.byte(1) != second {
+    if c.byte(1) != word[1] {
         return false;
     }
-    if c.byte(2) != third {
+    if c.byte(2) != word[2] {
         return false;
     }
-    c.byte(3) == fourth
+    c.byte(3) == word[3]
 }
 
 // "not beginning RITS, ACLR or ASXC"
-fn is_forbidden(c: Code) -> bool
+pub fn is_forbidden(c: Code) -> bool
     ensures { λ r. ⌜ r ≡ forbidden (longText c) ⌝ }
 {
-    if begins_with(c, b'R', b'I', b'T', b'S') {
+    if begins_with(c, &RITS) {
         return true;
     }
-    if begins_with(c, b'A', b'C', b'L', b'R') {
+    if begins_with(c, &ACLR) {
         return true;
     }
-    begins_with(c, b'A', b'S', b'X', b'C')
+    begins_with(c, &ASXC)
 }
 
 // "reference, 1 to 16 of A-Z 0-9, not beginning RITS, ACLR or ASXC"

@@ -10,6 +10,7 @@ use borrow.Author.Tests.{not-true, not-false, lt-ltb, le-ltb, eq-eqb, ne-eqb, eq
 use mir.Syntax.{w64}
 use mir.Val.{Fits}
 use lib.Dec.{eqb}
+use lib.Bits.{bitOr, or-zero-r, or-add-and, and-le-l}
 use lib.Pow.{pow-mono, pow-add}
 use lib.ListN.{length, getD, take, drop, length-drop, drop-of-length-le}
 use lib.Seq.{drop-cons, take-all}
@@ -96,6 +97,15 @@ zeroed-on l i b z h e = rw e (go (eqb (getD l i 0) 0) refl b z)
     go true f false z = z
     go false f true z = row-not (λ x. x ≡ 0) l i z h (eqb-false (getD l i 0) 0 f)
     go false f false z = z
+
+pub joined-zero : (a w : ℕ) → eqb (bitOr a w) 0 ≡ cond (eqb w 0) (eqb a 0) false
+joined-zero a w = go (eqb w 0) refl
+  where
+    go : (c : Bool) → eqb w 0 ≡ c → eqb (bitOr a w) 0 ≡ cond c (eqb a 0) false
+    go true f = let e = eqb-true w 0 f in ap (λ (x : ℕ). eqb (bitOr a x) 0) e ∙ ap (λ (x : ℕ). eqb x 0) (or-zero-r a)
+    go false f =
+        let n = eqb-false w 0 f in
+        ne-eqb (bitOr a w) 0 (λ e. n (omega (arith, e, or-add-and a w, and-le-l a w)))
 
 pub zeroed-end : (l : List ℕ) (i : ℕ) (b : Bool) → Zeroed l i b → length l ≤ i → Says (AllZero l) b
 zeroed-end l i true z h = row-end (λ x. x ≡ 0) l i z h

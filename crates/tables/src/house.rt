@@ -127,23 +127,23 @@ pub fn total_right(row: &[u64]) -> bool
     true
 }
 
-fn still_zero(all: bool, word: u64) -> bool
-    ensures { λ r. ⌜ r ≡ cond (eqb word 0) all false ⌝ }
+fn joined(any: u64, word: u64) -> u64
+    ensures { λ r. ⌜ eqb r 0 ≡ cond (eqb word 0) (eqb any 0) false ⌝ }
 {
-    if word == 0 { all } else { false }
+    any | word
 }
 
 // To the end, whatever it meets: several words are then looked at at once, and nearly all rows are zero.
 pub fn zero(row: &[u64]) -> bool
     ensures { λ r. ⌜ Says (AllZero (now (row .entry))) r ⌝ }
 {
-    let mut all = true;
+    let mut any: u64 = 0;
     let mut i = 0;
     while i < row.len() {
-        all = still_zero(all, row[i]);
+        any = joined(any, row[i]);
         i += 1;
     }
-    all
+    any == 0
 }
 
 fn stream_codes_right(row: &[u64], n: usize) -> bool

@@ -3,6 +3,12 @@ use borrow.Author.Needs.{needs}
 use Rattle.book.proofs.head_right.Statement.{statement}
 use Rattle.book.proofs.head_right.Tie as tie
 
+array-read-t10 : tie.Need-array-read-t10
+array-read-t10 c = search needs
+
+array-read-t14 : tie.Need-array-read-t14
+array-read-t14 c = search needs
+
 add-byte : tie.Need-add-byte
 add-byte c = search needs
 
@@ -31,6 +37,8 @@ pub head-right-spec : {M : Type 1} → statement M
 head-right-spec =
     tie.close
     (tie.spec
+    array-read-t10
+    array-read-t14
     add-byte
     byte-requires
     slice-aggregate-lit

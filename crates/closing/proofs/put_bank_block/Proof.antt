@@ -6,14 +6,20 @@ use Rattle.closing.proofs.put_bank_block.Tie as tie
 mul-at : tie.Need-mul-at
 mul-at c = search needs
 
-cast-t15 : tie.Need-cast-t15
-cast-t15 c = search needs
+array-read-t18 : tie.Need-array-read-t18
+array-read-t18 c = search needs
 
-cast-t16 : tie.Need-cast-t16
-cast-t16 c = search needs
+array-read-t22 : tie.Need-array-read-t22
+array-read-t22 c = search needs
 
-cast-t17 : tie.Need-cast-t17
-cast-t17 c = search needs
+cast-t23 : tie.Need-cast-t23
+cast-t23 c = search needs
+
+cast-t24 : tie.Need-cast-t24
+cast-t24 c = search needs
+
+cast-t25 : tie.Need-cast-t25
+cast-t25 c = search needs
 
 slice-aggregate-bytes : tie.Need-slice-aggregate-bytes
 slice-aggregate-bytes c = search needs
@@ -47,9 +53,11 @@ put-bank-block-spec =
     tie.close
     (tie.spec
     mul-at
-    cast-t15
-    cast-t16
-    cast-t17
+    array-read-t18
+    array-read-t22
+    cast-t23
+    cast-t24
+    cast-t25
     slice-aggregate-bytes
     bytes-requires
     add-put-banks

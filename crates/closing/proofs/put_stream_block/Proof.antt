@@ -3,11 +3,17 @@ use borrow.Author.Needs.{needs}
 use Rattle.closing.proofs.put_stream_block.Statement.{statement}
 use Rattle.closing.proofs.put_stream_block.Tie as tie
 
-cast-t11 : tie.Need-cast-t11
-cast-t11 c = search needs
+array-read-t14 : tie.Need-array-read-t14
+array-read-t14 c = search needs
 
-cast-t12 : tie.Need-cast-t12
-cast-t12 c = search needs
+array-read-t18 : tie.Need-array-read-t18
+array-read-t18 c = search needs
+
+cast-t19 : tie.Need-cast-t19
+cast-t19 c = search needs
+
+cast-t20 : tie.Need-cast-t20
+cast-t20 c = search needs
 
 slice-aggregate-bytes : tie.Need-slice-aggregate-bytes
 slice-aggregate-bytes c = search needs
@@ -49,8 +55,10 @@ pub put-stream-block-spec : {M : Type 1} → statement M
 put-stream-block-spec =
     tie.close
     (tie.spec
-    cast-t11
-    cast-t12
+    array-read-t14
+    array-read-t18
+    cast-t19
+    cast-t20
     slice-aggregate-bytes
     bytes-requires
     date-of-requires

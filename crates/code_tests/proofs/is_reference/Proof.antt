@@ -12,26 +12,12 @@ is-reference-requires c κs = search needs
 returns : tie.Need-returns
 returns c = search needs
 
-is-free-requires : tie.Need-is-free-requires
-is-free-requires c κs = search needs
-
-is-reference-requires-2 : tie.Need-is-reference-requires-2
-is-reference-requires-2 c κs = search needs
+is-forbidden-requires : tie.Need-is-forbidden-requires
+is-forbidden-requires c κs = search needs
 
 returns-2 : tie.Need-returns-2
-returns-2 c = search needs
-
-returns-3 : tie.Need-returns-3
-returns-3 c = search plain-reference
+returns-2 c = search plain-reference
 
 pub is-reference-spec : {M : Type 1} → statement M
 is-reference-spec =
-    tie.close
-    (tie.spec
-    is-plain-requires
-    is-reference-requires
-    returns
-    is-free-requires
-    is-reference-requires-2
-    returns-2
-    returns-3)
+    tie.close (tie.spec is-plain-requires is-reference-requires returns is-forbidden-requires returns-2)
