@@ -53,3 +53,4 @@ pub mod Keeps
 pub mod Minutes
 pub mod Ordering
 pub mod Leaving
+pub mod Arriving
