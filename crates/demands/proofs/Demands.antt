@@ -8,16 +8,21 @@ use Rattle.chars.specs.declared.Refusal.{Refusal}
 use Rattle.chars.specs.declared.Refusal.the-variants.{BrokenTables}
 use Rattle.engine.specs.declared.Action.the-variants.{Opening}
 use Rattle.engine.specs.declared.Answer.{Answer}
-use Rattle.engine.specs.declared.Answer.the-variants.{Refused}
+use Rattle.engine.specs.declared.Answer.the-variants.{Done, Refused}
 use Rattle.engine.specs.declared.Phase.the-variants.{Closed}
+use Rattle.queue.specs.Promise.{True}
+use Rattle.engine.specs.State.{State, paymentsAt}
 use Rattle.engine.specs.Calls.{Call, Engine, Result, refused, call}
 use Rattle.engine.specs.Course.{Deed, start, course, since}
 use Rattle.engine.specs.Rules.{Valid, RightMemory}
 use Rattle.engine.specs.Answered.{Accounted, awaiting}
+use Rattle.engine.specs.Arrival.{ByArrival}
 use Rattle.engine.specs.LeftBehind.{LeftBehind}
 use Rattle.engine.specs.Happened.{history, ByRule}
 use Rattle.engine.specs.Waiting.{Ordered}
-use Rattle.engine.specs.Promises.{Always, Numbered, Written, answered, OpensRight, Closes, Followed, ledgerAfter, noLedger, Covered, NonePasses, Tried, Enough}
+use Rattle.engine.specs.Promises.{Always, Numbered, Written, answered, OpensRight, Closes, Followed, ledgerAfter, noLedger, Covered, NonePasses, Tried, Enough, View, view, by}
+use Rattle.engine.proofs.Agreement.{Faithful, call-alike, call-faithful, cleared-faithful}
+use Rattle.engine.proofs.Arriving.{batches-by-arrival}
 use Rattle.engine.proofs.Reading.{readers}
 use Rattle.engine.proofs.Validity.{call-valid}
 use Rattle.engine.proofs.Holding.{call-memory, cleared-memory}
@@ -28,15 +33,14 @@ use Rattle.tables.specs.Rows.{Tables, engineIn}
 use Rattle.tables.specs.Words.{deskOf, tablesOf}
 use Rattle.tables.specs.Lent.{Right, Lent, Left, leftBy as lentBy, callLent, Long, Wiped, clearLent}
 use Rattle.tables.specs.Running.{Lending, lentTo, callIn, leftIn}
-use Rattle.tables.specs.Running as columns
-use Rattle.tables.specs.Choosing.{choosing, AllSameBut}
+use Rattle.tables.specs.Choosing.{choose, SameBut, AllSameBut}
 use Rattle.tables.proofs.Held.{held, held-long}
 use Rattle.tables.proofs.Kept.{right-of, on-right}
 use Rattle.tables.proofs.Reported.{as-before, reported}
-use Rattle.tables.proofs.Choosing.{tests-leave-the-same}
-use Rattle.records.specs.Records.{balancesOf, Outcome, seenAs, outcomeOf, Beginning, wipedAs}
-use Rattle.records.proofs.Determined.{row-back, seen-back, determined}
-use Rattle.demands.specs.Demands.{Kept, tablesOn, engineOf, Calls, Clears, leftBy, begunBy, Doing, clearing, Came, none, cleared, called, deeds, told, EverySince, Everywhere, asItWas, DemandOne, Whenever, DemandTwo, DemandThree}
+use Rattle.tables.proofs.Choosing.{same-left}
+use Rattle.records.specs.Records.{balancesOf, Outcome, seenAs, outcomeOf, Beginning, wipedAs, beginningOf}
+use Rattle.records.proofs.Determined.{row-back, seen-back, determined, wiped-back, clearing-determined}
+use Rattle.demands.specs.Demands.{Kept, tablesOn, engineOf, Calls, Clears, leftBy, begunBy, Doing, clearing, Came, none, cleared, called, deeds, told, EverySince, Everywhere, asItWas, DemandOne, notBegun, DemandOneOfClearing, Whenever, DemandTwo, DemandThree}
 use Rattle.demands.specs.Demands as demanded
 
 -- ---- what is kept says the model's engine
@@ -105,7 +109,7 @@ every-since P h x x′ ds g w k y c =
     (u .1)
     (says (call e (callIn k) .engine) (leftBy y) (goes e x′ a k y c) ∙ ap (λ (z : Engine). call z (callIn k) .engine) (sym s))
     in
-    subst (λ (z : Result). P (deeds ds) (engineOf x′) (callIn k) z) (sym v) (subst (λ (z : Engine). P (deeds ds) z (callIn k) (call z (callIn k))) (sym s) (h (deeds ds) (callIn k)))
+    subst (λ (z : Result). P (deeds ds) e (callIn k) z) (sym (v ∙ ap (λ (z : Engine). call z (callIn k)) s)) (h (deeds ds) (callIn k))
 
 everywhere : (P : Engine → Call → Result → Type 0) → Always call P → Everywhere P
 everywhere P h = every-since (λ ds. P) h
@@ -146,6 +150,26 @@ module _ (x : Kept) (k : Lending) (y : Outcome) (c : Calls x k y) where
     tries = as-before l (k .asked) (seenAs y) c .1;
   }
 
+-- of a clearing
+module _ (x : Kept) (y : Beginning) (c : Clears x y) where
+  refuses : (b : Bool) → Says (Long (tablesOn x)) b → wipedAs y ≡ clearLent b (x .desk) (tablesOn x) → (Long (tablesOn x) → ⊥) → y ≡ notBegun x
+  unfolding clearLent
+  refuses true s i h = absurd (h s)
+  refuses false s i h = sym (wiped-back y) ∙ ap beginningOf i ∙ rw (row-back (x .row))
+
+  accepts : (b : Bool) → Says (Long (tablesOn x)) b → wipedAs y ≡ clearLent b (x .desk) (tablesOn x) → Long (tablesOn x) → y .start .answer ≡ Done
+  unfolding clearLent
+  accepts true s i g = ap (λ (z : Wiped). z .answer) i
+  accepts false s i g = absurd (s g)
+
+  pub demand-one-of-clearing : DemandOneOfClearing x y
+  demand-one-of-clearing = record {
+    one = λ z d. clearing-determined (x .desk) (tablesOn x) y z c d;
+    broken-tables = refuses (c .long) (c .says) (c .is);
+    accepts = accepts (c .long) (c .says) (c .is);
+    fresh = λ g. says start (begunBy y) (from-start x y g c);
+  }
+
 -- ---- demand 2
 
 answered-once : Whenever (λ x ds. Accounted (engineOf x .state) (answered ds))
@@ -164,19 +188,45 @@ demand-two = record {
   texts = everywhere Written texts-read-back;
   accounted = answered-once;
   none-left = none-awaits;
+  by-arrival = everywhere ByArrival batches-by-arrival;
   openings = everywhere OpensRight openings-are-right;
   books = everywhere Closes closing-book-reads-back;
 }
 
 -- ---- demand 3
 
-ran-on : {x : Kept} {ks : List Lending} {ys : List Outcome} → demanded.Ran x ks ys → columns.Ran (x .desk) (tablesOn x) ks (map seenAs ys)
-ran-on demanded.none = columns.done
-ran-on (demanded.then c r) = columns.then c (ran-on r)
+module _ (k : Lending) (p q : Bool) (e h : Engine) (s : e .state ≡ h .state) (f : Faithful e) (g : Faithful h) where
+  -- the same call with two tests
+  same-view : view (call e (by p (callIn k))) ≡ view (call h (by q (callIn k)))
+  same-view =
+      let t : True (paymentsAt (e .state .batches)) (e .state .books) (h .memory) = rw s (g .true) in
+      call-alike (e .state) (e .memory) (h .memory) (callIn k) p q (f .true) t
+      ∙ ap (λ (z : State). view (call (record { state = z; memory = h .memory }) (by q (callIn k)))) s
 
-both-alike : (x : Kept) (b : Beginning) (ks : List Lending) (f g : ℕ → Bool) (ys zs : List Outcome) → Long (tablesOn x) → Clears x b → demanded.Ran (begunBy b) (choosing f ks) ys
-    → demanded.Ran (begunBy b) (choosing g ks) zs → AllSameBut (map seenAs ys) (map seenAs zs)
-both-alike x b ks f g ys zs h c p q = tests-leave-the-same (x .desk) (tablesOn x) (wipedAs b) ks f g (map seenAs ys) (map seenAs zs) h c (ran-on p) (ran-on q)
+  module _ (x z : Kept) (a : At e x) (b : At h z) (y w : Outcome) (c : Calls x (choose p k) y) (d : Calls z (choose q k) w) where
+    same-outcome : SameBut (seenAs y) (seenAs w)
+    same-outcome =
+        let m = goes e x a (choose p k) y c in
+        let n = goes h z b (choose q k) w d in
+        subst (λ (l : Left). SameBut l (seenAs w)) (sym (leaves e x a (choose p k) y c))
+        (subst (λ (l : Left). SameBut (leftIn k (call e (by p (callIn k)))) l) (sym (leaves h z b (choose q k) w d))
+        (same-left k (call e (by p (callIn k))) (call h (by q (callIn k))) same-view (m .valid) (m .memory) (n .memory)))
+
+alike-on : {ds es : List Doing} {x z : Kept} {ys zs : List Outcome} (e h : Engine) → e .state ≡ h .state → Faithful e → Faithful h → At e x → At h z
+    → demanded.ButTests ds es → demanded.Ran x ds ys → demanded.Ran z es zs → AllSameBut (map seenAs ys) (map seenAs zs)
+alike-on e h s f g a b demanded.none demanded.none demanded.none = tt
+alike-on {x = x} {z = z} e h s f g a b (demanded.clear t) (demanded.begins {y = y} c m) (demanded.begins {y = w} d n) =
+    alike-on start start refl cleared-faithful cleared-faithful (from-start x y (long e x a) c) (from-start z w (long h z b) d) t m n
+alike-on {x = x} {z = z} e h s f g a b (demanded.choice k p q t) (demanded.then {y = y} c m) (demanded.then {y = w} d n) = (
+  same-outcome k p q e h s f g x z a b y w c d,
+  alike-on (call e (by p (callIn k)) .engine) (call h (by q (callIn k)) .engine) (ap (λ (v : View). v .state) (same-view k p q e h s f g))
+      (call-faithful e (by p (callIn k)) f) (call-faithful h (by q (callIn k)) g) (goes e x a (choose p k) y c) (goes h z b (choose q k) w d) t m n,
+)
+
+both-alike : (x z : Kept) (ds es : List Doing) (ys zs : List Outcome) → demanded.ButTests ds es → Long (tablesOn x) → Long (tablesOn z)
+    → demanded.Ran x (clearing ∷ ds) ys → demanded.Ran z (clearing ∷ es) zs → AllSameBut (map seenAs ys) (map seenAs zs)
+both-alike x z ds es ys zs t l m (demanded.begins {y = y} c r) (demanded.begins {y = w} d u) =
+    alike-on start start refl cleared-faithful cleared-faithful (from-start x y l c) (from-start z w m d) t r u
 
 follow : Whenever (λ x ds. Followed (balancesOf (x .row)) (ledgerAfter call start noLedger (since ds)))
 unfolding tablesOf

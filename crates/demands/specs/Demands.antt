@@ -9,11 +9,12 @@ use lib.ListN.{take, drop}
 use Rattle.chars.specs.declared.Refusal.{Refusal}
 use Rattle.chars.specs.declared.Refusal.the-variants.{BrokenTables}
 use Rattle.engine.specs.declared.Action.the-variants.{Opening}
-use Rattle.engine.specs.declared.Answer.the-variants.{Refused}
+use Rattle.engine.specs.declared.Answer.the-variants.{Done, Refused}
 use Rattle.engine.specs.declared.Phase.the-variants.{Closed}
 use Rattle.engine.specs.Calls.{Call, Engine, Result, judge, call}
-use Rattle.engine.specs.Course.{Deed, clears, calls, start, since}
+use Rattle.engine.specs.Course.{Deed, clears, calls, start, course, since}
 use Rattle.engine.specs.Answered.{Accounted, awaiting}
+use Rattle.engine.specs.Arrival.{ByArrival}
 use Rattle.engine.specs.LeftBehind.{LeftBehind}
 use Rattle.engine.specs.Happened.{history, ByRule}
 use Rattle.engine.specs.Waiting.{Ordered}
@@ -22,7 +23,7 @@ use Rattle.tables.specs.declared.Desk.{Desk}
 use Rattle.tables.specs.Rows.{Tables, engineIn}
 use Rattle.tables.specs.Lent.{Right, Called, Long, Cleared}
 use Rattle.tables.specs.Running.{Lending, lentTo, callIn}
-use Rattle.tables.specs.Choosing.{choosing, AllSameBut}
+use Rattle.tables.specs.Choosing.{choose, AllSameBut}
 use Rattle.records.specs.declared.Account.{Account}
 use Rattle.records.specs.Records.{balancesOf, tablesIn, Outcome, seenAs, Beginning, wipedAs}
 
@@ -87,10 +88,10 @@ told y = record {
 }
 
 -- of every call of the functions: rows of the right lengths, whatever they held, were cleared; then any doings; then the call. P is said of what was done since
--- the clearing, of the engine that was kept before the call, of what was asked, and of what the call has left
+-- the clearing, of the engine that the rules would have left by it, whatever was kept, of what was asked, and of what the call has left
 abbrev pub EverySince : (List Deed → Engine → Call → Result → Type 0) → Type 0
 EverySince P = (x x′ : Kept) (ds : List Doing) → Long (tablesOn x) → Came x (clearing ∷ ds) x′ → (k : Lending) (y : Outcome) → Calls x′ k y
-    → P (deeds ds) (engineOf x′) (callIn k) (told y)
+    → P (deeds ds) (course call start (deeds ds)) (callIn k) (told y)
 
 abbrev pub Everywhere : (Engine → Call → Result → Type 0) → Type 0
 Everywhere P = EverySince (λ ds. P)
@@ -122,6 +123,24 @@ pub record DemandOne (x : Kept) (k : Lending) (y : Outcome) : Type 0 where
   pub out : drop (y .told .written) (y .out) ≡ drop (y .told .written) (k .out)
   pub tries : drop (y .told .tried) (y .tries) ≡ drop (y .told .tried) (k .tries)
 
+-- of a clearing: "accepts any contents of the right lengths (else 06, its one refusal) and is a fresh start". Of anything kept
+abbrev pub notBegun : Kept → Beginning
+notBegun x = record {
+  start = record { answer = Refused BrokenTables; desk = x .desk };
+  row = x .row;
+  batches = x .batches;
+  references = x .references;
+  bins = x .bins;
+}
+
+pub record DemandOneOfClearing (x : Kept) (y : Beginning) : Type 0 where
+  -- one outcome
+  pub one : (z : Beginning) → Clears x z → y ≡ z
+  -- 06, exactly where a row has another length: "nothing changed"
+  pub broken-tables : (Long (tablesOn x) → ⊥) → y ≡ notBegun x
+  pub accepts : Long (tablesOn x) → y .start .answer ≡ Done
+  pub fresh : Long (tablesOn x) → engineOf (begunBy y) ≡ start
+
 -- ---- demand 2: "Settlement and recall requests are accepted, or refused with the very code. Each response written reads back as the same response, a
 -- closing book as the same accounts."
 
@@ -139,6 +158,8 @@ pub record DemandTwo : Type 0 where
   -- each message noted today was answered, or awaits its answer; none twice; at the close none awaits
   pub accounted : Whenever (λ x ds. Accounted (engineOf x .state) (answered ds))
   pub none-left : Whenever (λ x ds. x .desk .phase ≡ Closed → awaiting (engineOf x .state) ≡ [])
+  -- "ends each live batch with 86 by arrival of its first message"
+  pub by-arrival : Everywhere ByArrival
   -- an opening leaves its book's accounts, a closing book tells them: accepted, dated as asked, and a day opened with it begins with the same
   pub openings : Everywhere OpensRight
   pub books : Everywhere Closes
@@ -148,15 +169,23 @@ pub record DemandTwo : Type 0 where
 -- settled since; every payer of a settled batch covered its own payment by the rule for its status, on the balances just before that batch; after each call no
 -- queued batch would pass."
 
--- calls one behind another, and the outcome of each
-pub data Ran : Kept → List Lending → List Outcome → Type 0 where
+-- the same doings but for the tests that the calls choose
+pub data ButTests : List Doing → List Doing → Type 0 where
+  none : ButTests [] []
+  clear : {ds es : List Doing} → ButTests ds es → ButTests (clearing ∷ ds) (clearing ∷ es)
+  choice : {ds es : List Doing} (k : Lending) (p q : Bool) → ButTests ds es → ButTests (calling (choose p k) ∷ ds) (calling (choose q k) ∷ es)
+
+-- doings one behind another, and the outcome of each call
+pub data Ran : Kept → List Doing → List Outcome → Type 0 where
   none : {x : Kept} → Ran x [] []
-  then : {x : Kept} {k : Lending} {y : Outcome} {ks : List Lending} {ys : List Outcome} → Calls x k y → Ran (leftBy y) ks ys → Ran x (k ∷ ks) (y ∷ ys)
+  begins : {x : Kept} {y : Beginning} {ds : List Doing} {ys : List Outcome} → Clears x y → Ran (begunBy y) ds ys → Ran x (clearing ∷ ds) ys
+  then : {x : Kept} {k : Lending} {y : Outcome} {ds : List Doing} {ys : List Outcome} → Calls x k y → Ran (leftBy y) ds ys → Ran x (calling k ∷ ds) (y ∷ ys)
 
 pub record DemandThree : Type 0 where
-  -- the same calls, each with the test that f or g chooses for it: all that they leave is equal but for tries and the quick test's memory words
-  pub alike : (x : Kept) (b : Beginning) (ks : List Lending) (f g : ℕ → Bool) (ys zs : List Outcome) → Long (tablesOn x) → Clears x b
-      → Ran (begunBy b) (choosing f ks) ys → Ran (begunBy b) (choosing g ks) zs → AllSameBut (map seenAs ys) (map seenAs zs)
+  -- after a clearing the same calls and clearings, whichever test each call chooses: all that the calls leave is equal but for tries and the quick test's
+  -- memory words
+  pub alike : (x z : Kept) (ds es : List Doing) (ys zs : List Outcome) → ButTests ds es → Long (tablesOn x) → Long (tablesOn z) → Ran x (clearing ∷ ds) ys
+      → Ran z (clearing ∷ es) zs → AllSameBut (map seenAs ys) (map seenAs zs)
   -- the lent balances are those of the opening book and of what settled since
   pub balances : Whenever (λ x ds. Followed (balancesOf (x .row)) (ledgerAfter call start noLedger (since ds)))
   pub covered : Everywhere Covered

@@ -54,3 +54,4 @@ pub mod Minutes
 pub mod Ordering
 pub mod Leaving
 pub mod LettersStay
+pub mod Arriving

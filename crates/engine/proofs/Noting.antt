@@ -105,7 +105,7 @@ module _ (today : ℕ) (code : Code) (named : sameCode code noCode ≡ false) wh
       (λ e. let g : AllUnlike (remembered today es) = rw e at h in rw e (all-set es p (omega arith) v (w .1) g))
 
   -- one more is noted today
-  free-unnoted : (x : Entry) → isVacant today x ≡ true → (not (sameCode (x .code) noCode) && eqb (x .day) today) ≡ false
+  pub free-unnoted : (x : Entry) → isVacant today x ≡ true → (not (sameCode (x .code) noCode) && eqb (x .day) today) ≡ false
   free-unnoted x v =
       byBool (eqb (x .day) today)
       (λ e. let d : isRemembered (x .day) today ≡ true = rw (eqb-true (x .day) today e) (today-remembered today) in go (sameCode (x .code) noCode) (isRemembered (x .day) today) (eqb (x .day) today) v d)

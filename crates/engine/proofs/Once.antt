@@ -52,7 +52,7 @@ unlike-absent x c (d ∷ l) e u =
     let f : sameCode d x ≡ false = ap (sameCode d) (sym (same-code c x e)) ∙ same-sym d c ∙ u .0 in
     rw f (omega (arith, unlike-absent x c l e (u .1)))
 
-all-once : (x : Code) (l : List Code) → AllUnlike l → timesIn x l ≤ 1
+pub all-once : (x : Code) (l : List Code) → AllUnlike l → timesIn x l ≤ 1
 unfolding timesIn
 all-once x [] u = omega arith
 all-once x (c ∷ l) u =
@@ -61,7 +61,7 @@ all-once x (c ∷ l) u =
     (λ e. rw e (omega (arith, all-once x l (u .1))))
 
 -- what was noted today is remembered
-today-among : (x : Code) (day : ℕ) (es : List Entry) → timesIn x (notedOn day es) ≤ timesIn x (remembered day es)
+pub today-among : (x : Code) (day : ℕ) (es : List Entry) → timesIn x (notedOn day es) ≤ timesIn x (remembered day es)
 unfolding notedOn timesIn
 today-among x day [] = omega arith
 today-among x day (e ∷ es) =
@@ -81,28 +81,28 @@ noted-once s v x =
 
 -- ---- nothing is noted on a later day
 
-entry-before : (day last : ℕ) (e : Entry) → last < day → RightEntry (λ c. isReference c) last e → (not (sameCode (e .code) noCode) && eqb (e .day) day) ≡ false
-entry-before day last e l (inl h) = rw h refl
-entry-before day last e l (inr h) = rw (ne-eqb (e .day) day (λ d. omega (arith, h .1))) (none (not (sameCode (e .code) noCode)))
+entry-before : (is : Code → Bool) (day last : ℕ) (e : Entry) → last < day → RightEntry is last e → (not (sameCode (e .code) noCode) && eqb (e .day) day) ≡ false
+entry-before is day last e l (inl h) = rw h refl
+entry-before is day last e l (inr h) = rw (ne-eqb (e .day) day (λ d. omega (arith, h .1))) (none (not (sameCode (e .code) noCode)))
   where
     none : (u : Bool) → (u && false) ≡ false
     none true = refl
     none false = refl
 
-none-before : (x : Code) (day last : ℕ) (es : List Entry) → last < day → Each (RightEntry (λ c. isReference c) last) es → timesIn x (notedOn day es) ≡ 0
-unfolding notedOn timesIn
-none-before x day last [] l h = refl
-none-before x day last (e ∷ es) l h = rw (entry-before day last e l (h .0)) (none-before x day last es l (h .1))
+pub none-before : (is : Code → Bool) (day last : ℕ) (es : List Entry) → last < day → Each (RightEntry is last) es → notedOn day es ≡ []
+unfolding notedOn
+none-before is day last [] l h = refl
+none-before is day last (e ∷ es) l h = rw (entry-before is day last e l (h .0)) (none-before is day last es l (h .1))
 
-none-fresh : (x : Code) (day n : ℕ) → timesIn x (notedOn day (replicate n noEntry)) ≡ 0
-unfolding notedOn timesIn
-none-fresh x day zero = refl
-none-fresh x day (suc n) = none-fresh x day n
+pub none-fresh : (day n : ℕ) → notedOn day (replicate n noEntry) ≡ []
+unfolding notedOn
+none-fresh day zero = refl
+none-fresh day (suc n) = none-fresh day n
 
-none-in : (x : Code) (s : State) (p : Phase) (day : ℕ) → ValidIn p s → (isFresh p || ltb (s .day .date) day) ≡ true → timesIn x (notedOn day (s .known .references)) ≡ 0
-none-in x s Fresh day v h = rw v (none-fresh x day 2048)
-none-in x s Open day v h = none-before x day (s .day .date) (s .known .references) (ltb-true (s .day .date) day h) (v .known .references)
-none-in x s Closed day v h = none-before x day (s .day .date) (s .known .references) (ltb-true (s .day .date) day h) (v .0 .known .references)
+none-in : (s : State) (p : Phase) (day : ℕ) → ValidIn p s → (isFresh p || ltb (s .day .date) day) ≡ true → notedOn day (s .known .references) ≡ []
+none-in s Fresh day v h = rw v (none-fresh day 2048)
+none-in s Open day v h = none-before (λ c. isReference c) day (s .day .date) (s .known .references) (ltb-true (s .day .date) day h) (v .known .references)
+none-in s Closed day v h = none-before (λ c. isReference c) day (s .day .date) (s .known .references) (ltb-true (s .day .date) day h) (v .0 .known .references)
 
 none-wait : (x : Code) → waits x (noBatches .places) ≡ 0
 unfolding awaitingAt referencesOf timesIn
@@ -165,7 +165,7 @@ module _ (readers : Readers) (e : Engine) (c : Call) (v : Valid (e .state)) (x :
   opened-owed : (r : Answer) → openingAnswer (e .state .day) (c .asked .input) ≡ r → isOpen (e .state .day .phase) ≡ false → Owed x (openedBy r e c .engine .state) (startsAnew r l)
   unfolding opened timesIn
   opened-owed Done d i =
-      omega (arith, none-in x (e .state) (e .state .day .phase) (dayIn (c .asked .input)) v (later readers e c v d), ap (λ (b : List Place). waits x b) (ap (λ y. y .places) (k readers e c v .idle i)), none-wait x)
+      omega (arith, ap (timesIn x) (none-in (e .state) (e .state .day .phase) (dayIn (c .asked .input)) v (later readers e c v d)), ap (λ (b : List Place). waits x b) (ap (λ y. y .places) (k readers e c v .idle i)), none-wait x)
   opened-owed (Refused r) d i = h
 
   performed-owed : (z : Kind) → dayFor z (e .state .day) ≡ true → Owed x (performed z e c .engine .state) (answersBy Done z e c l)
@@ -196,7 +196,7 @@ after-owed readers (c ∷ cs) e v x l h =
 
 fresh-owed : (x : Code) → Owed x (cleared .state) []
 unfolding timesIn
-fresh-owed x = omega (arith, none-fresh x 0 2048, none-wait x)
+fresh-owed x = omega (arith, ap (timesIn x) (none-fresh 0 2048), none-wait x)
 
 pub accounted : Readers → (ds : List Deed) → Accounted (then ds) (answered ds)
 accounted readers ds = subst (λ (e : Engine). Accounted (e .state) (answered ds)) (sym (since-course call ds)) (record {

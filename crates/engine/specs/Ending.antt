@@ -25,8 +25,8 @@ settledReplies d b [] = []
 settledReplies d b (p ∷ done) =
     repliesTo (placeMessages (placeAt b p)) (placeBin (placeAt b p)) (Settled (d .date) (d .clock)) ++ settledReplies d b done
 
--- "ends each live batch with 86 by arrival of its first message": within a day places of BINs only fill, so arrival is the order of the
--- remembered BINs
+-- "ends each live batch with 86 by arrival of its first message": by the places of the remembered BINs. Within a day places only fill, so this is the
+-- order of arrival (Arrival.antt states it)
 unfoldable pub closeReplies : ℕ → Batches → List Entry → List Reply
 closeReplies today b [] = []
 closeReplies today b (e ∷ es) =

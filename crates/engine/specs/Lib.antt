@@ -12,6 +12,7 @@ pub mod Calls
 pub mod Course
 pub mod Rules
 pub mod Answered
+pub mod Arrival
 pub mod Happened
 pub mod Waiting
 pub mod Promises

@@ -76,7 +76,7 @@ module _ (k : Lending) (r x : Result) (h : view r ≡ view x) (v : Valid (r .eng
   same-state : r .engine .state ≡ x .engine .state
   same-state = ap (λ (z : View). z .state) h
 
-  same-left : SameBut (leftIn k r) (leftIn k x)
+  pub same-left : SameBut (leftIn k r) (leftIn k x)
   unfolding tablesOf
   same-left =
       let t : State = x .engine .state in
