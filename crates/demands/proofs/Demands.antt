@@ -17,17 +17,18 @@ use Rattle.engine.specs.Course.{Deed, start, course, since}
 use Rattle.engine.specs.Rules.{Valid, RightMemory}
 use Rattle.engine.specs.Answered.{Accounted, awaiting}
 use Rattle.engine.specs.Arrival.{ByArrival}
+use Rattle.engine.specs.Lettered.{LettersStay}
 use Rattle.engine.specs.LeftBehind.{LeftBehind}
 use Rattle.engine.specs.Happened.{history, ByRule}
 use Rattle.engine.specs.Waiting.{Ordered}
-use Rattle.engine.specs.Promises.{Always, Numbered, Written, answered, OpensRight, Closes, Followed, ledgerAfter, noLedger, Covered, NonePasses, Tried, Enough, View, view, by}
+use Rattle.engine.specs.Promises.{Always, Numbered, StrangersLeaveAll, Written, answered, OpensRight, Closes, Followed, ledgerAfter, noLedger, Covered, NonePasses, Tried, Enough, View, view, by}
 use Rattle.engine.proofs.Agreement.{Faithful, call-alike, call-faithful, cleared-faithful}
 use Rattle.engine.proofs.Arriving.{batches-by-arrival}
 use Rattle.engine.proofs.Reading.{readers}
 use Rattle.engine.proofs.Validity.{call-valid}
 use Rattle.engine.proofs.Holding.{call-memory, cleared-memory}
 use Rattle.engine.proofs.Refusals.{refusals-change-nothing, refused-openings-change-nothing}
-use Rattle.engine.proofs.Promises.{numbers-are-right, rows-are-kept, texts-read-back, accounted, none-left-at-close, openings-are-right, closing-book-reads-back, balances-follow, payers-covered, none-would-pass, orders-are-kept, tests-by-rule, tries-are-right, room-is-enough}
+use Rattle.engine.proofs.Promises.{numbers-are-right, strangers-leave-all, letters-stay, rows-are-kept, texts-read-back, accounted, none-left-at-close, openings-are-right, closing-book-reads-back, balances-follow, payers-covered, none-would-pass, orders-are-kept, tests-by-rule, tries-are-right, room-is-enough}
 use Rattle.tables.specs.declared.Desk.{Desk}
 use Rattle.tables.specs.Rows.{Tables, engineIn}
 use Rattle.tables.specs.Words.{deskOf, tablesOf}
@@ -189,6 +190,8 @@ demand-two = record {
   accounted = answered-once;
   none-left = none-awaits;
   by-arrival = everywhere ByArrival batches-by-arrival;
+  strangers = everywhere StrangersLeaveAll strangers-leave-all;
+  letters = everywhere LettersStay letters-stay;
   openings = everywhere OpensRight openings-are-right;
   books = everywhere Closes closing-book-reads-back;
 }

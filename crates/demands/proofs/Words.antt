@@ -17,10 +17,11 @@ use Rattle.engine.specs.Calls.{Asked, Call, Engine, Result, call}
 use Rattle.engine.specs.Course.{Deed, start, since}
 use Rattle.engine.specs.Answered.{Accounted, awaiting}
 use Rattle.engine.specs.Arrival.{ByArrival}
+use Rattle.engine.specs.Lettered.{LettersStay}
 use Rattle.engine.specs.LeftBehind.{LeftBehind}
 use Rattle.engine.specs.Happened.{history, ByRule}
 use Rattle.engine.specs.Waiting.{Ordered}
-use Rattle.engine.specs.Promises.{Numbered, Written, answered, OpensRight, Closes, Followed, ledgerAfter, noLedger, Covered, NonePasses, Tried, Enough}
+use Rattle.engine.specs.Promises.{Numbered, StrangersLeaveAll, Written, answered, OpensRight, Closes, Followed, ledgerAfter, noLedger, Covered, NonePasses, Tried, Enough}
 use Rattle.tables.specs.Lent.{Right, Lent, Left, callLent, Called, Long}
 use Rattle.tables.specs.Choosing.{SameBut, AllSameBut}
 use Rattle.tables.proofs.Kept.{right-long, right-left}
@@ -240,6 +241,8 @@ demands-of-words = record {
   accounted = whenever-words (λ x ds. Accounted (engineOf x .state) (answered ds)) (demand-two .accounted);
   none-left = whenever-words (λ x ds. x .desk .phase ≡ Closed → awaiting (engineOf x .state) ≡ []) (demand-two .none-left);
   by-arrival = everywhere-words ByArrival (demand-two .by-arrival);
+  strangers = everywhere-words StrangersLeaveAll (demand-two .strangers);
+  letters = everywhere-words LettersStay (demand-two .letters);
   openings = everywhere-words OpensRight (demand-two .openings);
   books = everywhere-words Closes (demand-two .books);
   alike = both-alike;

@@ -16,9 +16,10 @@ use Rattle.engine.specs.Course.{Deed, clears, calls, start, course, since}
 use Rattle.engine.specs.Answered.{Accounted, awaiting}
 use Rattle.engine.specs.Arrival.{ByArrival}
 use Rattle.engine.specs.LeftBehind.{LeftBehind}
+use Rattle.engine.specs.Lettered.{LettersStay}
 use Rattle.engine.specs.Happened.{history, ByRule}
 use Rattle.engine.specs.Waiting.{Ordered}
-use Rattle.engine.specs.Promises.{Numbered, Written, answered, OpensRight, Closes, Followed, ledgerAfter, noLedger, Covered, NonePasses, Tried, Enough}
+use Rattle.engine.specs.Promises.{Numbered, StrangersLeaveAll, Written, answered, OpensRight, Closes, Followed, ledgerAfter, noLedger, Covered, NonePasses, Tried, Enough}
 use Rattle.tables.specs.declared.Desk.{Desk}
 use Rattle.tables.specs.Rows.{Tables, engineIn}
 use Rattle.tables.specs.Lent.{Right, Called, Long, Cleared}
@@ -160,6 +161,10 @@ pub record DemandTwo : Type 0 where
   pub none-left : Whenever (λ x ds. x .desk .phase ≡ Closed → awaiting (engineOf x .state) ≡ [])
   -- "ends each live batch with 86 by arrival of its first message"
   pub by-arrival : Everywhere ByArrival
+  -- a message of a sender that is not the stream's administrator leaves what a tick leaves
+  pub strangers : Everywhere StrangersLeaveAll
+  -- "else that debit's ESA letter is changed", and nothing else of any batch
+  pub letters : Everywhere LettersStay
   -- an opening leaves its book's accounts, a closing book tells them: accepted, dated as asked, and a day opened with it begins with the same
   pub openings : Everywhere OpensRight
   pub books : Everywhere Closes

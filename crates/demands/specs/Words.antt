@@ -18,9 +18,10 @@ use Rattle.engine.specs.Course.{Deed, start, course, since}
 use Rattle.engine.specs.Answered.{Accounted, awaiting}
 use Rattle.engine.specs.Arrival.{ByArrival}
 use Rattle.engine.specs.LeftBehind.{LeftBehind}
+use Rattle.engine.specs.Lettered.{LettersStay}
 use Rattle.engine.specs.Happened.{history, ByRule}
 use Rattle.engine.specs.Waiting.{Ordered}
-use Rattle.engine.specs.Promises.{Numbered, Written, answered, OpensRight, Closes, Followed, ledgerAfter, noLedger, Covered, NonePasses, Tried, Enough}
+use Rattle.engine.specs.Promises.{Numbered, StrangersLeaveAll, Written, answered, OpensRight, Closes, Followed, ledgerAfter, noLedger, Covered, NonePasses, Tried, Enough}
 use Rattle.tables.specs.Lent.{Right}
 use Rattle.tables.specs.Running.{Lending, callIn}
 use Rattle.tables.specs.Choosing.{SameBut}
@@ -178,6 +179,8 @@ pub record DemandsOfWords : Type 0 where
   pub accounted : WheneverWords (λ x ds. Accounted (engineOf x .state) (answered ds))
   pub none-left : WheneverWords (λ x ds. x .desk .phase ≡ Closed → awaiting (engineOf x .state) ≡ [])
   pub by-arrival : EverywhereWords ByArrival
+  pub strangers : EverywhereWords StrangersLeaveAll
+  pub letters : EverywhereWords LettersStay
   pub openings : EverywhereWords OpensRight
   pub books : EverywhereWords Closes
   -- demand 3
