@@ -3,6 +3,10 @@ use Prim.Native.Nat.{ℕ, zero, suc, _+_, _*_}
 use mathlib.Core.List.{List, [], _∷_}
 use lib.ListN.{getD}
 
+abbrev pub sum : List ℕ → ℕ
+sum [] = 0
+sum (x ∷ xs) = x + sum xs
+
 pub data Payment : Type 0 where
   credit : (bank cents : ℕ) → Payment
   debit : (letters bank cents : ℕ) → Payment

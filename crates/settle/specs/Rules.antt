@@ -5,12 +5,9 @@ use mathlib.Core.Logic.{_≢_}
 use mathlib.Core.List.{List, [], _∷_}
 use lib.ListN.{length, getD}
 use Rattle.book.specs.Book.{mostMoney}
+pub use Rattle.settle.specs.Payments.{sum}
 use Rattle.settle.specs.Payments.{Payment, credit, debit, bankOf, centsOf, tableLength, rowPayments, howMany}
 use Rattle.settle.specs.Settlement.{paid}
-
-abbrev pub sum : List ℕ → ℕ
-sum [] = 0
-sum (x ∷ xs) = x + sum xs
 
 unfoldable pub debits : List Payment → ℕ
 debits [] = 0
