@@ -1,4 +1,7 @@
+pub mod ByValue
+pub mod ColumnLaws
 pub mod Determined
+pub mod Filling
 pub mod Laws
 pub mod Refused
 pub mod Rows
