@@ -1,5 +1,6 @@
 // The calls on accounts that are lent as a row of records.
 pub mod columns;
+pub mod paying;
 
 use chars::Refusal;
 use clearing::Start;
