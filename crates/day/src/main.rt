@@ -265,7 +265,7 @@ fn call(
         return nothing(desk);
     }
     let action = asked.action;
-    calls::call(
+    records::columns::call(
         quick,
         asked.clock,
         action,
@@ -293,7 +293,7 @@ fn clear(
     references: &mut [u64; 6144],
     bins: &mut [u64; 1536],
 ) -> Told {
-    let start = clearing::clear(
+    let start = records::columns::clear(
         desk,
         codes,
         flags,
