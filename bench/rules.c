@@ -1,4 +1,4 @@
-/* The time of the test of the table rules (crate table_rules, by crate lent_row) at full tables, beside a plain test in C of the same rules. */
+/* The time of the test of the table rules (crate tables_rules::whole, by crate tables_as_row) at full tables, beside a plain test in C of the same rules. */
 #define _POSIX_C_SOURCE 199309L
 #include <stdint.h>
 #include <stdio.h>
@@ -222,7 +222,7 @@ static void fill(uint64_t *w) {
     for (int i = 0; i < BINS; i++) snprintf(s, sizeof s, "PROP%04d", i), put_code(w + BIN + 3 * i, s), w[BIN + 3 * i + 2] = 9895;
 }
 
-/* References chosen so that all of them lie in one chain of crate entry_rules. */
+/* References chosen so that all of them lie in one chain of crate tables_rules::entry_rules. */
 static void choose(uint64_t *w) {
     char s[64];
     int n = 0;

@@ -2,11 +2,11 @@
  * Purmagheli for programs in C99 or C++ on x86-64, Linux.
  *
  * The readers of a gateway: the text of a request (131, 133), the text of a response (132, 134), why one is refused, and
- * the check of a book and where it breaks; and the writers of both texts. Link target/staticlib/libgateway.a, which
- * `./purmagheli library gateway` builds.
+ * the check of a book and where it breaks; and the writers of both texts. Link target/staticlib/libc_gateway.a, which
+ * `./purmagheli library c_gateway` builds.
  *
- * The engine: a house's day from opening to closing book. Link target/staticlib/liblending.a, which
- * `./purmagheli library lending` builds. Both archives may be linked together.
+ * The engine: a house's day from opening to closing book. Link target/staticlib/libc_engine.a, which
+ * `./purmagheli library c_engine` builds. Both archives may be linked together.
  *
  * Rows, numbers and functions belong to the archives of the same commit: there is no version in them.
  *

@@ -1,5 +1,5 @@
 #!/usr/bin/env python3
-"""Writes crates/order_runs/stdin and stdout: orders, and the text or the number that document 01 asks for.
+"""Writes crates/run_orders/stdin and stdout: orders, and the text or the number that document 01 asks for.
 
 The writer here is written from document 01 and docs/DECISIONS.md; the number is that of the reader in
 request_texts.py. Run it at the top of the repository.
@@ -154,9 +154,9 @@ def wanted(order):
 
 def main():
     all_orders = list(orders())
-    with open("crates/order_runs/stdin", "wb") as file:
+    with open("crates/run_orders/stdin", "wb") as file:
         file.write(b"".join(map(record, all_orders)))
-    with open("crates/order_runs/stdout", "wb") as file:
+    with open("crates/run_orders/stdout", "wb") as file:
         file.write(b"".join(map(wanted, all_orders)))
 
 

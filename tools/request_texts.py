@@ -1,5 +1,5 @@
 #!/usr/bin/env python3
-"""Writes crates/request_runs/stdin and stdout: texts, sound and broken, and what document 01 says of each.
+"""Writes crates/run_requests/stdin and stdout: texts, sound and broken, and what document 01 says of each.
 
 The reader here is written from document 01 and from docs/DECISIONS.md, line by line of the text, and shares nothing with
 the crates. Run it at the top of the repository.
@@ -225,9 +225,9 @@ def main():
     for text in texts():
         given.append(b"%05d\n" % len(text) + text)
         wanted.append(" ".join(map(str, answer(text))) + "\n")
-    with open("crates/request_runs/stdin", "wb") as file:
+    with open("crates/run_requests/stdin", "wb") as file:
         file.write(b"".join(given))
-    with open("crates/request_runs/stdout", "w") as file:
+    with open("crates/run_requests/stdout", "w") as file:
         file.write("".join(wanted))
 
 

@@ -1,5 +1,5 @@
 #!/usr/bin/env python3
-"""Writes crates/response_runs/stdin and stdout: responses, sound and broken, and what document 01 says of each.
+"""Writes crates/run_responses/stdin and stdout: responses, sound and broken, and what document 01 says of each.
 
 The reader and the writer here are written from document 01 and from docs/DECISIONS.md, and share nothing with the crates. Run
 it at the top of the repository.
@@ -161,7 +161,7 @@ def texts():
 
 
 def main():
-    with open("crates/response_runs/stdin", "wb") as stdin, open("crates/response_runs/stdout", "wb") as stdout:
+    with open("crates/run_responses/stdin", "wb") as stdin, open("crates/run_responses/stdout", "wb") as stdout:
         for text in texts():
             stdin.write(b"%05d\n" % len(text) + text)
             stdout.write(answer(text))

@@ -1,7 +1,7 @@
 #!/usr/bin/env python3
 """Tables that keep the table rules and tables that break just one of them, made from document 01 and docs/FORMAT.md.
 
-Writes crates/rules_runs/stdin, the tables word by word, and crates/rules_runs/stdout, what a test of the rules answers.
+Writes crates/run_rules/stdin, the tables word by word, and crates/run_rules/stdout, what a test of the rules answers.
 Each case is judged by `broken`, which names the rules that a table breaks; a case is to break
 just the rules that it names.
 Run it at the top of the repository: python3 tools/table_rules.py
@@ -688,9 +688,9 @@ def main():
         inputs += list(lines(before, now)) + [name]
         before = now
         outputs.append(f"{name} {'06' if found else '0'}")
-    with open("crates/rules_runs/stdin", "w") as f:
+    with open("crates/run_rules/stdin", "w") as f:
         f.write("\n".join(inputs) + "\n")
-    with open("crates/rules_runs/stdout", "w") as f:
+    with open("crates/run_rules/stdout", "w") as f:
         f.write("\n".join(outputs) + "\n")
 
 

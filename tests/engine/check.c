@@ -4,7 +4,7 @@
  * made on tables that were altered by hand. Everything lent ends at a page that nobody may touch, with a pattern before it that must stay.
  *
  *     check SEED CALLS [shown] [beside COMMAND..]     days from a seed; with `shown` the counts are printed
- *     check tables STDIN STDOUT                       the tables of crates/rules_runs, and what must be answered of each
+ *     check tables STDIN STDOUT                       the tables of crates/run_rules, and what must be answered of each
  *
  * The engine beside is the one that COMMAND starts (library.c), in a process of its own: so it may be code for another machine, under an emulator.
  * Without one it is the plain engine again, once in so many calls: on other memory it must do the same.
@@ -299,7 +299,7 @@ static void show(double seconds) {
     putchar('\n');
 }
 
-/* ---- the tables of crates/rules_runs: words by number, then a name; lengths in the words 24 to 30 */
+/* ---- the tables of crates/run_rules: words by number, then a name; lengths in the words 24 to 30 */
 
 static void take_tables(const uint64_t *w, plain_engine *e) {
     memcpy(e->desk, w, sizeof e->desk);

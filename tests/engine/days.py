@@ -1,4 +1,4 @@
-"""days.py LIBRARY: the days that are worked out in crates/engine/proofs (Stories, Days..), each run over the plain engine and compared.
+"""days.py LIBRARY: the days that are worked out in crates/model/proofs (Stories, Days..), each run over the plain engine and compared.
 
 A day there is an equation between a list of calls and what each answers, writes, tries and leaves. This reads the equations of those files with
 a small evaluator of their notation; what the calls do comes from the plain engine alone, lent as a shared library. Prints how many days there were.
@@ -12,7 +12,7 @@ import sys
 import threading
 
 HERE = os.path.dirname(os.path.abspath(__file__))
-PROOFS = os.path.join(HERE, "..", "..", "crates", "engine", "proofs")
+PROOFS = os.path.join(HERE, "..", "..", "crates", "model", "proofs")
 
 
 # ---- the plain engine
@@ -350,7 +350,7 @@ class Module:
             self.read(item.strip())
 
     def read(self, item):
-        used = re.match(r"(?:pub )?use Rattle\.engine\.proofs\.(\w+)\.\{(.*)\}", item, re.S)
+        used = re.match(r"(?:pub )?use Rattle\.model\.proofs\.(\w+)\.\{(.*)\}", item, re.S)
         if used:
             self.uses.update({name.strip(): used.group(1) for name in used.group(2).split(",")})
         elif re.match(r"(abbrev|unfoldable|unfolding|use|pub use|pub record)\b", item) or item.startswith("pub mod"):

@@ -1,13 +1,13 @@
 #!/usr/bin/env python3
-"""The constants of the crates that include/purmagheli.h repeats, as `NAME number`, a line each: those that are public in the sources of gateway and
-lending, and the room and the tries of a call. One that is said by others, as `TEXTS * Settlement::LONGEST`, is worked out."""
+"""The constants of the crates that include/purmagheli.h repeats, as `NAME number`, a line each: those that are public in the sources of c_gateway and
+c_engine, and the room and the tries of a call. One that is said by others, as `TEXTS * Settlement::LONGEST`, is worked out."""
 import glob
 import re
 
-SHOWN = sorted(glob.glob("crates/gateway/src/*.rt")) + ["crates/lending/src/lib.rt"]
+SHOWN = sorted(glob.glob("crates/c_gateway/src/*.rt")) + ["crates/c_engine/src/lib.rt"]
 ROOM = "crates/tables/src/moment.rt"
 TRIES = "crates/settle/src/lib.rt"
-OTHERS = ["crates/codes/src/lib.rt", "crates/response/src/lib.rt"]
+OTHERS = ["crates/codes/src/lib.rt", "crates/response_write/src/lib.rt"]
 
 said = {}  # (file, name) of a file's own constants, (None, Type::NAME) of a type's: the file and what it says
 public = []

@@ -1,15 +1,15 @@
 // The book whose account is given.
-use book::Answer;
-use book::Book;
-use book_account::BookAccount;
-use book_account::Stop;
-use book_account::Wanted;
-use closing::Writing;
-use scan::At;
+use book_read::Answer;
+use book_read::Book;
+use book_write::Writing;
+use cli_book::BookAccount;
+use cli_book::Stop;
+use cli_book::Wanted;
+use text_scan::At;
 
 // Whether an account is one of a book, by its first line.
 pub fn is_book(s: &[u8]) -> bool {
-    if let At::Next(_) = scan::lit(s, composing::first_line(s), b"accepted book") {
+    if let At::Next(_) = text_scan::lit(s, cli_request::first_line(s), b"accepted book") {
         true
     } else {
         false
@@ -38,14 +38,14 @@ fn say_line(s: &[u8], first: usize, at: usize, wanted: Wanted) {
     crate::say_expecting(s, first, at);
     say_wanted(wanted);
     crate::say(b"\n");
-    files::tell_refusal();
+    cli_files::tell_refusal();
 }
 
 // The bytes of a book that the book's check finds sound.
 fn show(book: &[u8]) {
-    match book::check(book) {
+    match book_read::check(book) {
         Answer::Fault(why) => crate::say_refused(why),
-        Answer::Sound => printing::text(book),
+        Answer::Sound => cli_print::text(book),
     }
 }
 
@@ -69,7 +69,7 @@ fn write_book(account: BookAccount) {
         banks: banks.n,
     };
     let mut out = [0u8; 2560];
-    match closing::write(&mut out, book, &row, &codes, &flags, &balances, &limits) {
+    match book_write::write(&mut out, book, &row, &codes, &flags, &balances, &limits) {
         Writing::Unwritten(why) => crate::say_refused(why),
         Writing::Written(n) => show_first(&out, n),
     }
@@ -77,7 +77,7 @@ fn write_book(account: BookAccount) {
 
 // The account whose first line is the file's line `first`.
 pub fn compose(s: &[u8], first: usize) {
-    let account = book_account::read_account(s);
+    let account = cli_book::read_account(s);
     let stop = account.stop;
     match stop {
         Stop::AtLine(at, wanted) => say_line(s, first, at, wanted),

@@ -4,13 +4,13 @@ mod books;
 mod refusals;
 
 use chars::Refusal;
-use composing::Account;
-use composing::Expected;
-use composing::Extent;
-use composing::several;
-use files::Got;
+use cli_files::Got;
+use cli_request::Account;
+use cli_request::Expected;
+use cli_request::Extent;
+use cli_request::several;
 use libc::STDERR_FILENO;
-use response::Written;
+use response_write::Written;
 ghost use Prim.Native.Nat.{_≤_};
 ghost use lib.ListN.{length};
 
@@ -20,7 +20,7 @@ fn say(text: &[u8]) {
 
 fn usage() {
     say(b"usage: compose FILE\n");
-    files::tell_wrong_call();
+    cli_files::tell_wrong_call();
 }
 
 fn say_expected(expected: Expected) {
@@ -49,7 +49,7 @@ fn say_line(first: usize, line: usize) {
 
 // The line at a place of such an account does not say what is told next.
 fn say_expecting(s: &[u8], first: usize, at: usize) {
-    say_line(first, composing::line_of(s, at));
+    say_line(first, cli_request::line_of(s, at));
     say(b": expected ");
 }
 
@@ -57,12 +57,12 @@ fn say_unread(s: &[u8], first: usize, at: usize, expected: Expected) {
     say_expecting(s, first, at);
     say_expected(expected);
     say(b"\n");
-    files::tell_refusal();
+    cli_files::tell_refusal();
 }
 
 fn say_number(why: Refusal) {
     let mut b = [0u8; 2];
-    put::digits(&mut b, 0, why.number(), 2);
+    text_put::digits(&mut b, 0, why.number(), 2);
     say(b"refused ");
     say(&b);
 }
@@ -70,22 +70,22 @@ fn say_number(why: Refusal) {
 fn say_refused(why: Refusal) {
     say_number(why);
     say(b"\n");
-    files::tell_refusal();
+    cli_files::tell_refusal();
 }
 
 // The file's line `first` is that of the account's sub type. A buffer of so many bytes holds every request.
 fn write_order(account: Account, first: usize) {
     let order = account.order;
     let mut text = io::buffer();
-    match administrator::write_request(&mut text, 0, order) {
+    match request_write::write_request(&mut text, 0, order) {
         Written::Unfit(_) => refusals::say_order(order, first),
-        Written::End(n) => printing::first(&text, n),
+        Written::End(n) => cli_print::first(&text, n),
     }
 }
 
 // Of the account whose first line is the file's line `first`, the file's line of its sub type: a line that names a file may come before it.
 fn head_line(s: &[u8], first: usize) -> usize {
-    if composing::first_line(s) == 0 {
+    if cli_request::first_line(s) == 0 {
         return first;
     }
     if first < usize::MAX { first + 1 } else { first }
@@ -97,7 +97,7 @@ fn compose(s: &[u8], first: usize) {
         books::compose(s, first);
         return;
     }
-    let account = composing::read_account(s);
+    let account = cli_request::read_account(s);
     let ending = account.ending;
     match ending {
         Extent::Unread(at, expected) => say_unread(s, first, at, expected),
@@ -111,7 +111,7 @@ fn compose_at(s: &[u8], at: usize) -> usize
     ensures { λ r. ⌜ r ≤ length (now (s .entry)) ⌝ }
 {
     let rest = &s[at..];
-    let line = composing::line_of(s, at);
+    let line = cli_request::line_of(s, at);
     let n = several::first_end(rest);
     if rest.len() <= n {
         compose(rest, line);
@@ -135,7 +135,7 @@ fn compose_each(s: &[u8]) {
 
 fn say_too_long() {
     say(b"the file has more than 65,535 bytes\n");
-    files::tell_refusal();
+    cli_files::tell_refusal();
 }
 
 // A file that fills the buffer may go on past it.
@@ -149,7 +149,7 @@ fn compose_first(buf: &[u8], n: usize) {
 
 fn compose_file(path: &[u8]) {
     let mut buf = io::large_buffer();
-    match files::read_named(path, &mut buf) {
+    match cli_files::read_named(path, &mut buf) {
         Got::Unread => (),
         Got::Bytes(n) => compose_first(&buf, n),
     }
@@ -164,7 +164,7 @@ fn main() {
         return;
     }
     if os::errno() != 0 {
-        files::unreadable(b"argument");
+        cli_files::unreadable(b"argument");
         return;
     }
     compose_file(&path[..n]);

@@ -1,12 +1,12 @@
 // Why a request would be refused, and the line of its account that says so.
-use administrator::Order;
-use composing::refusals;
-use expected::Fault;
-use expected::Tag;
-use expected::Tags;
-use expected::Told;
-use fields::Break;
-use request::Outcome;
+use cli_request::refusals;
+use request_read::whole::Outcome;
+use request_write::Order;
+use text_explain::Fault;
+use text_explain::Tag;
+use text_explain::Tags;
+use text_explain::Told;
+use text_fields::Break;
 
 fn say_tag(t: Tag) {
     let text = t.text();
@@ -52,14 +52,14 @@ fn say_break(order: Order, first: usize, b: Break, told: Told) {
     crate::say_number(why);
     crate::say(b", ");
     say_fault(fault);
-    files::tell_refusal();
+    cli_files::tell_refusal();
 }
 
 fn say_text(order: Order, first: usize, text: &[u8]) {
-    let reading = request::read_request(text);
+    let reading = request_read::whole::read_request(text);
     let outcome = reading.outcome;
     match outcome {
-        Outcome::Refused(b) => say_break(order, first, b, expected::request_break(text, b)),
+        Outcome::Refused(b) => say_break(order, first, b, text_explain::request_break(text, b)),
         Outcome::Settlement => (),
         Outcome::Recall => (),
     }
@@ -68,7 +68,7 @@ fn say_text(order: Order, first: usize, text: &[u8]) {
 // An order that its writer refuses.
 pub fn say_order(order: Order, first: usize) {
     let mut text = [0u8; 2048];
-    let n = administrator::put_order(&mut text, order);
+    let n = request_write::put_order(&mut text, order);
     if n <= 2048 {
         say_text(order, first, &text[..n]);
     }

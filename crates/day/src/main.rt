@@ -1,17 +1,17 @@
 // ./purmagheli day plain|quick [SCRIPT]: runs the calls of a script, from standard input where none is named,
 // and tells what each of them answers, tries and writes.
-use engine::Action;
-use engine::Answer;
-use engine::Phase;
-use files::Got;
-use files::lines;
-use files::lines::Ahead;
+use call::step::Told;
+use cli_files::Got;
+use cli_files::lines;
+use cli_files::lines::Ahead;
+use cli_script::Line;
 use libc::STDERR_FILENO;
 use libc::STDIN_FILENO;
-use scan::At;
-use scripts::Line;
-use stepping::Told;
+use model::Action;
+use model::Answer;
+use model::Phase;
 use tables::Desk;
+use text_scan::At;
 
 // A call: its clock, its action, and where in the line its file's name begins.
 struct Asked {
@@ -87,29 +87,29 @@ fn deed_of(line: Line) -> Deed {
 }
 
 fn not_a_call(number: u64) {
-    printing::field(b"line ", number);
-    printing::text(b" not a call\n");
-    files::tell_refusal();
+    cli_print::field(b"line ", number);
+    cli_print::text(b" not a call\n");
+    cli_files::tell_refusal();
 }
 
 fn tell_command(action: Action) {
     match action {
-        Action::Opening => printing::text(b"open "),
-        Action::Message(_) => printing::text(b"message "),
-        Action::SubLimit(_, _) => printing::text(b"sublimit "),
-        Action::Status(_, _, _) => printing::text(b"status "),
-        Action::Tick => printing::text(b"tick "),
-        Action::Close => printing::text(b"close "),
-        Action::ClosingBook(_) => printing::text(b"closing "),
+        Action::Opening => cli_print::text(b"open "),
+        Action::Message(_) => cli_print::text(b"message "),
+        Action::SubLimit(_, _) => cli_print::text(b"sublimit "),
+        Action::Status(_, _, _) => cli_print::text(b"status "),
+        Action::Tick => cli_print::text(b"tick "),
+        Action::Close => cli_print::text(b"close "),
+        Action::ClosingBook(_) => cli_print::text(b"closing "),
     }
 }
 
 fn tell_tries(tries: &[u64], n: usize) {
-    printing::text(b" tries");
+    cli_print::text(b" tries");
     let mut i = 0;
     while i < tries.len() {
         if i < n {
-            printing::field(b" ", tries[i]);
+            cli_print::field(b" ", tries[i]);
         }
         i += 1;
     }
@@ -118,11 +118,11 @@ fn tell_tries(tries: &[u64], n: usize) {
 fn write_book(path: &[u8], book: &[u8]) {
     let fd = os::open_overwrite(path);
     if fd < 0 {
-        files::unwritable(path);
+        cli_files::unwritable(path);
         return;
     }
     if !io::write_all(fd, book) {
-        files::unwritable(path);
+        cli_files::unwritable(path);
     }
     libc::close(fd);
 }
@@ -146,12 +146,12 @@ fn give(s: &[u8], asked: Asked, answer: Answer, out: &[u8], n: usize) {
                 give_book(s, asked.file, out, n);
             }
         }
-        Action::Opening => printing::first(out, n),
-        Action::Message(_) => printing::first(out, n),
-        Action::SubLimit(_, _) => printing::first(out, n),
-        Action::Status(_, _, _) => printing::first(out, n),
-        Action::Tick => printing::first(out, n),
-        Action::Close => printing::first(out, n),
+        Action::Opening => cli_print::first(out, n),
+        Action::Message(_) => cli_print::first(out, n),
+        Action::SubLimit(_, _) => cli_print::first(out, n),
+        Action::Status(_, _, _) => cli_print::first(out, n),
+        Action::Tick => cli_print::first(out, n),
+        Action::Close => cli_print::first(out, n),
     }
 }
 
@@ -159,10 +159,10 @@ fn tell_call(s: &[u8], asked: Asked, told: Told, out: &[u8], tries: &[u64]) {
     let action = asked.action;
     let answer = told.answer;
     tell_command(action);
-    printing::two_digits(answer.number());
+    cli_print::two_digits(answer.number());
     tell_tries(tries, told.tried);
-    printing::field(b" bytes ", told.written as u64);
-    printing::end();
+    cli_print::field(b" bytes ", told.written as u64);
+    cli_print::end();
     give(s, asked, answer, out, told.written);
 }
 
@@ -170,7 +170,7 @@ fn read_file(s: &[u8], file: usize, input: &mut [u8]) -> Got {
     if s.len() < file {
         return Got::Unread;
     }
-    files::read(&s[file..], input)
+    cli_files::read(&s[file..], input)
 }
 
 // The text or the book of a call. A file past the buffer's 65,536 bytes has the answer that these have: a text
@@ -190,7 +190,7 @@ fn read_input(s: &[u8], asked: Asked, input: &mut [u8]) -> Got {
 
 // The line's deed, and how many bytes of a call's text or book were read. A file that cannot be read makes it no call.
 fn read_deed(s: &[u8], input: &mut [u8]) -> Read {
-    let deed = deed_of(scripts::read_line(s));
+    let deed = deed_of(cli_script::read_line(s));
     match deed {
         Deed::Call(asked) => match read_input(s, asked, input) {
             Got::Unread => Read {
@@ -265,7 +265,7 @@ fn call(
         return nothing(desk);
     }
     let action = asked.action;
-    records::columns::call(
+    call_records::columns::call(
         quick,
         asked.clock,
         action,
@@ -293,7 +293,7 @@ fn clear(
     references: &mut [u64; 6144],
     bins: &mut [u64; 1536],
 ) -> Told {
-    let start = records::columns::clear(
+    let start = call_records::columns::clear(
         desk,
         codes,
         flags,
@@ -362,9 +362,9 @@ fn perform(
 }
 
 fn tell_clear(answer: Answer) {
-    printing::text(b"clear ");
-    printing::two_digits(answer.number());
-    printing::text(b" tries bytes 0\n");
+    cli_print::text(b"clear ");
+    cli_print::two_digits(answer.number());
+    cli_print::text(b" tries bytes 0\n");
 }
 
 // What a line has to tell, once it is done.
@@ -388,8 +388,8 @@ fn tell(
     match deed {
         Deed::Nothing => {}
         Deed::NotACall => not_a_call(number),
-        Deed::Show => showing::show(desk, codes, flags, balances, limits, batches, bins),
-        Deed::Why => showing::tell_why(desk.date, codes, balances, limits, batches, bins),
+        Deed::Show => cli_tables::show(desk, codes, flags, balances, limits, batches, bins),
+        Deed::Why => cli_tables::tell_why(desk.date, codes, balances, limits, batches, bins),
         Deed::Clear => tell_clear(answer),
         Deed::Call(asked) => {
             if length <= line.len() {
@@ -516,12 +516,12 @@ fn run(quick: bool, fd: i32) {
 
 fn usage() {
     io::write_all(STDERR_FILENO, b"usage: day plain|quick [SCRIPT]\n");
-    files::tell_wrong_call();
+    cli_files::tell_wrong_call();
 }
 
 // Whether a word is just this one.
 fn is_word(word: &[u8], name: &[u8]) -> bool {
-    if let At::Next(e) = scan::lit(word, 0, name) {
+    if let At::Next(e) = text_scan::lit(word, 0, name) {
         e == word.len()
     } else {
         false
@@ -547,7 +547,7 @@ fn chosen() -> Test {
 fn run_file(quick: bool, path: &[u8]) {
     let fd = os::open_read(path);
     if fd < 0 {
-        files::unreadable(path);
+        cli_files::unreadable(path);
         return;
     }
     run(quick, fd);
@@ -562,7 +562,7 @@ fn run_script(quick: bool, count: usize) {
     let mut path = io::buffer();
     let n = os::arg(2, &mut path);
     if os::errno() != 0 {
-        files::unreadable(b"argument");
+        cli_files::unreadable(b"argument");
         return;
     }
     run_file(quick, &path[..n]);

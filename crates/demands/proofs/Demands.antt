@@ -6,29 +6,29 @@ use mathlib.Core.List.{List, [], _∷_, map}
 use Rattle.chars.specs.Words.{Says}
 use Rattle.chars.specs.declared.Refusal.{Refusal}
 use Rattle.chars.specs.declared.Refusal.the-variants.{BrokenTables}
-use Rattle.engine.specs.declared.Action.the-variants.{Opening}
-use Rattle.engine.specs.declared.Answer.{Answer}
-use Rattle.engine.specs.declared.Answer.the-variants.{Done, Refused}
-use Rattle.engine.specs.declared.Phase.the-variants.{Closed}
+use Rattle.model.specs.declared.Action.the-variants.{Opening}
+use Rattle.model.specs.declared.Answer.{Answer}
+use Rattle.model.specs.declared.Answer.the-variants.{Done, Refused}
+use Rattle.model.specs.declared.Phase.the-variants.{Closed}
 use Rattle.queue.specs.Promise.{True}
-use Rattle.engine.specs.State.{State, paymentsAt}
-use Rattle.engine.specs.Calls.{Call, Engine, Result, refused, call}
-use Rattle.engine.specs.Course.{Deed, start, course, since}
-use Rattle.engine.specs.Rules.{Valid, RightMemory}
-use Rattle.engine.specs.Answered.{Accounted, awaiting}
-use Rattle.engine.specs.Arrival.{ByArrival}
-use Rattle.engine.specs.Lettered.{LettersStay}
-use Rattle.engine.specs.LeftBehind.{LeftBehind}
-use Rattle.engine.specs.Happened.{history, ByRule}
-use Rattle.engine.specs.Waiting.{Ordered}
-use Rattle.engine.specs.Promises.{Always, Numbered, StrangersLeaveAll, Written, answered, OpensRight, Closes, Followed, ledgerAfter, noLedger, Covered, NonePasses, Tried, Enough, View, view, by}
-use Rattle.engine.proofs.Agreement.{Faithful, call-alike, call-faithful, cleared-faithful}
-use Rattle.engine.proofs.Arriving.{batches-by-arrival}
-use Rattle.engine.proofs.Reading.{readers}
-use Rattle.engine.proofs.Validity.{call-valid}
-use Rattle.engine.proofs.Holding.{call-memory, cleared-memory}
-use Rattle.engine.proofs.Refusals.{refusals-change-nothing, refused-openings-change-nothing}
-use Rattle.engine.proofs.Promises.{numbers-are-right, strangers-leave-all, letters-stay, rows-are-kept, texts-read-back, accounted, none-left-at-close, openings-are-right, closing-book-reads-back, balances-follow, payers-covered, none-would-pass, orders-are-kept, tests-by-rule, tries-are-right, room-is-enough}
+use Rattle.model.specs.State.{State, paymentsAt}
+use Rattle.model.specs.Calls.{Call, Engine, Result, refused, call}
+use Rattle.model.specs.Course.{Deed, start, course, since}
+use Rattle.model.specs.Rules.{Valid, RightMemory}
+use Rattle.model.specs.Answered.{Accounted, awaiting}
+use Rattle.model.specs.Arrival.{ByArrival}
+use Rattle.model.specs.Lettered.{LettersStay}
+use Rattle.model.specs.LeftBehind.{LeftBehind}
+use Rattle.model.specs.Happened.{history, ByRule}
+use Rattle.model.specs.Waiting.{Ordered}
+use Rattle.model.specs.Promises.{Always, Numbered, StrangersLeaveAll, Written, answered, OpensRight, Closes, Followed, ledgerAfter, noLedger, Covered, NonePasses, Tried, Enough, View, view, by}
+use Rattle.model.proofs.Agreement.{Faithful, call-alike, call-faithful, cleared-faithful}
+use Rattle.model.proofs.Arriving.{batches-by-arrival}
+use Rattle.model.proofs.Reading.{readers}
+use Rattle.model.proofs.Validity.{call-valid}
+use Rattle.model.proofs.Holding.{call-memory, cleared-memory}
+use Rattle.model.proofs.Refusals.{refusals-change-nothing, refused-openings-change-nothing}
+use Rattle.model.proofs.Promises.{numbers-are-right, strangers-leave-all, letters-stay, rows-are-kept, texts-read-back, accounted, none-left-at-close, openings-are-right, closing-book-reads-back, balances-follow, payers-covered, none-would-pass, orders-are-kept, tests-by-rule, tries-are-right, room-is-enough}
 use Rattle.tables.specs.declared.Desk.{Desk}
 use Rattle.tables.specs.Rows.{Tables, engineIn}
 use Rattle.tables.specs.Words.{deskOf, tablesOf}
@@ -39,8 +39,8 @@ use Rattle.tables.proofs.Held.{held, held-long}
 use Rattle.tables.proofs.Kept.{right-of, on-right}
 use Rattle.tables.proofs.Reported.{as-before, reported}
 use Rattle.tables.proofs.Choosing.{same-left}
-use Rattle.records.specs.Records.{balancesOf, Outcome, seenAs, outcomeOf, Beginning, wipedAs, beginningOf}
-use Rattle.records.proofs.Determined.{row-back, seen-back, determined, wiped-back, clearing-determined}
+use Rattle.call_records.specs.Records.{balancesOf, Outcome, seenAs, outcomeOf, Beginning, wipedAs, beginningOf}
+use Rattle.call_records.proofs.Determined.{row-back, seen-back, determined, wiped-back, clearing-determined}
 use Rattle.demands.specs.Demands.{Kept, tablesOn, engineOf, Calls, Clears, leftBy, begunBy, Doing, clearing, Came, none, cleared, called, deeds, told, EverySince, Everywhere, asItWas, DemandOne, notBegun, DemandOneOfClearing, Whenever, DemandTwo, DemandThree}
 use Rattle.demands.specs.Demands as demanded
 

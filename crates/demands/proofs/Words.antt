@@ -10,28 +10,28 @@ use borrow.Author.Tests.{leb-true, leb-false, le-leb}
 use Rattle.chars.specs.Words.{Says as Tells}
 use Rattle.chars.specs.Refusals.{numberOf}
 use Rattle.chars.specs.declared.Refusal.the-variants.{BrokenTables}
-use Rattle.engine.specs.declared.Answer.{Answer}
-use Rattle.engine.specs.Answers.{answerNumber}
-use Rattle.engine.specs.declared.Phase.the-variants.{Closed}
-use Rattle.engine.specs.Calls.{Asked, Call, Engine, Result, call}
-use Rattle.engine.specs.Course.{Deed, start, since}
-use Rattle.engine.specs.Answered.{Accounted, awaiting}
-use Rattle.engine.specs.Arrival.{ByArrival}
-use Rattle.engine.specs.Lettered.{LettersStay}
-use Rattle.engine.specs.LeftBehind.{LeftBehind}
-use Rattle.engine.specs.Happened.{history, ByRule}
-use Rattle.engine.specs.Waiting.{Ordered}
-use Rattle.engine.specs.Promises.{Numbered, StrangersLeaveAll, Written, answered, OpensRight, Closes, Followed, ledgerAfter, noLedger, Covered, NonePasses, Tried, Enough}
+use Rattle.model.specs.declared.Answer.{Answer}
+use Rattle.model.specs.Answers.{answerNumber}
+use Rattle.model.specs.declared.Phase.the-variants.{Closed}
+use Rattle.model.specs.Calls.{Asked, Call, Engine, Result, call}
+use Rattle.model.specs.Course.{Deed, start, since}
+use Rattle.model.specs.Answered.{Accounted, awaiting}
+use Rattle.model.specs.Arrival.{ByArrival}
+use Rattle.model.specs.Lettered.{LettersStay}
+use Rattle.model.specs.LeftBehind.{LeftBehind}
+use Rattle.model.specs.Happened.{history, ByRule}
+use Rattle.model.specs.Waiting.{Ordered}
+use Rattle.model.specs.Promises.{Numbered, StrangersLeaveAll, Written, answered, OpensRight, Closes, Followed, ledgerAfter, noLedger, Covered, NonePasses, Tried, Enough}
 use Rattle.tables.specs.Lent.{Right, Lent, Left, callLent, Called, Long}
 use Rattle.tables.specs.Choosing.{SameBut, AllSameBut}
 use Rattle.tables.proofs.Kept.{right-long, right-left}
-use Rattle.records.specs.Records.{balancesOf, Outcome, seenAs}
-use Rattle.lending.specs.Lending.{tablesBy, EngineWords, lentIn, Returned, CalledWords, Seen, seenWith, LongWords, Started, clearWords, ClearedWords, noWords, Shaped}
-use Rattle.lending.proofs.Banks.{columns-long}
-use Rattle.lending.proofs.Clearing.{cleared-as-seen, cleared-shaped}
-use Rattle.lending.proofs.Determined as words
-use Rattle.lending.proofs.Refusals.{broken-tables, at-once}
-use Rattle.lending.proofs.Seen.{seen, shape-kept}
+use Rattle.call_records.specs.Records.{balancesOf, Outcome, seenAs}
+use Rattle.c_engine.specs.Lending.{tablesBy, EngineWords, lentIn, Returned, CalledWords, Seen, seenWith, LongWords, Started, clearWords, ClearedWords, noWords, Shaped}
+use Rattle.c_engine.proofs.Banks.{columns-long}
+use Rattle.c_engine.proofs.Clearing.{cleared-as-seen, cleared-shaped}
+use Rattle.c_engine.proofs.Determined as words
+use Rattle.c_engine.proofs.Refusals.{broken-tables, at-once}
+use Rattle.c_engine.proofs.Seen.{seen, shape-kept}
 use Rattle.demands.specs.Demands.{Kept, Calls, Came, EverySince, Everywhere, Whenever, Doing, engineOf}
 use Rattle.demands.specs.Demands as demanded
 use Rattle.demands.specs.Words.{keptBy, LendingWords, wordsOf, lendingOf, CallsWords, DoingWords, clears, CameWords, none, cleared, called, seenDoing, doings, outcomeBy, EverySinceWords, EverywhereWords, WheneverWords, OneOfCalls, OneOfClearings, chooseWords, SameWords, AllSameWords, DemandsOfWords}

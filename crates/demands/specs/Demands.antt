@@ -1,4 +1,4 @@
--- The three demands, of the public functions `call` and `clear` (crate records). What each ensures of anything lent is its contract, `Called` and `Cleared`
+-- The three demands, of the public functions `call` and `clear` (crate call_records). What each ensures of anything lent is its contract, `Called` and `Cleared`
 -- (tables/specs/Lent) of the tables whose columns are the records' fields; so what is said here of all outcomes that keep the contracts is said of what the
 -- functions leave.
 use Prim.Native.Nat.{ℕ}
@@ -8,25 +8,25 @@ use mathlib.Core.List.{List, [], _∷_, map}
 use lib.ListN.{take, drop}
 use Rattle.chars.specs.declared.Refusal.{Refusal}
 use Rattle.chars.specs.declared.Refusal.the-variants.{BrokenTables}
-use Rattle.engine.specs.declared.Action.the-variants.{Opening}
-use Rattle.engine.specs.declared.Answer.the-variants.{Done, Refused}
-use Rattle.engine.specs.declared.Phase.the-variants.{Closed}
-use Rattle.engine.specs.Calls.{Call, Engine, Result, judge, call}
-use Rattle.engine.specs.Course.{Deed, clears, calls, start, course, since}
-use Rattle.engine.specs.Answered.{Accounted, awaiting}
-use Rattle.engine.specs.Arrival.{ByArrival}
-use Rattle.engine.specs.LeftBehind.{LeftBehind}
-use Rattle.engine.specs.Lettered.{LettersStay}
-use Rattle.engine.specs.Happened.{history, ByRule}
-use Rattle.engine.specs.Waiting.{Ordered}
-use Rattle.engine.specs.Promises.{Numbered, StrangersLeaveAll, Written, answered, OpensRight, Closes, Followed, ledgerAfter, noLedger, Covered, NonePasses, Tried, Enough}
+use Rattle.model.specs.declared.Action.the-variants.{Opening}
+use Rattle.model.specs.declared.Answer.the-variants.{Done, Refused}
+use Rattle.model.specs.declared.Phase.the-variants.{Closed}
+use Rattle.model.specs.Calls.{Call, Engine, Result, judge, call}
+use Rattle.model.specs.Course.{Deed, clears, calls, start, course, since}
+use Rattle.model.specs.Answered.{Accounted, awaiting}
+use Rattle.model.specs.Arrival.{ByArrival}
+use Rattle.model.specs.LeftBehind.{LeftBehind}
+use Rattle.model.specs.Lettered.{LettersStay}
+use Rattle.model.specs.Happened.{history, ByRule}
+use Rattle.model.specs.Waiting.{Ordered}
+use Rattle.model.specs.Promises.{Numbered, StrangersLeaveAll, Written, answered, OpensRight, Closes, Followed, ledgerAfter, noLedger, Covered, NonePasses, Tried, Enough}
 use Rattle.tables.specs.declared.Desk.{Desk}
 use Rattle.tables.specs.Rows.{Tables, engineIn}
 use Rattle.tables.specs.Lent.{Right, Called, Long, Cleared}
 use Rattle.tables.specs.Running.{Lending, lentTo, callIn}
 use Rattle.tables.specs.Choosing.{choose, AllSameBut}
-use Rattle.records.specs.declared.Account.{Account}
-use Rattle.records.specs.Records.{balancesOf, tablesIn, Outcome, seenAs, Beginning, wipedAs}
+use Rattle.call_records.specs.declared.Account.{Account}
+use Rattle.call_records.specs.Records.{balancesOf, tablesIn, Outcome, seenAs, Beginning, wipedAs}
 
 -- ---- "over any sequence of calls"
 

@@ -1,5 +1,5 @@
--- The three demands, of the functions that a program in C calls on rows of words: `purmagheli_call_rows` and `purmagheli_clear_rows` (crate lending). Their
--- contracts are `CalledWords` and `ClearedWords` (lending/specs/Lending). What a promise says of what is kept, it says here of what the words say.
+-- The three demands, of the functions that a program in C calls on rows of words: `purmagheli_call_rows` and `purmagheli_clear_rows` (crate c_engine). Their
+-- contracts are `CalledWords` and `ClearedWords` (c_engine/specs/Lending). What a promise says of what is kept, it says here of what the words say.
 use Prim.Native.Nat.{ℕ, _≤_, _<_}
 use mathlib.Core.Path.{_≡_}
 use mathlib.Core.Bool.{Bool, cond}
@@ -9,24 +9,24 @@ use lib.ListN.{length, getD}
 use Rattle.chars.specs.Refusals.{numberOf}
 use Rattle.chars.specs.declared.Refusal.{Refusal}
 use Rattle.chars.specs.declared.Refusal.the-variants.{BrokenTables, ShortBuffer}
-use Rattle.engine.specs.declared.Answer.{Answer}
-use Rattle.engine.specs.declared.Answer.the-variants.{Refused}
-use Rattle.engine.specs.declared.Phase.the-variants.{Closed}
-use Rattle.engine.specs.Answers.{answerNumber}
-use Rattle.engine.specs.Calls.{Asked, Call, Engine, Result, judge, call}
-use Rattle.engine.specs.Course.{Deed, start, course, since}
-use Rattle.engine.specs.Answered.{Accounted, awaiting}
-use Rattle.engine.specs.Arrival.{ByArrival}
-use Rattle.engine.specs.LeftBehind.{LeftBehind}
-use Rattle.engine.specs.Lettered.{LettersStay}
-use Rattle.engine.specs.Happened.{history, ByRule}
-use Rattle.engine.specs.Waiting.{Ordered}
-use Rattle.engine.specs.Promises.{Numbered, StrangersLeaveAll, Written, answered, OpensRight, Closes, Followed, ledgerAfter, noLedger, Covered, NonePasses, Tried, Enough}
+use Rattle.model.specs.declared.Answer.{Answer}
+use Rattle.model.specs.declared.Answer.the-variants.{Refused}
+use Rattle.model.specs.declared.Phase.the-variants.{Closed}
+use Rattle.model.specs.Answers.{answerNumber}
+use Rattle.model.specs.Calls.{Asked, Call, Engine, Result, judge, call}
+use Rattle.model.specs.Course.{Deed, start, course, since}
+use Rattle.model.specs.Answered.{Accounted, awaiting}
+use Rattle.model.specs.Arrival.{ByArrival}
+use Rattle.model.specs.LeftBehind.{LeftBehind}
+use Rattle.model.specs.Lettered.{LettersStay}
+use Rattle.model.specs.Happened.{history, ByRule}
+use Rattle.model.specs.Waiting.{Ordered}
+use Rattle.model.specs.Promises.{Numbered, StrangersLeaveAll, Written, answered, OpensRight, Closes, Followed, ledgerAfter, noLedger, Covered, NonePasses, Tried, Enough}
 use Rattle.tables.specs.Lent.{Right}
 use Rattle.tables.specs.Running.{Lending, callIn}
 use Rattle.tables.specs.Choosing.{SameBut}
-use Rattle.records.specs.Records.{balancesOf, Outcome}
-use Rattle.lending.specs.Lending.{deskIn, banksIn, EngineWords, Words, Returned, refusedWith, unchanged, InShape, CalledWords, seenWith, LongWords, Started, noWords, ClearedWords}
+use Rattle.call_records.specs.Records.{balancesOf, Outcome}
+use Rattle.c_engine.specs.Lending.{deskIn, banksIn, EngineWords, Words, Returned, refusedWith, unchanged, InShape, CalledWords, seenWith, LongWords, Started, noWords, ClearedWords}
 use Rattle.demands.specs.Demands.{Kept, tablesOn, engineOf, Doing, clearing, calling, deeds, told, DemandOne}
 
 -- ---- "over any sequence of calls"

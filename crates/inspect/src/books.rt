@@ -1,7 +1,7 @@
 // The account of a book.
 use crate::faults;
-use book::Book;
-use book::Reading;
+use book_read::Book;
+use book_read::Reading;
 
 // The number at a place of a row; 0 past its end.
 fn at(row: &[u64], i: usize) -> u64 {
@@ -9,11 +9,11 @@ fn at(row: &[u64], i: usize) -> u64 {
 }
 
 fn show_stream(code: u64, administrator: u64) {
-    printing::text(b"stream ");
-    printing::code(code);
-    printing::space();
-    printing::number(administrator);
-    printing::end();
+    cli_print::text(b"stream ");
+    cli_print::code(code);
+    cli_print::space();
+    cli_print::number(administrator);
+    cli_print::end();
 }
 
 fn show_streams(streams: &[u64], n: usize) {
@@ -32,8 +32,8 @@ fn show_bits(streams: &[u64], bits: u64) {
     let mut i = 0;
     while i < Book::STREAMS {
         if rest % 2 == 1 {
-            printing::space();
-            printing::code(at(streams, 2 * i));
+            cli_print::space();
+            cli_print::code(at(streams, 2 * i));
         }
         rest = rest / 2;
         i += 1;
@@ -41,18 +41,18 @@ fn show_bits(streams: &[u64], bits: u64) {
 }
 
 fn show_bank(streams: &[u64], code: u64, flags: u64, balance: u64, limit: u64) {
-    printing::text(b"bank ");
-    printing::code(code);
+    cli_print::text(b"bank ");
+    cli_print::code(code);
     if flags % 2 == 1 {
-        printing::text(b" suspended ");
+        cli_print::text(b" suspended ");
     } else {
-        printing::text(b" active ");
+        cli_print::text(b" active ");
     }
-    printing::number(balance);
-    printing::space();
-    printing::number(limit);
+    cli_print::number(balance);
+    cli_print::space();
+    cli_print::number(limit);
     show_bits(streams, flags / 2);
-    printing::end();
+    cli_print::end();
 }
 
 fn show_banks(
@@ -92,15 +92,15 @@ fn total(balances: &[u64], n: usize) -> u64 {
 }
 
 fn show_head(book: Book) {
-    printing::text(b"accepted book\ndate ");
-    printing::six_digits(dates::date_of(book.day));
-    printing::end();
+    cli_print::text(b"accepted book\ndate ");
+    cli_print::six_digits(dates::date_of(book.day));
+    cli_print::end();
 }
 
 fn show_total(sum: u64) {
-    printing::text(b"total ");
-    printing::number(sum);
-    printing::end();
+    cli_print::text(b"total ");
+    cli_print::number(sum);
+    cli_print::end();
 }
 
 pub fn show(s: &[u8]) {
@@ -109,7 +109,7 @@ pub fn show(s: &[u8]) {
     let mut flags = [0u64; 64];
     let mut balances = [0u64; 64];
     let mut limits = [0u64; 64];
-    match book::read(
+    match book_read::read(
         s,
         &mut streams,
         &mut codes,
@@ -118,7 +118,7 @@ pub fn show(s: &[u8]) {
         &mut limits,
     ) {
         Reading::Unread(why) => {
-            printing::refused(why);
+            cli_print::refused(why);
             faults::show(s);
         }
         Reading::Held(book) => {

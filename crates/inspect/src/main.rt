@@ -5,9 +5,9 @@ mod faults;
 mod requests;
 mod responses;
 
-use files::Got;
+use cli_files::Got;
 use libc::STDERR_FILENO;
-use scan::At;
+use text_scan::At;
 
 // What the files are said to be.
 enum Subject {
@@ -19,7 +19,7 @@ enum Subject {
 
 // Whether a word is just this one.
 fn is_word(word: &[u8], name: &[u8]) -> bool {
-    if let At::Next(e) = scan::lit(word, 0, name) {
+    if let At::Next(e) = text_scan::lit(word, 0, name) {
         e == word.len()
     } else {
         false
@@ -44,7 +44,7 @@ fn usage() {
         STDERR_FILENO,
         b"usage: inspect request|response|book FILE..\n",
     );
-    files::tell_wrong_call();
+    cli_files::tell_wrong_call();
 }
 
 fn show(subject: Subject, s: &[u8]) {
@@ -58,7 +58,7 @@ fn show(subject: Subject, s: &[u8]) {
 
 // What stands in the first n bytes.
 fn show_first(subject: Subject, path: &[u8], buf: &[u8], n: usize) {
-    printing::line(b"file", path);
+    cli_print::line(b"file", path);
     if n <= buf.len() {
         show(subject, &buf[..n]);
     }
@@ -68,7 +68,7 @@ fn show_first(subject: Subject, path: &[u8], buf: &[u8], n: usize) {
 // byte at the most, and a book of more than 2,560 bytes is refused for its length.
 fn show_file(subject: Subject, path: &[u8]) {
     let mut buf = io::large_buffer();
-    match files::read_named(path, &mut buf) {
+    match cli_files::read_named(path, &mut buf) {
         Got::Unread => (),
         Got::Bytes(n) => show_first(subject, path, &buf, n),
     }
@@ -78,7 +78,7 @@ fn show_argument(subject: Subject, i: usize) {
     let mut path = io::buffer();
     let n = os::arg(i, &mut path);
     if os::errno() != 0 {
-        files::unreadable(b"argument");
+        cli_files::unreadable(b"argument");
         return;
     }
     show_file(subject, &path[..n]);

@@ -1,31 +1,34 @@
 // The account of a request.
-use fields::Break;
-use payments::Payment;
-use request::Head;
-use request::Outcome;
-use request::Reading;
-use terms::Activation;
-use terms::Terms;
+use request_read::payments::Payment;
+use request_read::terms::Activation;
+use request_read::terms::Terms;
+use request_read::whole::Head;
+use request_read::whole::Outcome;
+use request_read::whole::Reading;
+use text_fields::Break;
 
 fn show_head(s: &[u8], h: Head) {
     let address = h.address;
-    printing::line(b"accepted", parts::sub_type_text(s, h));
-    printing::line(b"reference", parts::reference_text(s, h));
-    printing::line(b"stream", parts::stream_text(s, address));
-    printing::line(b"bin", parts::bin_text(s, address));
+    cli_print::line(b"accepted", request_read::parts::sub_type_text(s, h));
+    cli_print::line(b"reference", request_read::parts::reference_text(s, h));
+    cli_print::line(b"stream", request_read::parts::stream_text(s, address));
+    cli_print::line(b"bin", request_read::parts::bin_text(s, address));
 }
 
 fn show_activation(s: &[u8], t: Terms) {
     let activation = t.activation;
     match activation {
-        Activation::AtOnce => printing::line(b"activation", b"none"),
-        Activation::Minute(_) => printing::line(b"activation", parts::activation_text(s, t)),
+        Activation::AtOnce => cli_print::line(b"activation", b"none"),
+        Activation::Minute(_) => cli_print::line(
+            b"activation",
+            request_read::parts::activation_text(s, t),
+        ),
     }
 }
 
 fn show_terms(s: &[u8], t: Terms) {
-    printing::line(b"message", parts::numbers_text(s, t));
-    printing::line(b"date", parts::date_text(s, t));
+    cli_print::line(b"message", request_read::parts::numbers_text(s, t));
+    cli_print::line(b"date", request_read::parts::date_text(s, t));
     show_activation(s, t);
 }
 
@@ -36,18 +39,18 @@ fn show_payment(p: Payment) {
     let bank = p.bank;
     let debit = side.number != 0;
     if debit {
-        printing::text(b"payment DR ");
+        cli_print::text(b"payment DR ");
     } else {
-        printing::text(b"payment CR ");
+        cli_print::text(b"payment CR ");
     }
-    printing::number(amount.number);
-    printing::space();
-    printing::code(bank.number);
+    cli_print::number(amount.number);
+    cli_print::space();
+    cli_print::code(bank.number);
     if debit {
-        printing::space();
-        printing::letters(letters.number);
+        cli_print::space();
+        cli_print::letters(letters.number);
     }
-    printing::end();
+    cli_print::end();
 }
 
 fn show_payments(ps: [Payment; 10], n: usize) {
@@ -73,12 +76,12 @@ fn show_settlement(s: &[u8], r: Reading) {
 // The number, and where and why the text breaks.
 fn show_refusal(s: &[u8], b: Break) {
     let why = b.refusal;
-    printing::refused(why);
-    telling::show_break(s, b.at, expected::request_break(s, b));
+    cli_print::refused(why);
+    cli_explain::show_break(s, b.at, text_explain::request_break(s, b));
 }
 
 pub fn show(s: &[u8]) {
-    let r = request::read_request(s);
+    let r = request_read::whole::read_request(s);
     let outcome = r.outcome;
     let head = r.head;
     match outcome {

@@ -1,15 +1,15 @@
 // The account of a response.
-use fields::Break;
-use reply::Parts;
-use reply::Reply;
-use response::Answer;
-use response::Outcome;
-use response::Recall;
-use response::Settlement;
-use values::Part;
+use response_read::Parts;
+use response_read::Reply;
+use response_write::Answer;
+use response_write::Outcome;
+use response_write::Recall;
+use response_write::Settlement;
+use text_fields::Break;
+use text_values::Part;
 
 fn part(s: &[u8], name: &[u8], p: Part) {
-    printing::line(name, values::text_of(s, p));
+    cli_print::line(name, text_values::text_of(s, p));
 }
 
 fn show_number(s: &[u8], p: Parts) {
@@ -22,17 +22,17 @@ fn show_number(s: &[u8], p: Parts) {
 }
 
 fn show_settled(day: u64, second: u64) {
-    printing::text(b"settled ");
-    printing::six_digits(dates::date_of(day));
-    printing::space();
-    printing::six_digits(clock::hhmmss_of(second));
-    printing::end();
+    cli_print::text(b"settled ");
+    cli_print::six_digits(dates::date_of(day));
+    cli_print::space();
+    cli_print::six_digits(clock::hhmmss_of(second));
+    cli_print::end();
 }
 
 fn show_rejected(number: u64) {
-    printing::text(b"rejected ");
-    printing::two_digits(number);
-    printing::end();
+    cli_print::text(b"rejected ");
+    cli_print::two_digits(number);
+    cli_print::end();
 }
 
 fn show_settlement(s: &[u8], p: Parts, r: Settlement) {
@@ -52,7 +52,7 @@ fn show_recall(s: &[u8], p: Parts, r: Recall) {
     let answer = r.answer;
     show_number(s, p);
     match answer {
-        Answer::Recalled => printing::text(b"recalled\n"),
+        Answer::Recalled => cli_print::text(b"recalled\n"),
         Answer::Kept(number) => show_rejected(number),
     }
 }
@@ -60,12 +60,12 @@ fn show_recall(s: &[u8], p: Parts, r: Recall) {
 // The number, and where and why the text breaks.
 fn show_refusal(s: &[u8], b: Break) {
     let why = b.refusal;
-    printing::refused(why);
-    telling::show_break(s, b.at, expected::response_break(s, b));
+    cli_print::refused(why);
+    cli_explain::show_break(s, b.at, text_explain::response_break(s, b));
 }
 
 pub fn show(s: &[u8]) {
-    let r = reply::read_response(s);
+    let r = response_read::read_response(s);
     let reply = r.reply;
     let parts = r.parts;
     match reply {

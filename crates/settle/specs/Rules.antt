@@ -4,7 +4,7 @@ use mathlib.Core.Path.{_≡_}
 use mathlib.Core.Logic.{_≢_}
 use mathlib.Core.List.{List, [], _∷_}
 use lib.ListN.{length, getD}
-use Rattle.book.specs.Book.{mostMoney}
+use Rattle.book_read.specs.Book.{mostMoney}
 pub use Rattle.settle.specs.Payments.{sum}
 use Rattle.settle.specs.Payments.{Payment, credit, debit, bankOf, centsOf, tableLength, rowPayments, howMany}
 use Rattle.settle.specs.Settlement.{paid}

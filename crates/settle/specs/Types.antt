@@ -3,7 +3,7 @@ use Prim.Native.Nat.{ℕ, _*_}
 use mathlib.Core.Bool.{_&&_, cond}
 use lib.Dec.{leb, ltb}
 use Rattle.chars.specs.declared.Refusal.the-variants.{OutOfRange, BrokenTables}
-use Rattle.book.specs.Book.{mostMoney}
+use Rattle.book_read.specs.Book.{mostMoney}
 use Rattle.settle.specs.declared.BankOr.{BankOr}
 use Rattle.settle.specs.declared.BankOr.the-variants.{Is, Not}
 use Rattle.settle.specs.declared.BatchOr.{BatchOr}

@@ -10,7 +10,7 @@ use lib.Seq.{take-at, drop-at, drop-cons}
 use Rattle.chars.specs.Words.{member}
 use Rattle.queue.specs.Promise.{All, Once}
 use Rattle.queue.proofs.MemoryLaws.{byBool}
-use Rattle.engine.specs.State.{Batch, Place, free, live, Batches}
+use Rattle.model.specs.State.{Batch, Place, free, live, Batches}
 use Rattle.tables.specs.Rows.{rows, word, placeIn, pendingPhase, queuedPhase, batchRows, batchesIn, memoryIn}
 use Rattle.tables.specs.Words.{batchWords, phaseOf, rankOf, placeWords, placesWords}
 use Rattle.tables.proofs.Rowing.{Fits, batch-long, batch-back}

@@ -8,12 +8,12 @@ use lib.Dec.{eqb}
 use Rattle.chars.specs.Words.{member}
 use Rattle.chars.specs.Refusals.{numberOf}
 use Rattle.chars.specs.declared.Refusal.{Refusal}
-use Rattle.fields.specs.declared.Break.{Break}
-use Rattle.request.specs.Request.{requestAt}
-use Rattle.request.specs.declared.Outcome.{Outcome}
-use Rattle.request.specs.declared.Outcome.the-variants.{Settlement, Recall, Refused as Broken}
-use Rattle.request.specs.declared.Reading.{Reading}
-use Rattle.first_break.proofs.ReaderNumbers.{request-numbers}
+use Rattle.text_fields.specs.declared.Break.{Break}
+use Rattle.request_read.specs.whole.Request.{requestAt}
+use Rattle.request_read.specs.declared.whole.Outcome.{Outcome}
+use Rattle.request_read.specs.declared.whole.Outcome.the-variants.{Settlement, Recall, Refused as Broken}
+use Rattle.request_read.specs.declared.whole.Reading.{Reading}
+use Rattle.thm_first_break.proofs.ReaderNumbers.{request-numbers}
 
 -- another number than 06
 abbrev pub Other : Refusal → Type 0

@@ -10,15 +10,15 @@ use lib.Seq.{sets, getD-append-add}
 use borrow.Author.Tests.{ltb-true, ltb-false}
 use Rattle.queue.specs.Promise.{True}
 use Rattle.queue.proofs.MemoryLaws.{byBool}
-use Rattle.engine.specs.State.{Place, free, live, Batch, Batches, State, paymentsAt}
-use Rattle.engine.specs.Calls.{Call, Engine, Result, call, cleared, run}
-use Rattle.engine.specs.Promises.{View, by, view}
-use Rattle.engine.specs.Rules.{Valid, RightMemory}
-use Rattle.engine.proofs.Standing.{Stood}
-use Rattle.engine.proofs.Reading.{readers}
-use Rattle.engine.proofs.Agreement.{Faithful, call-alike, call-faithful, cleared-faithful}
-use Rattle.engine.proofs.Validity.{valid-kept, call-valid}
-use Rattle.engine.proofs.Holding.{call-memory, cleared-memory}
+use Rattle.model.specs.State.{Place, free, live, Batch, Batches, State, paymentsAt}
+use Rattle.model.specs.Calls.{Call, Engine, Result, call, cleared, run}
+use Rattle.model.specs.Promises.{View, by, view}
+use Rattle.model.specs.Rules.{Valid, RightMemory}
+use Rattle.model.proofs.Standing.{Stood}
+use Rattle.model.proofs.Reading.{readers}
+use Rattle.model.proofs.Agreement.{Faithful, call-alike, call-faithful, cleared-faithful}
+use Rattle.model.proofs.Validity.{valid-kept, call-valid}
+use Rattle.model.proofs.Holding.{call-memory, cleared-memory}
 use Rattle.tables.specs.declared.Desk.{Desk}
 use Rattle.tables.specs.Rows.{Tables}
 use Rattle.tables.specs.Words.{batchWords, phaseOf, rankOf, placeWords, placesWords, entriesWords, tablesOf, deskOf}

@@ -8,17 +8,17 @@ use lib.Dec.{ltb}
 use lib.ListN.{length, getD, drop, replicate, length-append, List·getD-eq-default}
 use borrow.Author.Tests.{ltb-true, ltb-false}
 use Rattle.chars.specs.Words.{member}
-use Rattle.book.specs.Book.{each}
-use Rattle.book.specs.Accounts.{Stream, streamRow}
-use Rattle.closing.specs.Closing.{streamOf}
+use Rattle.book_read.specs.Book.{each}
+use Rattle.book_read.specs.Accounts.{Stream, streamRow}
+use Rattle.book_write.specs.Closing.{streamOf}
 use Rattle.queue.proofs.MemoryLaws.{byBool}
-use Rattle.book.specs.Range.{Each}
-use Rattle.engine.specs.State.{Message, Batch, Place, free, Batches, Entry, paymentsOf}
-use Rattle.engine.specs.Calls.{Engine}
-use Rattle.engine.specs.Rules.{RightMessage, RightBatch, Valid, RightMemory}
-use Rattle.engine.proofs.Counting.{times, times-once, times-all, no-member}
-use Rattle.engine.proofs.Standing.{Standing, vacant, building, awaits, stands, Stood, at-most-once}
-use Rattle.engine.proofs.Validity.{valid-kept, known-in}
+use Rattle.book_read.specs.Range.{Each}
+use Rattle.model.specs.State.{Message, Batch, Place, free, Batches, Entry, paymentsOf}
+use Rattle.model.specs.Calls.{Engine}
+use Rattle.model.specs.Rules.{RightMessage, RightBatch, Valid, RightMemory}
+use Rattle.model.proofs.Counting.{times, times-once, times-all, no-member}
+use Rattle.model.proofs.Standing.{Standing, vacant, building, awaits, stands, Stood, at-most-once}
+use Rattle.model.proofs.Validity.{valid-kept, known-in}
 use Rattle.tables.specs.Rows.{rows, batchesIn, memoryIn, entriesIn, stateIn, engineIn}
 use Rattle.tables.specs.Words.{filled, placesWords, entriesWords, tablesOf, deskOf}
 use Rattle.tables.specs.Lent.{Long}

@@ -17,13 +17,13 @@ use lib.Seq.{drop-cons, take-all}
 use Rattle.chars.specs.Words.{Says}
 use Rattle.chars.specs.Chars.{isCode}
 use Rattle.codes.specs.Codes.{shortText, unpacked}
-use Rattle.book.specs.Accounts.{Stream}
-use Rattle.book.specs.Book.{each}
-use Rattle.book.proofs.Filling.{each-length}
-use Rattle.closing.specs.Closing.{streamOf}
+use Rattle.book_read.specs.Accounts.{Stream}
+use Rattle.book_read.specs.Book.{each}
+use Rattle.book_read.proofs.Filling.{each-length}
+use Rattle.book_write.specs.Closing.{streamOf}
 use Rattle.settle.specs.Rules.{sum}
-use Rattle.book.specs.Range.{Each, Rising, allAre, isShort, streamCodes}
-use Rattle.engine.specs.Rules.{RightHouse}
+use Rattle.book_read.specs.Range.{Each, Rising, allAre, isShort, streamCodes}
+use Rattle.model.specs.Rules.{RightHouse}
 use Rattle.tables.specs.declared.Desk.{Desk}
 use Rattle.tables.specs.Rows.{streamsOn}
 use Rattle.tables.specs.House.{houseOn, AllShort, AllZero, Limits, Flagged, Lengths, RightStreams, RightBanks, ZeroPast, RightMoney}

@@ -3,12 +3,12 @@ use mathlib.Core.Path.{_≡_, refl, sym, ap, subst, _∙_}
 use mathlib.Core.Bool.{Bool, true, false}
 use mathlib.Core.List.{List, [], _∷_, map}
 use Rattle.chars.specs.Words.{Says}
-use Rattle.book.specs.Range.{Each}
-use Rattle.engine.specs.Calls.{Call, Engine, call, cleared, run}
-use Rattle.engine.specs.Rules.{Valid, RightMemory}
-use Rattle.engine.proofs.Reading.{readers}
-use Rattle.engine.proofs.Validity.{call-valid}
-use Rattle.engine.proofs.Holding.{call-memory, cleared-memory}
+use Rattle.book_read.specs.Range.{Each}
+use Rattle.model.specs.Calls.{Call, Engine, call, cleared, run}
+use Rattle.model.specs.Rules.{Valid, RightMemory}
+use Rattle.model.proofs.Reading.{readers}
+use Rattle.model.proofs.Validity.{call-valid}
+use Rattle.model.proofs.Holding.{call-memory, cleared-memory}
 use Rattle.tables.specs.declared.Desk.{Desk}
 use Rattle.tables.specs.Rows.{Tables, engineIn}
 use Rattle.tables.specs.Words.{tablesOf, deskOf}

@@ -9,8 +9,8 @@ use lib.ListN.{length, getD, set, take, drop, length-drop, length-map}
 use lib.Seq.{length-take-le}
 use Rattle.codes.specs.declared.Code.{Code}
 use Rattle.dates.specs.Dates.{isRemembered}
-use Rattle.engine.specs.State.{Found, at, nowhere}
-use Rattle.engine.specs.Memory.{holds, isUsed, isVacant, vacant}
+use Rattle.model.specs.State.{Found, at, nowhere}
+use Rattle.model.specs.Memory.{holds, isUsed, isVacant, vacant}
 use Rattle.tables.specs.Rows.{rows, entryIn, entriesIn}
 use Rattle.tables.proofs.RowLaws.{rows-cut, rows-end, seekRows, seek-end, seek-here, seek-on}
 

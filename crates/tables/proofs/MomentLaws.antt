@@ -16,17 +16,17 @@ use Rattle.clock.proofs.Laws.{clock-is, clock-not}
 use Rattle.dates.specs.Dates.{dayOf}
 use Rattle.dates.specs.declared.Day.{Day as Date}
 use Rattle.dates.specs.declared.Day.the-variants.{Number, Untrue}
-use Rattle.book.specs.Accounts.{Bank}
-use Rattle.book.proofs.Filling.{each-length}
-use Rattle.closing.specs.Closing.{bookBytes, blocksFor, bankOf, streamOf}
-use Rattle.reopening.proofs.Whole.{stream-long, banks-long}
-use Rattle.engine.specs.declared.Action.{Action}
-use Rattle.engine.specs.declared.Action.the-variants.{ClosingBook}
-use Rattle.engine.specs.declared.Answer.the-variants.{Done, Refused}
-use Rattle.engine.specs.Days.{rightDate, banksOf, closingText}
-use Rattle.engine.specs.Kinds.{isOpening}
-use Rattle.engine.specs.Calls.{rightClock, rightDay, judge}
-use Rattle.engine.specs.State.{withClock}
+use Rattle.book_read.specs.Accounts.{Bank}
+use Rattle.book_read.proofs.Filling.{each-length}
+use Rattle.book_write.specs.Closing.{bookBytes, blocksFor, bankOf, streamOf}
+use Rattle.thm_books_back.proofs.Whole.{stream-long, banks-long}
+use Rattle.model.specs.declared.Action.{Action}
+use Rattle.model.specs.declared.Action.the-variants.{ClosingBook}
+use Rattle.model.specs.declared.Answer.the-variants.{Done, Refused}
+use Rattle.model.specs.Days.{rightDate, banksOf, closingText}
+use Rattle.model.specs.Kinds.{isOpening}
+use Rattle.model.specs.Calls.{rightClock, rightDay, judge}
+use Rattle.model.specs.State.{withClock}
 use Rattle.tables.specs.declared.Desk.{Desk}
 use Rattle.tables.specs.Rows.{Tables, stateIn, streamsOn}
 use Rattle.tables.specs.Moment.{dayOn, movedTo, Needs, Roomy, Judged}

@@ -10,15 +10,15 @@ use lib.Seq.{sets, sets-eq, take-append-seam, drop-append-seam}
 use borrow.Author.Tests.{leb-true}
 use Rattle.chars.specs.Words.{Says}
 use Rattle.chars.specs.declared.Refusal.the-variants.{WrongMoment, ShortBuffer}
-use Rattle.engine.specs.State.{State}
-use Rattle.engine.specs.declared.Answer.{Answer}
-use Rattle.engine.specs.declared.Answer.the-variants.{Done, Refused}
-use Rattle.engine.specs.Calls.{Call, Engine, Result, rightClock, rightDay, roomNeeded, rowsNeeded, judge, call}
-use Rattle.engine.specs.Rules.{Valid}
-use Rattle.engine.proofs.Reading.{readers}
-use Rattle.engine.proofs.Validity.{valid-kept}
-use Rattle.engine.proofs.Output.{call-out}
-use Rattle.engine.proofs.Tries.{call-tries}
+use Rattle.model.specs.State.{State}
+use Rattle.model.specs.declared.Answer.{Answer}
+use Rattle.model.specs.declared.Answer.the-variants.{Done, Refused}
+use Rattle.model.specs.Calls.{Call, Engine, Result, rightClock, rightDay, roomNeeded, rowsNeeded, judge, call}
+use Rattle.model.specs.Rules.{Valid}
+use Rattle.model.proofs.Reading.{readers}
+use Rattle.model.proofs.Validity.{valid-kept}
+use Rattle.model.proofs.Output.{call-out}
+use Rattle.model.proofs.Tries.{call-tries}
 use Rattle.tables.specs.Rows.{engineIn}
 use Rattle.tables.specs.Lent.{Right, Lent, Asked, callOf, Left, callLent, Called}
 use Rattle.tables.proofs.Kept.{on-right}

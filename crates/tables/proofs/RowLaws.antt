@@ -12,7 +12,7 @@ use lib.Dec.{eqb}
 use lib.ListN.{length, getD, set, take, drop, replicate, length-drop, length-replicate}
 use lib.Seq.{take-at, drop-at, drop-drop, take-add, length-take-le, drop-length, getD-take, getD-drop}
 use Rattle.codes.specs.declared.Code.{Code}
-use Rattle.engine.specs.State.{Found, at, nowhere, seekFrom, isFree, hasBin}
+use Rattle.model.specs.State.{Found, at, nowhere, seekFrom, isFree, hasBin}
 use Rattle.tables.specs.Rows.{rows, batchIn, batchRows, placeIn}
 
 module _ (w : ℕ) where

@@ -7,13 +7,13 @@ use native.Mathlib.Omega.{arith}
 use lib.ListN.{length, getD, drop, replicate, length-append, length-replicate}
 use lib.Seq.{getD-drop, drop-drop, drop-at}
 use Rattle.codes.specs.Codes.{shortText, unpacked}
-use Rattle.values.specs.Letters.{isStatus}
-use Rattle.terms.specs.declared.Activation.{Activation}
-use Rattle.terms.specs.declared.Activation.the-variants.{AtOnce, Minute}
+use Rattle.text_values.specs.Letters.{isStatus}
+use Rattle.request_read.specs.declared.terms.Activation.{Activation}
+use Rattle.request_read.specs.declared.terms.Activation.the-variants.{AtOnce, Minute}
 use Rattle.settle.specs.Payments.{Payment, credit, debit, payment, paymentAt, paymentsFrom}
-use Rattle.book.specs.Range.{Each}
-use Rattle.engine.specs.State.{Message, Batch, paymentsOf}
-use Rattle.engine.specs.Rules.{Lettered, areLetters}
+use Rattle.book_read.specs.Range.{Each}
+use Rattle.model.specs.State.{Message, Batch, paymentsOf}
+use Rattle.model.specs.Rules.{Lettered, areLetters}
 use Rattle.tables.specs.Rows.{word, activationIn, messageIn, messagesIn, batchIn}
 use Rattle.tables.specs.Words.{filled, activationWord, paymentWords, paymentsWords, messageWords, messagesWords, batchWords}
 

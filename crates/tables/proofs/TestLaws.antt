@@ -9,7 +9,7 @@ use borrow.Author.Tests.{not-true, not-false}
 use lib.ListN.{length, getD, drop, drop-of-length-le}
 use lib.Seq.{drop-cons}
 use Rattle.chars.specs.Words.{Says}
-use Rattle.book.specs.Range.{Each, Rising}
+use Rattle.book_read.specs.Range.{Each, Rising}
 
 -- each follows from the other
 pub record Both (P Q : Type 0) : Type 0 where

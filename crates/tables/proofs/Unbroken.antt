@@ -7,31 +7,31 @@ use lib.Dec.{eqb, leb}
 use Rattle.chars.specs.Words.{bytes, member, Says}
 use Rattle.chars.specs.declared.Refusal.the-variants.{BrokenTables, WrongMoment}
 use Rattle.codes.specs.declared.Code.{Code}
-use Rattle.values.proofs.Alike.{by-cond}
-use Rattle.payments.specs.declared.Payment.{Payment as Line}
-use Rattle.request.specs.Request.{requestAt}
-use Rattle.request.specs.declared.Outcome.{Outcome as Read}
-use Rattle.request.specs.declared.Outcome.the-variants.{Settlement, Recall, Refused as Unread}
-use Rattle.request.specs.declared.Reading.{Reading}
-use Rattle.book.specs.Block.{Rule as BookRule, firstBroken as firstFault}
-use Rattle.book.specs.Book.{mostMoney, blocksIn, streamRules, bankRules, bankBlocks, bookRules, bookCheck}
-use Rattle.book.specs.Accounts.{dayIn}
-use Rattle.book.specs.declared.Answer.{Answer as Check}
-use Rattle.book.specs.declared.Answer.the-variants.{Sound, Fault}
-use Rattle.book.specs.Range.{Each}
-use Rattle.engine.specs.declared.Answer.{Answer}
-use Rattle.engine.specs.declared.Answer.the-variants.{Done, Refused}
-use Rattle.engine.specs.State.{Found, at, nowhere, onFound, seek, Day, Batch, Place, free, live, Batches, Known, State, isFree, onLive, placeAt, paymentsAt}
-use Rattle.engine.specs.Memory.{isUsed}
-use Rattle.engine.specs.Messages.{SubType, is131, is133, bySubType, Acted, Rule, firstBroken, streamPlace, administrator, bankPlace, assembling, waiting, today, reference, bin, streamCode, lineRules, messageRules, isComplete, isEven, completed, onText, onSender, repeated, fits, withReference, onBin, onRules, admit, isKnown, recalling, message}
-use Rattle.engine.specs.Kinds.{Kind, opens, steps, gives, kindOf, Own, receives, changesLimit, changesStatus, nothing, ownOf}
-use Rattle.engine.specs.Changes.{subLimit, hasDebit, status}
-use Rattle.engine.specs.Days.{isLater, checked, openingAnswer}
-use Rattle.engine.specs.Calls.{Call, Engine, rightClock, rightDay, roomNeeded, rowsNeeded, judge, begun, act, call}
-use Rattle.engine.specs.Answered.{acted}
-use Rattle.engine.proofs.Settling.{each-append}
-use Rattle.engine.specs.Promises.{numberedBy}
-use Rattle.engine.proofs.Promises.{call-number}
+use Rattle.text_values.proofs.Alike.{by-cond}
+use Rattle.request_read.specs.declared.payments.Payment.{Payment as Line}
+use Rattle.request_read.specs.whole.Request.{requestAt}
+use Rattle.request_read.specs.declared.whole.Outcome.{Outcome as Read}
+use Rattle.request_read.specs.declared.whole.Outcome.the-variants.{Settlement, Recall, Refused as Unread}
+use Rattle.request_read.specs.declared.whole.Reading.{Reading}
+use Rattle.book_read.specs.Block.{Rule as BookRule, firstBroken as firstFault}
+use Rattle.book_read.specs.Book.{mostMoney, blocksIn, streamRules, bankRules, bankBlocks, bookRules, bookCheck}
+use Rattle.book_read.specs.Accounts.{dayIn}
+use Rattle.book_read.specs.declared.Answer.{Answer as Check}
+use Rattle.book_read.specs.declared.Answer.the-variants.{Sound, Fault}
+use Rattle.book_read.specs.Range.{Each}
+use Rattle.model.specs.declared.Answer.{Answer}
+use Rattle.model.specs.declared.Answer.the-variants.{Done, Refused}
+use Rattle.model.specs.State.{Found, at, nowhere, onFound, seek, Day, Batch, Place, free, live, Batches, Known, State, isFree, onLive, placeAt, paymentsAt}
+use Rattle.model.specs.Memory.{isUsed}
+use Rattle.model.specs.Messages.{SubType, is131, is133, bySubType, Acted, Rule, firstBroken, streamPlace, administrator, bankPlace, assembling, waiting, today, reference, bin, streamCode, lineRules, messageRules, isComplete, isEven, completed, onText, onSender, repeated, fits, withReference, onBin, onRules, admit, isKnown, recalling, message}
+use Rattle.model.specs.Kinds.{Kind, opens, steps, gives, kindOf, Own, receives, changesLimit, changesStatus, nothing, ownOf}
+use Rattle.model.specs.Changes.{subLimit, hasDebit, status}
+use Rattle.model.specs.Days.{isLater, checked, openingAnswer}
+use Rattle.model.specs.Calls.{Call, Engine, rightClock, rightDay, roomNeeded, rowsNeeded, judge, begun, act, call}
+use Rattle.model.specs.Answered.{acted}
+use Rattle.model.proofs.Settling.{each-append}
+use Rattle.model.specs.Promises.{numberedBy}
+use Rattle.model.proofs.Promises.{call-number}
 use Rattle.tables.specs.Rows.{engineIn}
 use Rattle.tables.specs.Lent.{Right, Lent, Asked, callOf, Left, broken, callLent, Called}
 use Rattle.tables.proofs.Breaks.{Other, OtherOutcome, OtherReading, request-other}

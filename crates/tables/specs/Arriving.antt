@@ -1,6 +1,6 @@
 -- A batch with one message more.
 use mathlib.Core.List.{[], _∷_, _++_}
-use Rattle.engine.specs.State.{Message, Batch}
+use Rattle.model.specs.State.{Message, Batch}
 
 -- messages stand in the order of their arrival
 unfoldable pub withOne : Batch → Message → Batch

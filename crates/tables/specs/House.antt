@@ -4,11 +4,11 @@ use mathlib.Core.Path.{_≡_}
 use mathlib.Core.Bool.{true}
 use mathlib.Core.List.{List}
 use lib.ListN.{length, take, drop}
-use Rattle.book.specs.Book.{mostMoney}
-use Rattle.book.specs.Accounts.{Stream}
+use Rattle.book_read.specs.Book.{mostMoney}
+use Rattle.book_read.specs.Accounts.{Stream}
 use Rattle.settle.specs.Rules.{sum}
-use Rattle.book.specs.Range.{Each, Rising, isShort, streamCodes}
-use Rattle.engine.specs.State.{House}
+use Rattle.book_read.specs.Range.{Each, Rising, isShort, streamCodes}
+use Rattle.model.specs.State.{House}
 use Rattle.tables.specs.declared.Desk.{Desk}
 use Rattle.tables.specs.Rows.{streamsOn}
 

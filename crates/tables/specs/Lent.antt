@@ -8,11 +8,11 @@ use lib.Seq.{sets}
 use Rattle.chars.specs.Words.{Says}
 use Rattle.chars.specs.declared.Refusal.the-variants.{BrokenTables}
 use Rattle.settle.specs.Payments.{tableLength}
-use Rattle.engine.specs.declared.Answer.{Answer}
-use Rattle.engine.specs.declared.Answer.the-variants.{Done, Refused}
-pub use Rattle.engine.specs.Calls.{Asked}
-use Rattle.engine.specs.Calls.{Call, Result, call, cleared}
-use Rattle.engine.specs.Rules.{Valid, RightMemory}
+use Rattle.model.specs.declared.Answer.{Answer}
+use Rattle.model.specs.declared.Answer.the-variants.{Done, Refused}
+pub use Rattle.model.specs.Calls.{Asked}
+use Rattle.model.specs.Calls.{Call, Result, call, cleared}
+use Rattle.model.specs.Rules.{Valid, RightMemory}
 use Rattle.tables.specs.declared.Desk.{Desk}
 use Rattle.tables.specs.Rows.{Tables, engineIn}
 use Rattle.tables.specs.Words.{tablesOf, deskOf}

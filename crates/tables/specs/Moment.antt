@@ -4,10 +4,10 @@ use mathlib.Core.Path.{_≡_}
 use mathlib.Core.Bool.{Bool, _&&_}
 use mathlib.Core.List.{List}
 use lib.Dec.{leb}
-use Rattle.engine.specs.declared.Action.{Action}
-use Rattle.engine.specs.declared.Answer.{Answer}
-use Rattle.engine.specs.State.{Day}
-use Rattle.engine.specs.Calls.{Call, roomNeeded, rowsNeeded, judge}
+use Rattle.model.specs.declared.Action.{Action}
+use Rattle.model.specs.declared.Answer.{Answer}
+use Rattle.model.specs.State.{Day}
+use Rattle.model.specs.Calls.{Call, roomNeeded, rowsNeeded, judge}
 use Rattle.tables.specs.declared.Desk.{Desk}
 use Rattle.tables.specs.Rows.{Tables, stateIn}
 

@@ -5,15 +5,15 @@ use mathlib.Core.List.{List, [], _∷_, map}
 use lib.Dec.{eqb}
 use lib.ListN.{getD, take, drop}
 use Rattle.codes.specs.declared.Code.{Code}
-use Rattle.terms.specs.declared.Activation.{Activation}
-use Rattle.terms.specs.declared.Activation.the-variants.{AtOnce, Minute}
-use Rattle.book.specs.Book.{each}
-use Rattle.book.specs.Accounts.{Stream}
-use Rattle.closing.specs.Closing.{streamOf}
+use Rattle.request_read.specs.declared.terms.Activation.{Activation}
+use Rattle.request_read.specs.declared.terms.Activation.the-variants.{AtOnce, Minute}
+use Rattle.book_read.specs.Book.{each}
+use Rattle.book_read.specs.Accounts.{Stream}
+use Rattle.book_write.specs.Closing.{streamOf}
 use Rattle.settle.specs.Payments.{paymentsFrom}
 use Rattle.settle.specs.Settlement.{accounts}
-use Rattle.engine.specs.State.{onFound, seek, Message, Batch, Place, free, live, Batches, Entry, mostReferences, mostBins, State}
-use Rattle.engine.specs.Calls.{Engine}
+use Rattle.model.specs.State.{onFound, seek, Message, Batch, Place, free, live, Batches, Entry, mostReferences, mostBins, State}
+use Rattle.model.specs.Calls.{Engine}
 use Rattle.tables.specs.declared.Desk.{Desk}
 
 -- a flat list as n rows of w words

@@ -2,7 +2,7 @@
 use Prim.Native.Nat.{ℕ}
 use mathlib.Core.List.{List, [], _∷_}
 use lib.ListN.{length}
-use Rattle.engine.specs.Calls.{Call, Result}
+use Rattle.model.specs.Calls.{Call, Result}
 use Rattle.tables.specs.declared.Desk.{Desk}
 use Rattle.tables.specs.Rows.{Tables}
 use Rattle.tables.specs.Words.{tablesOf, deskOf}

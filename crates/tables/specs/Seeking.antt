@@ -1,5 +1,5 @@
 -- A place that the code looked for, as the model says it.
-use Rattle.engine.specs.State.{Found, at, nowhere}
+use Rattle.model.specs.State.{Found, at, nowhere}
 use Rattle.tables.specs.declared.Sought.{Sought}
 use Rattle.tables.specs.declared.Sought.the-variants.{Here, Nowhere}
 

@@ -6,12 +6,12 @@ use lib.Dec.{eqb}
 use lib.ListN.{length, getD, replicate}
 use Rattle.chars.specs.Words.{member}
 use Rattle.codes.specs.declared.Code.{Code}
-use Rattle.terms.specs.declared.Activation.{Activation}
-use Rattle.terms.specs.declared.Activation.the-variants.{AtOnce, Minute}
-use Rattle.book.specs.Accounts.{streamRow}
+use Rattle.request_read.specs.declared.terms.Activation.{Activation}
+use Rattle.request_read.specs.declared.terms.Activation.the-variants.{AtOnce, Minute}
+use Rattle.book_read.specs.Accounts.{streamRow}
 use Rattle.settle.specs.Payments.{Payment, credit, debit}
-use Rattle.engine.specs.State.{onFound, seek, Message, Batch, Place, free, live, Batches, Entry, State, paymentsOf}
-use Rattle.engine.specs.Calls.{Engine}
+use Rattle.model.specs.State.{onFound, seek, Message, Batch, Place, free, live, Batches, Entry, State, paymentsOf}
+use Rattle.model.specs.Calls.{Engine}
 use Rattle.tables.specs.declared.Desk.{Desk}
 use Rattle.tables.specs.Rows.{Tables, pendingPhase, queuedPhase}
 

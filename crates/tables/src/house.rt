@@ -7,11 +7,11 @@ ghost use Prim.Native.Nat.{ℕ, _+_, _*_, _^_, _≤_, _<_};
 ghost use lib.Dec.{eqb};
 ghost use lib.ListN.{length, take, drop};
 ghost use Rattle.chars.specs.Words.{Says};
-ghost use Rattle.book.specs.Book.{each};
-ghost use Rattle.closing.specs.Closing.{streamOf};
+ghost use Rattle.book_read.specs.Book.{each};
+ghost use Rattle.book_write.specs.Closing.{streamOf};
 ghost use Rattle.settle.specs.Rules.{sum};
-ghost use Rattle.book.specs.Range.{Each, isShort, Rising, streamCodes};
-ghost use Rattle.engine.specs.Rules.{RightHouse};
+ghost use Rattle.book_read.specs.Range.{Each, isShort, Rising, streamCodes};
+ghost use Rattle.model.specs.Rules.{RightHouse};
 ghost use Rattle.tables.specs.House.{houseOn, AllShort, AllZero, Limits, Flagged, Lengths, RightStreams, RightBanks, ZeroPast, RightMoney};
 
 // The number after the last of four characters.

@@ -3,7 +3,7 @@ pub mod house;
 pub mod moment;
 pub mod places;
 
-use engine::Phase;
+use model::Phase;
 
 // The day's scalars, by value. Of the streams the first n are in use: code and administrator of each.
 pub struct Desk {

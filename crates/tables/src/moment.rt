@@ -1,20 +1,20 @@
 // 05 and 07: the moment and the room of a call, from the day's scalars by value.
 use crate::Desk;
-use book::Book;
+use book_read::Book;
 use chars::Refusal;
 use clock::Clock;
-use engine::Action;
-use engine::Answer;
-use engine::Phase;
-use response::Settlement;
+use model::Action;
+use model::Answer;
+use model::Phase;
+use response_write::Settlement;
 use settle::Batch;
 ghost use mathlib.Core.Path.{_≡_};
 ghost use mathlib.Core.Bool.{_&&_};
 ghost use Prim.Native.Nat.{ℕ, _≤_};
 ghost use Rattle.dates.specs.Dates.{dayOf};
-ghost use Rattle.engine.specs.Days.{rightDate};
-ghost use Rattle.engine.specs.Kinds.{isOpening};
-ghost use Rattle.engine.specs.Calls.{isOpen, isClosed, rightClock, rightDay};
+ghost use Rattle.model.specs.Days.{rightDate};
+ghost use Rattle.model.specs.Kinds.{isOpening};
+ghost use Rattle.model.specs.Calls.{isOpen, isClosed, rightClock, rightDay};
 ghost use Rattle.tables.specs.Moment.{dayOn, movedTo, Needs, Roomy, Judged};
 
 // The most texts of a call: one for each live message, and the 134 of a recall.

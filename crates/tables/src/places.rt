@@ -6,7 +6,7 @@ ghost use mathlib.Core.Path.{_≡_};
 ghost use mathlib.Core.List.{map};
 ghost use Prim.Native.Nat.{ℕ, _+_, _*_, _≤_, _<_};
 ghost use lib.ListN.{length, set, take, drop, replicate};
-ghost use Rattle.engine.specs.State.{seek, isFree, hasBin};
+ghost use Rattle.model.specs.State.{seek, isFree, hasBin};
 ghost use Rattle.tables.specs.Rows.{placeIn, batchRows};
 ghost use Rattle.tables.specs.Seeking.{foundBy};
 

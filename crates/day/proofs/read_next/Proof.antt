@@ -6,7 +6,7 @@ use Rattle.day.proofs.read_next.Statement.{statement}
 use Rattle.day.proofs.read_next.Tie as tie
 use Rattle.day.proofs.no_line.Reads as no-line-reads
 use Rattle.day.proofs.read_deed.Reads as read-deed-reads
-use Rattle.files.proofs.lines.take.Reads as take-reads
+use Rattle.cli_files.proofs.lines.take.Reads as take-reads
 
 take-requires : tie.Need-take-requires
 take-requires c κs = search needs

@@ -4,7 +4,7 @@ use Prim.Native.Nat.{_-_}
 use Rattle.day.proofs.run.Statement.{statement}
 use Rattle.day.proofs.run.Tie as tie
 use Rattle.day.proofs.do_next.Reads as do-next-reads
-use Rattle.files.proofs.lines.nothing_ahead.Reads as nothing-ahead-reads
+use Rattle.cli_files.proofs.lines.nothing_ahead.Reads as nothing-ahead-reads
 use Rattle.io.proofs.large_buffer.Reads as large-buffer-reads
 
 abbrev Inv-loop : tie.InvT-loop

@@ -7,8 +7,8 @@ use Rattle.day.proofs.tell.Tie as tie
 use Rattle.day.proofs.not_a_call.Reads as not-a-call-reads
 use Rattle.day.proofs.tell_call.Reads as tell-call-reads
 use Rattle.day.proofs.tell_clear.Reads as tell-clear-reads
-use Rattle.showing.proofs.show.Reads as show-reads
-use Rattle.showing.proofs.tell_why.Reads as tell-why-reads
+use Rattle.cli_tables.proofs.show.Reads as show-reads
+use Rattle.cli_tables.proofs.tell_why.Reads as tell-why-reads
 
 enum-told : tie.Need-enum-told
 enum-told c = search needs

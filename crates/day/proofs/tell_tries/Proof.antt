@@ -4,8 +4,8 @@ use borrow.Author.Needs.{needs}
 use Prim.Native.Nat.{_-_}
 use Rattle.day.proofs.tell_tries.Statement.{statement}
 use Rattle.day.proofs.tell_tries.Tie as tie
-use Rattle.printing.proofs.field.Reads as field-reads
-use Rattle.printing.proofs.text.Reads as text-reads
+use Rattle.cli_print.proofs.field.Reads as field-reads
+use Rattle.cli_print.proofs.text.Reads as text-reads
 
 abbrev Inv-loop : tie.InvT-loop
 Inv-loop tries n i₀ t5 i = Unit {0}

@@ -1,9 +1,9 @@
 use borrow.Author.Needs.{needs}
 use Prim.Native.Nat.{_-_, _≤_}
 use Rattle.tables.proofs.TestLaws.{Both}
-use Rattle.book.specs.Book.{each}
-use Rattle.closing.specs.Closing.{streamOf}
-use Rattle.book.specs.Range.{Each}
+use Rattle.book_read.specs.Book.{each}
+use Rattle.book_write.specs.Closing.{streamOf}
+use Rattle.book_read.specs.Range.{Each}
 use Rattle.tables.proofs.HouseLaws.{Sent, streamsFrom, sent-start, sent-end, sent-low, sent-high, sent-on}
 use Rattle.tables.proofs.house.administrators_right.Statement.{statement}
 use Rattle.tables.proofs.house.administrators_right.Tie as tie

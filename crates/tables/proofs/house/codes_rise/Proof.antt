@@ -1,7 +1,7 @@
 use borrow.Author.Needs.{needs}
 use Prim.Native.Nat.{_-_, _≤_}
 use lib.ListN.{length, drop}
-use Rattle.book.specs.Range.{Rising}
+use Rattle.book_read.specs.Range.{Rising}
 use Rattle.tables.proofs.TestLaws.{Both, both-same}
 use Rattle.tables.proofs.HouseLaws.{rise-end, rise-not, rise-on}
 use Rattle.tables.proofs.house.codes_rise.Statement.{statement}

@@ -1,9 +1,9 @@
 use borrow.Author.Needs.{needs}
 use Prim.Native.Nat.{_-_, _≤_}
 use Rattle.tables.proofs.TestLaws.{Both}
-use Rattle.book.specs.Book.{each}
-use Rattle.closing.specs.Closing.{streamOf}
-use Rattle.book.specs.Range.{Each}
+use Rattle.book_read.specs.Book.{each}
+use Rattle.book_write.specs.Closing.{streamOf}
+use Rattle.book_read.specs.Range.{Each}
 use Rattle.tables.proofs.HouseLaws.{Named, streamsFrom, named-start, named-end, named-not, named-on}
 use Rattle.tables.proofs.house.stream_codes_right.Statement.{statement}
 use Rattle.tables.proofs.house.stream_codes_right.Tie as tie

@@ -1,9 +1,9 @@
 use borrow.Author.Needs.{needs}
 use Prim.Native.Nat.{_-_, _≤_}
 use Rattle.tables.proofs.TestLaws.{Both}
-use Rattle.book.specs.Book.{each}
-use Rattle.closing.specs.Closing.{streamOf}
-use Rattle.book.specs.Range.{Rising, streamCodes}
+use Rattle.book_read.specs.Book.{each}
+use Rattle.book_write.specs.Closing.{streamOf}
+use Rattle.book_read.specs.Range.{Rising, streamCodes}
 use Rattle.tables.proofs.HouseLaws.{StreamsRise, climb-start, climb-end, climb-not, climb-on}
 use Rattle.tables.proofs.house.streams_rise.Statement.{statement}
 use Rattle.tables.proofs.house.streams_rise.Tie as tie

@@ -1,7 +1,7 @@
 use Rattle.tables.proofs.RowLaws.{seekRows, bins-end, bins-here, bins-on}
 use Rattle.tables.specs.Rows.{placeIn, batchRows}
 use mathlib.Core.List.{map}
-use Rattle.engine.specs.State.{seek, hasBin}
+use Rattle.model.specs.State.{seek, hasBin}
 use Prim.Native.Nat.{_-_, _≤_}
 use mathlib.Core.Path.{_≡_}
 use borrow.Author.Needs.{needs}

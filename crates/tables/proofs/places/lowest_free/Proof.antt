@@ -2,7 +2,7 @@ use borrow.Author.Needs.{needs}
 use mathlib.Core.Path.{_≡_}
 use mathlib.Core.List.{map}
 use Prim.Native.Nat.{_-_, _≤_}
-use Rattle.engine.specs.State.{seek, isFree}
+use Rattle.model.specs.State.{seek, isFree}
 use Rattle.tables.specs.Rows.{placeIn, batchRows}
 use Rattle.tables.proofs.RowLaws.{seekRows, free-end, free-here, free-on}
 use Rattle.tables.proofs.places.lowest_free.Statement.{statement}

@@ -1,0 +1,5 @@
+pub mod queue_test
+pub mod action
+pub mod premises
+pub mod step
+pub mod entry

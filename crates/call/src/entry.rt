@@ -1,0 +1,165 @@
+// The engine's calls, all but clearing: one function, with an action.
+use crate::step::Told;
+use chars::Refusal;
+use model::Action;
+use model::Answer;
+use tables::Desk;
+ghost use mathlib.Core.Path.{_≡_};
+ghost use Prim.Native.Nat.{ℕ};
+ghost use lib.ListN.{length};
+ghost use Rattle.model.specs.declared.Answer.the-variants.{Refused};
+ghost use Rattle.model.specs.Kinds.{kindOf};
+ghost use Rattle.model.specs.Calls.{performed};
+ghost use Rattle.tables.specs.Moment.{callFor, lentWith};
+ghost use Rattle.tables.specs.Rows.{engineIn};
+ghost use Rattle.tables.specs.Lent.{leftBy, Called};
+ghost use Rattle.call.specs.step.Stepping.{lentAs, leftAs};
+ghost use Rattle.call.specs.entry.Calls.{kindBy, Performable};
+
+// What an action does: it opens a day, takes the steps (a) to (d), or gives a book of a date.
+pub enum Kind {
+    Opens,
+    Steps,
+    Gives(u64),
+}
+
+fn kind_of(action: Action) -> Kind
+    ensures { λ r. ⌜ kindBy r ≡ kindOf action ⌝ }
+{
+    match action {
+        Action::Opening => Kind::Opens,
+        Action::Message(_) => Kind::Steps,
+        Action::SubLimit(_, _) => Kind::Steps,
+        Action::Status(_, _, _) => Kind::Steps,
+        Action::Tick => Kind::Steps,
+        Action::Close => Kind::Steps,
+        Action::ClosingBook(date) => Kind::Gives(date),
+    }
+}
+
+// A refusal that changes nothing.
+fn refused(refusal: Refusal, kept: Desk) -> Told
+    ensures { λ r. ⌜ r ≡ record { answer = Refused refusal; written = 0; tried = 0; desk = kept } ⌝ }
+{
+    Told {
+        answer: Answer::Refused(refusal),
+        written: 0,
+        tried: 0,
+        desk: kept,
+    }
+}
+
+// A call on tables that keep the rules, at its moment and with its room.
+fn perform(
+    quick: bool,
+    clock: u64,
+    action: Action,
+    input: &[u8],
+    desk: Desk,
+    codes: &mut [u64],
+    flags: &mut [u64],
+    balances: &mut [u64],
+    limits: &mut [u64],
+    batches: &mut [u64],
+    references: &mut [u64],
+    bins: &mut [u64],
+    out: &mut [u8],
+    tries: &mut [u64],
+) -> Told
+    requires { ⌜ Performable desk (lentWith (now codes) (now flags) (now balances) (now limits) (now batches) (now references) (now bins)) clock action (now out) (now tries) ⌝ }
+    ensures { λ y. ⌜ leftAs (y .answer) (y .written) (y .tried) (y .desk) (lentWith (now (codes .exit)) (now (flags .exit)) (now (balances .exit)) (now (limits .exit)) (now (batches .exit)) (now (references .exit)) (now (bins .exit))) (now (out .exit)) (now (tries .exit)) ≡ leftBy (lentAs desk (lentWith (now (codes .entry)) (now (flags .entry)) (now (balances .entry)) (now (limits .entry)) (now (batches .entry)) (now (references .entry)) (now (bins .entry))) (now (out .entry)) (now (tries .entry))) (performed (kindOf action) (engineIn desk (lentWith (now (codes .entry)) (now (flags .entry)) (now (balances .entry)) (now (limits .entry)) (now (batches .entry)) (now (references .entry)) (now (bins .entry)))) (callFor quick clock action (now (input .entry)) (length (now (out .entry))) (length (now (tries .entry))))) ⌝ }
+{
+    let kind = kind_of(action);
+    match kind {
+        Kind::Opens => {
+            let begun = call_day::open_day(desk, clock, codes, flags, balances, limits, input);
+            let answer = begun.answer;
+            let opened = begun.desk;
+            Told {
+                answer,
+                written: 0,
+                tried: 0,
+                desk: opened,
+            }
+        }
+        Kind::Steps => crate::step::step(
+            quick,
+            clock,
+            action,
+            input,
+            desk,
+            codes,
+            flags,
+            balances,
+            limits,
+            batches,
+            references,
+            bins,
+            out,
+            tries,
+        ),
+        Kind::Gives(date) => {
+            let written = call_day::give_book(desk, codes, flags, balances, limits, date, out);
+            let moved = tables::moment::moved(desk, clock);
+            Told {
+                answer: Answer::Done,
+                written,
+                tried: 0,
+                desk: moved,
+            }
+        }
+    }
+}
+
+// 06, then 05, then 07, with nothing changed; else the action is performed.
+pub fn call(
+    quick: bool,
+    clock: u64,
+    action: Action,
+    input: &[u8],
+    desk: Desk,
+    codes: &mut [u64],
+    flags: &mut [u64],
+    balances: &mut [u64],
+    limits: &mut [u64],
+    batches: &mut [u64],
+    references: &mut [u64],
+    bins: &mut [u64],
+    out: &mut [u8],
+    tries: &mut [u64],
+) -> Told
+    ensures { λ y. ⌜ Called (lentAs desk (lentWith (now (codes .entry)) (now (flags .entry)) (now (balances .entry)) (now (limits .entry)) (now (batches .entry)) (now (references .entry)) (now (bins .entry))) (now (out .entry)) (now (tries .entry))) (record { quick = quick; clock = clock; action = action; input = now (input .entry) }) (leftAs (y .answer) (y .written) (y .tried) (y .desk) (lentWith (now (codes .exit)) (now (flags .exit)) (now (balances .exit)) (now (limits .exit)) (now (batches .exit)) (now (references .exit)) (now (bins .exit))) (now (out .exit)) (now (tries .exit))) ⌝ }
+{
+    if !tables_rules::whole::tables_right(
+        desk,
+        codes,
+        flags,
+        balances,
+        limits,
+        batches,
+        references,
+        bins,
+    ) {
+        return refused(Refusal::BrokenTables, desk);
+    }
+    let judged = tables::moment::judge(desk, clock, action, out.len(), tries.len());
+    match judged {
+        Answer::Refused(refusal) => refused(refusal, desk),
+        Answer::Done => perform(
+            quick,
+            clock,
+            action,
+            input,
+            desk,
+            codes,
+            flags,
+            balances,
+            limits,
+            batches,
+            references,
+            bins,
+            out,
+            tries,
+        ),
+    }
+}

@@ -1,0 +1,69 @@
+use native.Mathlib.Omega.{arith}
+use Rattle.call_change.proofs.LimitLaws.{bank-inside, limit-unknown, limit-out, limit-set}
+use borrow.Author.Needs.{needs}
+use Rattle.call_change.proofs.sub_limit.Statement.{statement}
+use Rattle.call_change.proofs.sub_limit.Tie as tie
+use Rattle.call_change.proofs.sub_limit.Reads as reads
+use Rattle.call_change.proofs.sub_limit.Lts as lts
+use Rattle.queue.proofs.wake_bank.Reads as wake-bank-reads
+use Rattle.call_plan.proofs.rules.places.bank_place.Reads as bank-place-reads
+
+-- src/lib.rt:31:9
+bank-place-requires : tie.Need-bank-place-requires
+bank-place-requires c κs = search needs
+
+-- src/lib.rt:32:22
+enum-known-found : tie.Need-enum-known-found
+enum-known-found c = search needs
+
+-- src/lib.rt:33:32
+enum-told : tie.Need-enum-told
+enum-told c = search needs
+
+-- src/lib.rt:33:9
+returns : tie.Need-returns
+returns c = limit-unknown _ _ _ (c .before .before .bank-place .result) (c .before .before .bank-place .ensures) _ _ _ (search needs)
+
+-- src/lib.rt:36:9
+returns-2 : tie.Need-returns-2
+returns-2 c = limit-out _ _ _ (c .before .before .before .before .bank-place .result) (c .before .before .before .before .bank-place .ensures) _ _ _ _ (c .before .before .found .given .1) (c .if1 .taken)
+
+-- src/lib.rt:38:5
+mul-limits : tie.Need-mul-limits
+mul-limits c = omega (arith, bank-inside _ _ _ (c .before .before .before .before .bank-place .result) (c .before .before .before .before .bank-place .ensures) _ (c .before .before .found .given .1))
+
+-- src/lib.rt:38:5
+slice-write-limits : tie.Need-slice-write-limits
+slice-write-limits c = omega (arith, bank-inside _ _ _ (c .before .before .before .before .bank-place .result) (c .before .before .before .before .bank-place .ensures) _ (c .before .before .found .given .1))
+
+-- src/lib.rt:39:5
+wake-bank-requires : tie.Need-wake-bank-requires
+wake-bank-requires c κs = search needs
+
+-- src/lib.rt:20:1
+same-length : tie.Need-same-length
+same-length c = search needs
+
+-- src/lib.rt:20:1
+same-length-2 : tie.Need-same-length-2
+same-length-2 c = search needs
+
+-- src/lib.rt:20:1
+returns-3 : tie.Need-returns-3
+returns-3 c = limit-set _ _ _ (c .before .before .before .before .before .before .before .before .bank-place .result) (c .before .before .before .before .before .before .before .before .bank-place .ensures) _ _ _ _ (c .before .before .before .before .before .before .found .given .1) (search needs) _ (c .before .before .wake-bank .ensures)
+
+pub sub-limit-spec : {M : Type 1} → statement M
+sub-limit-spec =
+    tie.close
+    (tie.spec
+    bank-place-requires
+    enum-known-found
+    enum-told
+    returns
+    returns-2
+    mul-limits
+    slice-write-limits
+    wake-bank-requires
+    same-length
+    same-length-2
+    returns-3)

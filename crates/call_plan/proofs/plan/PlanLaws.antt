@@ -1,0 +1,169 @@
+-- What is chosen at each step.
+use Prim.Native.Nat.{ℕ, zero, suc, _+_, _*_, _<_}
+use mathlib.Core.Path.{_≡_, sym, ap, _∙_}
+use mathlib.Core.Bool.{true, false}
+use mathlib.Core.List.{List}
+use native.Mathlib.Omega.{arith}
+use borrow.Author.Tests.{eq-eqb, ne-eqb}
+use lib.Dec.{eqb}
+use lib.ListN.{getD}
+use Rattle.chars.specs.declared.Refusal.{Refusal}
+use Rattle.chars.specs.declared.Refusal.the-variants.{NoRoom, WrongSender, UsedReference, Malformed}
+use Rattle.codes.specs.declared.Code.{Code}
+use Rattle.text_fields.specs.declared.Break.{Break}
+use Rattle.request_read.specs.declared.whole.Head.{Head}
+use Rattle.request_read.specs.declared.whole.Outcome.{Outcome}
+use Rattle.request_read.specs.declared.whole.Outcome.the-variants.{Settlement, Recall, Refused}
+use Rattle.book_read.specs.Accounts.{Stream}
+use Rattle.book_read.specs.Book.{each}
+use Rattle.book_write.specs.Closing.{streamOf}
+use Rattle.book_read.proofs.Filling.{each-length}
+use Rattle.model.specs.State.{at, seek, Place, Batches, Entry, isFree}
+use Rattle.model.specs.Messages.{noStream, streamPlace, assembling, waiting}
+use Rattle.model.proofs.Seeking.{seek-answers}
+use Rattle.tables.specs.declared.Desk.{Desk}
+use Rattle.tables.specs.declared.Sought.{Sought}
+use Rattle.tables.specs.declared.Sought.the-variants.{Here, Nowhere}
+use Rattle.tables.specs.Seeking.{foundBy}
+use Rattle.tables.specs.Rows.{streamsOn}
+use Rattle.call_plan.specs.declared.entries.Looked.{Looked}
+use Rattle.call_plan.specs.entries.Looking.{Looks}
+use Rattle.call_plan.specs.rules.Steps.{streamsHouse}
+use Rattle.call_plan.specs.declared.plan.Plan.{Plan}
+use Rattle.call_plan.specs.declared.plan.Plan.the-variants.{Untouched, Repeated, Alone, Comes, Begins, RecallsNone, Recalls}
+use Rattle.call_plan.specs.declared.plan.Sent.{Sent}
+use Rattle.call_plan.specs.declared.plan.Sent.the-variants.{In, Not}
+use Rattle.call_plan.specs.plan.Plans.{sentOn, repeatedOn, knownOn, newOn, notedOn, settlementOn, recallOn, planOn}
+
+-- ---- the sender's stream
+
+each-at : {A : Type 0} (f : ℕ → A) (i n j : ℕ) (d : A) → j < n → getD (each f i n) j d ≡ f (i + j)
+each-at f i zero j d h = absurd (omega arith)
+each-at f i (suc n) zero d h = let e : i + 0 ≡ i = omega arith in rw e
+each-at f i (suc n) (suc j) d h = each-at f (i + 1) n j d (omega arith) ∙ ap f (omega arith)
+
+module _ (d : Desk) (sender code : ℕ) (s : Sought) (is : foundBy s ≡ streamPlace (streamsHouse (d .streams) (d .n)) code) where
+  sought : foundBy s ≡ seek (λ (x : Stream). eqb (x .code) code) (streamsOn d)
+  unfolding streamPlace
+  sought = is
+
+  pub sent-none : s ≡ Nowhere → Not Malformed ≡ sentOn (streamsOn d) sender code
+  unfolding sentOn
+  sent-none e = rw (sym sought, e)
+
+  module _ {i : ℕ} (e : s ≡ Here i) where
+    found : seek (λ (x : Stream). eqb (x .code) code) (streamsOn d) ≡ at i
+    found = sym sought ∙ rw e
+
+    pub stream-below : i < d .n
+    stream-below = omega (arith, seek-answers (λ (x : Stream). eqb (x .code) code) noStream (streamsOn d) i found .inside, each-length (streamOf (d .streams)) 0 (d .n))
+
+    sender-at : getD (streamsOn d) i noStream .sender ≡ getD (d .streams) (2 * i + 1) 0
+    sender-at =
+        let e : 0 + i ≡ i = omega arith in
+        let f : getD (streamsOn d) i noStream ≡ streamOf (d .streams) (0 + i) = each-at (streamOf (d .streams)) 0 (d .n) i noStream stream-below in
+        ap (λ (x : Stream). x .sender) f ∙ ap (λ (k : ℕ). getD (d .streams) (2 * k + 1) 0) e
+
+    pub sent-in : sender ≡ getD (d .streams) (2 * i + 1) 0 → In i ≡ sentOn (streamsOn d) sender code
+    unfolding sentOn
+    sent-in f = rw (found, sender-at, eq-eqb sender (getD (d .streams) (2 * i + 1) 0) f)
+
+    pub sent-not : (sender ≡ getD (d .streams) (2 * i + 1) 0 → ⊥) → Not WrongSender ≡ sentOn (streamsOn d) sender code
+    unfolding sentOn
+    sent-not f = rw (found, sender-at, ne-eqb sender (getD (d .streams) (2 * i + 1) 0) f)
+
+-- ---- a 131
+
+module _ (s : Sought) where
+  pub repeated-here : (p : ℕ) → s ≡ Here p → Repeated p ≡ repeatedOn (foundBy s)
+  repeated-here p e = rw e
+
+  pub repeated-none : s ≡ Nowhere → Untouched UsedReference ≡ repeatedOn (foundBy s)
+  repeated-none e = rw e
+
+  module _ (stream q : ℕ) where
+    pub known-here : (p : ℕ) → s ≡ Here p → Comes p stream q ≡ knownOn (foundBy s) stream q
+    known-here p e = rw e
+
+    pub known-none : s ≡ Nowhere → Alone q ≡ knownOn (foundBy s) stream q
+    known-none e = rw e
+
+    module _ (u : Sought) where
+      pub new-none : s ≡ Nowhere → Untouched NoRoom ≡ newOn (foundBy s) (foundBy u) stream q
+      new-none e = rw e
+
+      module _ (p : ℕ) (e : s ≡ Here p) where
+        pub new-no-bin : u ≡ Nowhere → Untouched NoRoom ≡ newOn (foundBy s) (foundBy u) stream q
+        new-no-bin f = rw (e, f)
+
+        pub new-here : (k : ℕ) → u ≡ Here k → Begins p stream q k ≡ newOn (foundBy s) (foundBy u) stream q
+        new-here k f = rw (e, f)
+
+module _ (today : ℕ) (places : List Place) (bins : List Entry) (s : Sought) (stream q : ℕ) (bin : Code) {l : Looked} (is : Looks today bin bins l) where
+  pub noted-known : {c : Plan} → l .used ≡ true → c ≡ knownOn (foundBy s) stream q → c ≡ notedOn today places bins (foundBy s) stream q bin
+  unfolding notedOn
+  noted-known e f = f ∙ rw (sym (is .used), e)
+
+  pub noted-new : {c : Plan} (u : Sought) → l .used ≡ false → foundBy u ≡ seek isFree places → c ≡ newOn (foundBy u) (foundBy (l .free)) stream q
+      → c ≡ notedOn today places bins (foundBy s) stream q bin
+  unfolding notedOn
+  noted-new u e f g = g ∙ rw (sym (is .used), e, sym f, sym (is .free e))
+
+module _ (today : ℕ) (b : Batches) (references bins : List Entry) (stream : ℕ) (reference bin : Code) (s : Sought) (there : foundBy s ≡ assembling b bin)
+    {l : Looked} (is : Looks today reference references l) where
+  pub settlement-used : {c : Plan} → l .used ≡ true → c ≡ repeatedOn (foundBy s) → c ≡ settlementOn today b references bins stream reference bin
+  unfolding settlementOn
+  settlement-used e f = f ∙ rw (sym (is .used), e, sym there)
+
+  module _ (e : l .used ≡ false) where
+    pub settlement-full : l .free ≡ Nowhere → Untouched NoRoom ≡ settlementOn today b references bins stream reference bin
+    unfolding settlementOn
+    settlement-full f = rw (sym (is .used), e, sym (is .free e), f)
+
+    pub settlement-noted : {c : Plan} {q : ℕ} → l .free ≡ Here q → c ≡ notedOn today (b .places) bins (foundBy s) stream q bin
+        → c ≡ settlementOn today b references bins stream reference bin
+    unfolding settlementOn
+    settlement-noted f g = g ∙ rw (sym (is .used), e, sym (is .free e), f, sym there)
+
+-- ---- a 133
+
+module _ (today : ℕ) (b : Batches) (references : List Entry) (reference bin : Code) {l : Looked} (is : Looks today reference references l) where
+  pub recall-used : l .used ≡ true → Untouched UsedReference ≡ recallOn today b references reference bin
+  unfolding recallOn
+  recall-used e = rw (sym (is .used), e)
+
+  module _ (e : l .used ≡ false) where
+    pub recall-full : l .free ≡ Nowhere → Untouched NoRoom ≡ recallOn today b references reference bin
+    unfolding recallOn
+    recall-full f = rw (sym (is .used), e, sym (is .free e), f)
+
+    module _ {q : ℕ} (f : l .free ≡ Here q) {s : Sought} (there : foundBy s ≡ waiting b bin) where
+      pub recall-here : {p : ℕ} → s ≡ Here p → Recalls p q ≡ recallOn today b references reference bin
+      unfolding recallOn
+      recall-here g = rw (sym (is .used), e, sym (is .free e), f, sym there, g)
+
+      pub recall-none : s ≡ Nowhere → RecallsNone q ≡ recallOn today b references reference bin
+      unfolding recallOn
+      recall-none g = rw (sym (is .used), e, sym (is .free e), f, sym there, g)
+
+-- ---- any message
+
+pub plan-broken : (today : ℕ) (streams : List Stream) (sender : ℕ) (o : Outcome) (h : Head) (b : Batches) (rs bs : List Entry) (k : Break) → o ≡ Refused k
+    → Untouched (k .refusal) ≡ planOn today streams sender o h b rs bs
+plan-broken today streams sender o h b rs bs k e = rw e
+
+module _ (today : ℕ) (streams : List Stream) (sender : ℕ) {o : Outcome} (h : Head) (b : Batches) (rs bs : List Entry) {s : Sent}
+    (is : s ≡ sentOn streams sender (h .address .stream .number)) where
+  pub plan-not : {f : Refusal} → (o ≡ Settlement) → s ≡ Not f → Untouched f ≡ planOn today streams sender o h b rs bs
+  plan-not e g = rw (e, sym is, g)
+
+  pub recall-not : {f : Refusal} → (o ≡ Recall) → s ≡ Not f → Untouched f ≡ planOn today streams sender o h b rs bs
+  recall-not e g = rw (e, sym is, g)
+
+  pub plan-settlement : {c : Plan} {i : ℕ} → o ≡ Settlement → s ≡ In i
+      → c ≡ settlementOn today b rs bs i (h .reference .code) (h .address .bin .code) → c ≡ planOn today streams sender o h b rs bs
+  plan-settlement e g k = k ∙ rw (e, sym is, g)
+
+  pub plan-recall : {c : Plan} {i : ℕ} → o ≡ Recall → s ≡ In i
+      → c ≡ recallOn today b rs (h .reference .code) (h .address .bin .code) → c ≡ planOn today streams sender o h b rs bs
+  plan-recall e g k = k ∙ rw (e, sym is, g)

@@ -1,0 +1,3 @@
+pub mod entries
+pub mod rules
+pub mod plan

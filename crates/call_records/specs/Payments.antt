@@ -1,0 +1,31 @@
+-- What a payment does to the balance of its bank's record, and what it leaves of the row.
+use Prim.Native.Nat.{ℕ, zero, suc, _+_, _-_, _^_, _≤_, _<_}
+use mathlib.Core.Path.{_≡_}
+use mathlib.Core.List.{List, [], _∷_}
+use Rattle.settle.specs.Payments.{Payment}
+use Rattle.settle.specs.Settlement.{settled}
+use Rattle.call_records.specs.declared.Account.{Account}
+use Rattle.call_records.specs.Records.{codesOf, flagsOf, balancesOf, limitsOf}
+
+-- a credit, which has no letters, raises the balance; a debit lowers it
+unfoldable pub balanceAfter : (balance cents letters : ℕ) → ℕ
+balanceAfter balance cents zero = balance + cents
+balanceAfter balance cents (suc n) = balance - cents
+
+-- a credit has room in the word; a debit has the money
+unfoldable pub Bears : (balance cents letters : ℕ) → Type 0
+Bears balance cents zero = balance + cents < 2 ^ 64
+Bears balance cents (suc n) = cents ≤ balance
+
+-- "It then settles at once, all payments": the balances are these, and every other field of every record is as it was
+pub record Stored (before after : List Account) (balances : List ℕ) : Type 0 where
+  pub balances-are : balancesOf after ≡ balances
+  pub codes-kept : codesOf after ≡ codesOf before
+  pub flags-kept : flagsOf after ≡ flagsOf before
+  pub limits-kept : limitsOf after ≡ limitsOf before
+
+-- the batches at these places, settled on the row one after another
+pub data InOrder (batch : ℕ → List Payment) : List Account → List ℕ → List Account → Type 0 where
+  none : {row : List Account} → InOrder batch row [] row
+  next : {row mid end : List Account} {p : ℕ} {ps : List ℕ} → Stored row mid (settled (balancesOf row) (batch p)) → InOrder batch mid ps end
+      → InOrder batch row (p ∷ ps) end

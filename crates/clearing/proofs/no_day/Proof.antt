@@ -1,9 +1,0 @@
-use Rattle.clearing.proofs.Laws.{no-day}
-use Rattle.clearing.proofs.no_day.Statement.{statement}
-use Rattle.clearing.proofs.no_day.Tie as tie
-
-returns : tie.Need-returns
-returns c = no-day
-
-pub no-day-spec : {M : Type 1} → statement M
-no-day-spec = tie.close (tie.spec returns)

@@ -1,0 +1,68 @@
+use Rattle.cli_script.proofs.Laws.{message-1, message-2, message-3, message-4}
+use borrow.Author.Needs.{needs}
+use Rattle.cli_script.proofs.read_message.Statement.{statement}
+use Rattle.cli_script.proofs.read_message.Tie as tie
+use Rattle.cli_script.proofs.ended.Reads as ended-reads
+use Rattle.cli_script.proofs.read_number.Reads as read-number-reads
+use Rattle.cli_script.proofs.word.Reads as word-reads
+
+read-number-requires : tie.Need-read-number-requires
+read-number-requires c κs = search needs
+
+enum-known-clock : tie.Need-enum-known-clock
+enum-known-clock c = search needs
+
+enum-told : tie.Need-enum-told
+enum-told c = search needs
+
+returns : tie.Need-returns
+returns c = search message-1
+
+read-number-requires-2 : tie.Need-read-number-requires-2
+read-number-requires-2 c κs = search needs
+
+enum-known-sender : tie.Need-enum-known-sender
+enum-known-sender c = search needs
+
+enum-told-2 : tie.Need-enum-told-2
+enum-told-2 c = search needs
+
+returns-2 : tie.Need-returns-2
+returns-2 c = search message-2
+
+word-requires : tie.Need-word-requires
+word-requires c κs = search needs
+
+enum-known-file : tie.Need-enum-known-file
+enum-known-file c = search needs
+
+enum-told-3 : tie.Need-enum-told-3
+enum-told-3 c = search needs
+
+returns-3 : tie.Need-returns-3
+returns-3 c = search message-3
+
+ended-requires : tie.Need-ended-requires
+ended-requires c κs = search needs
+
+returns-4 : tie.Need-returns-4
+returns-4 c = search message-4
+
+pub read-message-spec : {M : Type 1} → statement M
+read-message-spec =
+    tie.close
+    (tie.spec
+    read-number-requires
+    enum-known-clock
+    enum-told
+    returns
+    read-number-requires-2
+    enum-known-sender
+    enum-told-2
+    returns-2
+    word-requires
+    enum-known-file
+    enum-told-3
+    returns-3
+    ended-requires
+    returns-4)

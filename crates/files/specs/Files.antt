@@ -1,9 +1,0 @@
--- What is read of a file.
-use Prim.Native.Nat.{ℕ, _≤_}
-use Rattle.files.specs.declared.Got.{Got}
-use Rattle.files.specs.declared.Got.the-variants.{Bytes, Unread}
-
--- no more than a buffer of so many bytes has
-abbrev pub Within : ℕ → Got → Type 0
-Within most (Bytes n) = n ≤ most
-Within most Unread = Unit {0}

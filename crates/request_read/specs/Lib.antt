@@ -1,0 +1,3 @@
+pub mod terms
+pub mod payments
+pub mod whole

@@ -1,0 +1,38 @@
+use native.Mathlib.Omega.{arith}
+use Rattle.request_write.proofs.Laws.{terms-put}
+use borrow.Author.Needs.{needs}
+use Rattle.request_write.proofs.put_terms.Statement.{statement}
+use Rattle.request_write.proofs.put_terms.Tie as tie
+
+slice-aggregate-put-line : tie.Need-slice-aggregate-put-line
+slice-aggregate-put-line c = search needs
+
+put-line-requires : tie.Need-put-line-requires
+put-line-requires c κs = search needs
+
+slice-aggregate-put-line-2 : tie.Need-slice-aggregate-put-line-2
+slice-aggregate-put-line-2 c = search needs
+
+put-line-requires-2 : tie.Need-put-line-requires-2
+put-line-requires-2 c κs = search needs
+
+put-activation-requires : tie.Need-put-activation-requires
+put-activation-requires c κs = search needs
+
+same-length : tie.Need-same-length
+same-length c = search needs
+
+returns : tie.Need-returns
+returns c = (terms-put _ (c .before .before .before .before .before .before .before .before .before .before .before .put-line .ensures .0) (c .before .before .before .before .before .before .put-line2 .ensures .0) (c .before .before .put-activation .ensures .0), omega arith)
+
+pub put-terms-spec : {M : Type 1} → statement M
+put-terms-spec =
+    tie.close
+    (tie.spec
+    slice-aggregate-put-line
+    put-line-requires
+    slice-aggregate-put-line-2
+    put-line-requires-2
+    put-activation-requires
+    same-length
+    returns)

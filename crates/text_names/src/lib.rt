@@ -1,0 +1,3 @@
+// The codes that a text allows as a reference or a BIN, and a quick test of them.
+pub mod quick;
+pub mod rules;
