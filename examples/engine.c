@@ -1,8 +1,8 @@
 /*
  * A house's first calls from C: its day is opened with a book, a message comes, and what the engine writes is printed.
  *
- *     ./purmagheli library c_engine
- *     gcc -std=c99 -O2 -Iinclude examples/engine.c target/staticlib/libc_engine.a -o /tmp/engine
+ *     ./purmagheli library
+ *     gcc -std=c99 -O2 -Iinclude examples/engine.c target/staticlib/libpurmagheli.a -o /tmp/engine
  *     /tmp/engine
  */
 #include <stdio.h>

@@ -2,13 +2,12 @@
  * Purmagheli for programs in C99 or C++ on x86-64, Linux.
  *
  * The readers of a gateway: the text of a request (131, 133), the text of a response (132, 134), why one is refused, and
- * the check of a book and where it breaks; and the writers of both texts. Link target/staticlib/libc_gateway.a, which
- * `./purmagheli library c_gateway` builds.
+ * the check of a book and where it breaks; and the writers of both texts.
  *
- * The engine: a house's day from opening to closing book. Link target/staticlib/libc_engine.a, which
- * `./purmagheli library c_engine` builds. Both archives may be linked together.
+ * The engine: a house's day from opening to closing book.
  *
- * Rows, numbers and functions belong to the archives of the same commit: there is no version in them.
+ * Link target/staticlib/libpurmagheli.a, which `./purmagheli library` builds. Header and archive belong together
+ * where purmagheli_version() returns PURMAGHELI_VERSION.
  *
  * Each function answers 0, or the number by which it refuses; docs/RULES.md has them all. It keeps nothing
  * between calls, allocates nothing, and may be called from several threads at once, each with what it
@@ -28,6 +27,11 @@
 #ifdef __cplusplus
 extern "C" {
 #endif
+
+/* The version of this header, and of the archive that is linked. It rises with every change that a program can see. */
+#define PURMAGHELI_VERSION 1
+
+uint64_t purmagheli_version(void);
 
 /*
  * A field is four words of a row: where its value starts in the text, how many bytes it has, and

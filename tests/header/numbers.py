@@ -1,10 +1,10 @@
 #!/usr/bin/env python3
-"""The constants of the crates that include/purmagheli.h repeats, as `NAME number`, a line each: those that are public in the sources of c_gateway and
-c_engine, and the room and the tries of a call. One that is said by others, as `TEXTS * Settlement::LONGEST`, is worked out."""
+"""The constants of the crates that include/purmagheli.h repeats, as `NAME number`, a line each: those that are public in the sources of c_gateway,
+c_engine and c_version, and the room and the tries of a call. One that is said by others, as `TEXTS * Settlement::LONGEST`, is worked out."""
 import glob
 import re
 
-SHOWN = sorted(glob.glob("crates/c_gateway/src/*.rt")) + ["crates/c_engine/src/lib.rt"]
+SHOWN = sorted(glob.glob("crates/c_gateway/src/*.rt")) + ["crates/c_engine/src/lib.rt", "crates/c_version/src/lib.rt"]
 ROOM = "crates/tables/src/moment.rt"
 TRIES = "crates/settle/src/lib.rt"
 OTHERS = ["crates/codes/src/lib.rt", "crates/response_write/src/lib.rt"]
