@@ -16,7 +16,7 @@ use Rattle.book_read.specs.Block.{little, entriesAt, headRight, zerosAt, unused
 use Rattle.book_read.specs.Book.{mostMoney, dateIn, bitsPast, lengthRight, banksCounted, codeBefore, bankCount, totalRight}
 use Rattle.book_read.proofs.Rules.{byHolds}
 use Rattle.book_explain.specs.declared.Flaw.{Flaw}
-use Rattle.book_explain.specs.declared.Flaw.the-variants.{WrongLength, WrongSum, WrongHead, WrongCount, UntrueDate, AfterDate, Unused, NoCode, NotAbove, NoAdministrator, WrongFlag, NoStream, EntryZeros, HighBalance, HighLimit, HighTotal}
+use Rattle.book_explain.specs.declared.Flaw.the-variants.{WrongLength, WrongSum, WrongHead, WrongCount, UntrueDate, AfterDate, Unused, NoCode, NotAbove, NoAdministrator, WrongFlag, NoStream, EntryZeros, HighBalance, HighSublimit, HighTotal}
 use Rattle.book_explain.specs.declared.Spot.{Spot}
 use Rattle.book_explain.specs.declared.Finding.{Finding}
 use Rattle.book_explain.specs.declared.Finding.the-variants.{Whole, Broken}
@@ -122,7 +122,7 @@ module _ (s : List ℕ) (k i at : ℕ) {m : ℕ} (e : m ≡ little 8 (drop (at +
   money-1 h = rw (← e, lt-leb m mostMoney h)
 
   module _ {l : ℕ} (h : m ≤ 6400000000000000) (f : l ≡ little 8 (drop (at + 16) s)) where
-    pub money-2 : 6400000000000000 < l → Broken (spot k i HighLimit) ≡ firstFailed (moneyTests s k i at)
+    pub money-2 : 6400000000000000 < l → Broken (spot k i HighSublimit) ≡ firstFailed (moneyTests s k i at)
     unfolding firstFailed
     money-2 g = rw (← e, le-leb m mostMoney h, ← f, lt-leb l mostMoney g)
 

@@ -11,9 +11,9 @@ use Rattle.codes.specs.Codes.{shortAt}
 use Rattle.book_read.specs.declared.Answer.{Answer}
 use Rattle.book_read.specs.declared.Answer.the-variants.{Sound, Fault}
 use Rattle.book_read.specs.Block.{Rule, entriesAt, headRight, zerosAt, unusedRight, checkRight, entriesRight}
-use Rattle.book_read.specs.Book.{mostMoney, codeRight, isDay, dateIn, streamRight, bitsPast, balanceAt, limitAt, bankRight, blocksIn, lengthRight, streamRules, banksCounted, codeBefore, bankRules, bankCount, totalRight}
+use Rattle.book_read.specs.Book.{mostMoney, codeRight, isDay, dateIn, streamRight, bitsPast, balanceAt, sublimitAt, bankRight, blocksIn, lengthRight, streamRules, banksCounted, codeBefore, bankRules, bankCount, totalRight}
 use Rattle.book_explain.specs.declared.Flaw.{Flaw}
-use Rattle.book_explain.specs.declared.Flaw.the-variants.{WrongLength, WrongSum, WrongHead, WrongCount, UntrueDate, AfterDate, Unused, NoCode, NotAbove, NoAdministrator, WrongFlag, NoStream, EntryZeros, HighBalance, HighLimit, HighTotal}
+use Rattle.book_explain.specs.declared.Flaw.the-variants.{WrongLength, WrongSum, WrongHead, WrongCount, UntrueDate, AfterDate, Unused, NoCode, NotAbove, NoAdministrator, WrongFlag, NoStream, EntryZeros, HighBalance, HighSublimit, HighTotal}
 use Rattle.book_explain.specs.declared.Spot.{Spot}
 use Rattle.book_explain.specs.declared.Finding.{Finding}
 use Rattle.book_explain.specs.declared.Finding.the-variants.{Whole, Broken}
@@ -34,7 +34,7 @@ refusalOf WrongFlag = OutOfRange
 refusalOf NoStream = OutOfRange
 refusalOf EntryZeros = OutOfRange
 refusalOf HighBalance = OutOfRange
-refusalOf HighLimit = OutOfRange
+refusalOf HighSublimit = OutOfRange
 refusalOf HighTotal = BookTotal
 
 -- the answer of the book's check that goes with a finding
@@ -84,7 +84,7 @@ streamEntry s i before at =
 -- "Balances, their total and sub-limits run from 0 to 6,400,000,000,000,000."
 abbrev pub moneyTests : List ℕ → (k i at : ℕ) → List Test
 moneyTests s k i at =
-    test k i (leb (balanceAt s at) mostMoney) HighBalance ∷ test k i (leb (limitAt s at) mostMoney) HighLimit ∷ []
+    test k i (leb (balanceAt s at) mostMoney) HighBalance ∷ test k i (leb (sublimitAt s at) mostMoney) HighSublimit ∷ []
 
 -- "entries of 24 at 8: bank 4, flag 0 active or 1 suspended, stream bits (1 is the first stream), two zeros, balance 8,
 -- sub-limit 8", "a stream bit with no stream too"

@@ -23,7 +23,7 @@ pub enum Flaw {
     NoStream,
     EntryZeros,
     HighBalance,
-    HighLimit,
+    HighSublimit,
     HighTotal,
 }
 
@@ -47,7 +47,7 @@ impl Flaw {
             Flaw::NoStream => Refusal::OutOfRange,
             Flaw::EntryZeros => Refusal::OutOfRange,
             Flaw::HighBalance => Refusal::OutOfRange,
-            Flaw::HighLimit => Refusal::OutOfRange,
+            Flaw::HighSublimit => Refusal::OutOfRange,
             Flaw::HighTotal => Refusal::BookTotal,
         }
     }
@@ -197,7 +197,7 @@ fn money_found(s: &[u8], k: usize, i: usize, at: usize) -> Finding
         return Finding::Broken(Spot {
             block: k,
             entry: i,
-            flaw: Flaw::HighLimit,
+            flaw: Flaw::HighSublimit,
         });
     }
     Finding::Whole

@@ -13,7 +13,7 @@ use Rattle.dates.specs.declared.Day.{Day}
 use Rattle.dates.specs.declared.Day.the-variants.{Number, Untrue}
 use Rattle.codes.specs.Codes.{shortAt}
 use Rattle.book_read.specs.declared.Field.{Field}
-use Rattle.book_read.specs.declared.Field.the-variants.{Code, Flags, Balance, Limit}
+use Rattle.book_read.specs.declared.Field.the-variants.{Code, Flags, Balance, Sublimit}
 use Rattle.book_read.specs.Block.{little, entriesAt}
 use Rattle.book_read.specs.Book.{each, bankPlace, dateIn, blocksIn, bankCount, bookCheck}
 use Rattle.book_read.proofs.Accepted.{both}
@@ -33,8 +33,8 @@ module _ (s : List ℕ) (at : ℕ) (field : Field) {r : ℕ} where
   pub field-balance : field ≡ Balance → r ≡ little 8 (drop (at + 8) s) → r ≡ fieldOf field (bankAt s at)
   field-balance e p = rw e p
 
-  pub field-limit : field ≡ Limit → r ≡ little 8 (drop (at + 16) s) → r ≡ fieldOf field (bankAt s at)
-  field-limit e p = rw e p
+  pub field-sublimit : field ≡ Sublimit → r ≡ little 8 (drop (at + 16) s) → r ≡ fieldOf field (bankAt s at)
+  field-sublimit e p = rw e p
 
 pub field-flags : (s : List ℕ) (at : ℕ) (field : Field) {a b v w : ℕ} → field ≡ Flags → a ≡ getD s (at + 4) 0 → v ≡ a → b ≡ getD s (at + 5) 0 → w ≡ b
     → v + 2 * w ≡ fieldOf field (bankAt s at)
@@ -124,7 +124,7 @@ module _ (a b c d e : ℕ) where
     pub for-codes : 64 ≤ b
     pub for-flags : 64 ≤ c
     pub for-balances : 64 ≤ d
-    pub for-limits : 64 ≤ e
+    pub for-sublimits : 64 ≤ e
 
   pub room : roomFor a b c d e ≡ true → Room
   unfolding roomFor
@@ -138,7 +138,7 @@ module _ (a b c d e : ℕ) where
         for-codes = leb-true 64 b (q .0);
         for-flags = leb-true 64 c (r .0);
         for-balances = leb-true 64 d (t .0);
-        for-limits = leb-true 64 e (t .1);
+        for-sublimits = leb-true 64 e (t .1);
       }
 
 -- a column is a field of each
@@ -156,7 +156,7 @@ pub fill-is : (s r₁ r₂ r₃ r₄ r₅ : List ℕ) {a b c d e : List ℕ} {n 
     → b ≡ sets r₂ 0 (each (λ (i : ℕ). fieldOf Code (bankAt s (bankPlace i))) 0 m)
     → c ≡ sets r₃ 0 (each (λ (i : ℕ). fieldOf Flags (bankAt s (bankPlace i))) 0 m)
     → d ≡ sets r₄ 0 (each (λ (i : ℕ). fieldOf Balance (bankAt s (bankPlace i))) 0 m)
-    → e ≡ sets r₅ 0 (each (λ (i : ℕ). fieldOf Limit (bankAt s (bankPlace i))) 0 m)
+    → e ≡ sets r₅ 0 (each (λ (i : ℕ). fieldOf Sublimit (bankAt s (bankPlace i))) 0 m)
     → k ≡ dayIn s
     → _≡_ {A = With Book} (record { rows = rowsOf a b c d e; answer = record { day = k; streams = n; banks = m } }) (filledBook s (rowsOf r₁ r₂ r₃ r₄ r₅))
 unfolding filledBook filled bookIn streamsIn banksIn

@@ -26,9 +26,9 @@ use Rattle.text_scan.specs.Spelling.{All}
 use Rattle.text_scan.proofs.Standing.{code-sound}
 use Rattle.book_read.specs.declared.Answer.the-variants.{Sound}
 use Rattle.book_read.specs.declared.Field.{Field}
-use Rattle.book_read.specs.declared.Field.the-variants.{Code, Flags, Balance, Limit}
+use Rattle.book_read.specs.declared.Field.the-variants.{Code, Flags, Balance, Sublimit}
 use Rattle.book_read.specs.Block.{entriesAt, entriesRight, zerosAt}
-use Rattle.book_read.specs.Book.{mostMoney, codeRight, numbered, dateIn, isDay, streamRight, bitsPast, balanceAt, limitAt, bankRight, blocksIn, codeBefore, each, bankPlace, bankCount, balanceOf, totalRight, bookCheck}
+use Rattle.book_read.specs.Book.{mostMoney, codeRight, numbered, dateIn, isDay, streamRight, bitsPast, balanceAt, sublimitAt, bankRight, blocksIn, codeBefore, each, bankPlace, bankCount, balanceOf, totalRight, bookCheck}
 use Rattle.book_read.specs.Accounts.{Stream, Bank, streamAt, bankAt, onDay, dayIn, streamsIn, banksIn, fieldOf, column}
 use Rattle.book_read.specs.Range.{Each, allAre, isShort, Rising, streamCodes, InRange}
 use Rattle.book_read.proofs.Leaves.{before-next}
@@ -159,7 +159,7 @@ pub record RightBank (streams : ℕ) (x : Bank) : Type 0 where
   pub code : isShort (x .code) ≡ true
   pub flags : x .flags / 2 < 2 ^ streams
   pub balance : x .balance ≤ mostMoney
-  pub limit : x .limit ≤ mostMoney
+  pub sublimit : x .sublimit ≤ mostMoney
 
 pub bank-gives : (s : List ℕ) (streams at : ℕ) → bankRight s streams at ≡ true → RightBank streams (bankAt s at)
 unfolding bankRight
@@ -177,7 +177,7 @@ bank-gives s streams at h =
       code = short-right s at (a .0);
       flags = rw half (bits-small streams g (eqb-true _ 0 (d .0)));
       balance = leb-true (balanceAt s at) mostMoney (m .0);
-      limit = leb-true (limitAt s at) mostMoney (m .1);
+      sublimit = leb-true (sublimitAt s at) mostMoney (m .1);
     }
 
 -- ---- the whole
@@ -307,7 +307,7 @@ module _ {s : List ℕ} (g : Accepted s) where
     banks-rise = banks-rising;
     flags-right = rw streams-long (column-all (λ x. x / 2 < 2 ^ entriesAt s 0) Flags (λ i p. bank-on i p .flags));
     balances-right = column-all (λ x. x ≤ mostMoney) Balance (λ i p. bank-on i p .balance);
-    limits-right = column-all (λ x. x ≤ mostMoney) Limit (λ i p. bank-on i p .limit);
+    sublimits-right = column-all (λ x. x ≤ mostMoney) Sublimit (λ i p. bank-on i p .sublimit);
     total = total-small;
   }
 

@@ -14,11 +14,11 @@ use Rattle.book_read.specs.declared.Answer.{Answer}
 use Rattle.book_read.specs.declared.Answer.the-variants.{Sound, Fault}
 use Rattle.book_read.specs.declared.Book.{Book}
 use Rattle.book_read.specs.declared.Field.{Field}
-use Rattle.book_read.specs.declared.Field.the-variants.{Code, Flags, Balance, Limit}
+use Rattle.book_read.specs.declared.Field.the-variants.{Code, Flags, Balance, Sublimit}
 use Rattle.book_read.specs.declared.Reading.{Reading}
 use Rattle.book_read.specs.declared.Reading.the-variants.{Held, Unread}
 use Rattle.book_read.specs.Block.{entriesAt}
-use Rattle.book_read.specs.Book.{dateIn, balanceAt, limitAt, blocksIn, bankPlace, bankCount, each, bookCheck}
+use Rattle.book_read.specs.Book.{dateIn, balanceAt, sublimitAt, blocksIn, bankPlace, bankCount, each, bookCheck}
 
 -- "stream 4, administrator 1 to 255"
 pub record Stream : Type 0 where
@@ -31,7 +31,7 @@ pub record Bank : Type 0 where
   pub code : ℕ
   pub flags : ℕ
   pub balance : ℕ
-  pub limit : ℕ
+  pub sublimit : ℕ
 
 abbrev pub streamAt : List ℕ → ℕ → Stream
 streamAt s at = record { code = shortAt s at; sender = getD s (at + 4) 0 }
@@ -41,7 +41,7 @@ bankAt s at = record {
   code = shortAt s at;
   flags = getD s (at + 4) 0 + 2 * getD s (at + 5) 0;
   balance = balanceAt s at;
-  limit = limitAt s at;
+  sublimit = sublimitAt s at;
 }
 
 -- the day number of the book's date
@@ -69,7 +69,7 @@ abbrev pub fieldOf : Field → Bank → ℕ
 fieldOf Code b = b .code
 fieldOf Flags b = b .flags
 fieldOf Balance b = b .balance
-fieldOf Limit b = b .limit
+fieldOf Sublimit b = b .sublimit
 
 abbrev pub column : Field → List Bank → List ℕ
 column f bs = map (fieldOf f) bs
@@ -80,20 +80,20 @@ pub record Rows : Type 0 where
   pub codes : List ℕ
   pub flags : List ℕ
   pub balances : List ℕ
-  pub limits : List ℕ
+  pub sublimits : List ℕ
 
 abbrev pub rowsOf : List ℕ → List ℕ → List ℕ → List ℕ → List ℕ → Rows
-rowsOf streams codes flags balances limits =
-    record { streams = streams; codes = codes; flags = flags; balances = balances; limits = limits }
+rowsOf streams codes flags balances sublimits =
+    record { streams = streams; codes = codes; flags = flags; balances = balances; sublimits = sublimits }
 
 -- rows of 8 streams and of 64 banks, by their lengths
 unfoldable pub roomFor : ℕ → ℕ → ℕ → ℕ → ℕ → Bool
-roomFor streams codes flags balances limits =
-    leb 16 streams && (leb 64 codes && (leb 64 flags && (leb 64 balances && leb 64 limits)))
+roomFor streams codes flags balances sublimits =
+    leb 16 streams && (leb 64 codes && (leb 64 flags && (leb 64 balances && leb 64 sublimits)))
 
 abbrev pub roomy : Rows → Bool
 roomy t =
-    roomFor (length (t .streams)) (length (t .codes)) (length (t .flags)) (length (t .balances)) (length (t .limits))
+    roomFor (length (t .streams)) (length (t .codes)) (length (t .flags)) (length (t .balances)) (length (t .sublimits))
 
 -- the rows with a book's streams and banks in their first places, and as they were past them
 unfoldable pub filled : List ℕ → Rows → Rows
@@ -102,7 +102,7 @@ filled s t = record {
   codes = sets (t .codes) 0 (column Code (banksIn s));
   flags = sets (t .flags) 0 (column Flags (banksIn s));
   balances = sets (t .balances) 0 (column Balance (banksIn s));
-  limits = sets (t .limits) 0 (column Limit (banksIn s));
+  sublimits = sets (t .sublimits) 0 (column Sublimit (banksIn s));
 }
 
 unfoldable pub bookIn : List ℕ → Book

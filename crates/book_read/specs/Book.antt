@@ -50,15 +50,15 @@ bitsPast (suc n) bits = bitsPast n (bits / 2)
 abbrev pub balanceAt : List ℕ → ℕ → ℕ
 balanceAt s at = little 8 (drop (at + 8) s)
 
-abbrev pub limitAt : List ℕ → ℕ → ℕ
-limitAt s at = little 8 (drop (at + 16) s)
+abbrev pub sublimitAt : List ℕ → ℕ → ℕ
+sublimitAt s at = little 8 (drop (at + 16) s)
 
 unfoldable pub bankRight : List ℕ → ℕ → ℕ → Bool
 bankRight s streams at =
     codeRight s at
     && (leb (getD s (at + 4) 0) 1
     && (eqb (bitsPast streams (getD s (at + 5) 0)) 0
-    && (zerosAt s (at + 6) 2 && (leb (balanceAt s at) mostMoney && leb (limitAt s at) mostMoney))))
+    && (zerosAt s (at + 6) 2 && (leb (balanceAt s at) mostMoney && leb (sublimitAt s at) mostMoney))))
 
 -- "length not 2 to 5 blocks 11"
 abbrev pub blocksIn : List ℕ → ℕ

@@ -9,7 +9,7 @@ use Rattle.chars.specs.Chars.{isCode}
 use Rattle.codes.specs.Codes.{shortEnd, shortText}
 use Rattle.dates.specs.Dates.{daysOfCentury, sum}
 pub use Rattle.text_names.specs.rules.Names.{allAre}
-use Rattle.book_read.specs.declared.Field.the-variants.{Code, Flags, Balance, Limit}
+use Rattle.book_read.specs.declared.Field.the-variants.{Code, Flags, Balance, Sublimit}
 use Rattle.book_read.specs.Book.{mostMoney}
 use Rattle.book_read.specs.Accounts.{Stream, Bank, column}
 
@@ -50,5 +50,5 @@ pub record InRange (day : ℕ) (streams : List Stream) (banks : List Bank) : Typ
   pub flags-right : Each (λ x. x / 2 < 2 ^ length streams) (column Flags banks)
   -- "Balances, their total and sub-limits run from 0 to 6,400,000,000,000,000."
   pub balances-right : Each (λ x. x ≤ mostMoney) (column Balance banks)
-  pub limits-right : Each (λ x. x ≤ mostMoney) (column Limit banks)
+  pub sublimits-right : Each (λ x. x ≤ mostMoney) (column Sublimit banks)
   pub total : sum (column Balance banks) ≤ mostMoney

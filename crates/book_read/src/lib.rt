@@ -525,7 +525,7 @@ pub enum Field {
     Code,
     Flags,
     Balance,
-    Limit,
+    Sublimit,
 }
 
 pub enum Reading {
@@ -542,7 +542,7 @@ fn field_at(s: &[u8], at: usize, field: Field) -> u64
         Field::Code => codes::short_code(s, at),
         Field::Flags => wide(byte(s, at + 4)) + 2 * wide(byte(s, at + 5)),
         Field::Balance => money_at(s, at + 8),
-        Field::Limit => money_at(s, at + 16),
+        Field::Sublimit => money_at(s, at + 16),
     }
 }
 
@@ -583,8 +583,8 @@ fn day_in(s: &[u8]) -> u64
 }
 
 // Whether rows of these lengths hold 8 streams and 64 banks.
-fn rows_fit(streams: usize, codes: usize, flags: usize, balances: usize, limits: usize) -> bool
-    ensures { λ r. ⌜ r ≡ roomFor streams codes flags balances limits ⌝ }
+fn rows_fit(streams: usize, codes: usize, flags: usize, balances: usize, sublimits: usize) -> bool
+    ensures { λ r. ⌜ r ≡ roomFor streams codes flags balances sublimits ⌝ }
 {
     if streams < 2 * Book::STREAMS {
         return false;
@@ -598,7 +598,7 @@ fn rows_fit(streams: usize, codes: usize, flags: usize, balances: usize, limits:
     if balances < Book::BANKS {
         return false;
     }
-    Book::BANKS <= limits
+    Book::BANKS <= sublimits
 }
 
 // The streams and banks of a sound book into the rows.
@@ -608,11 +608,11 @@ fn fill(
     codes: &mut [u64],
     flags: &mut [u64],
     balances: &mut [u64],
-    limits: &mut [u64],
+    sublimits: &mut [u64],
 ) -> Book
     requires { ⌜ bookCheck (now book) ≡ Sound ⌝ }
-    requires { ⌜ roomFor (length (now streams)) (length (now codes)) (length (now flags)) (length (now balances)) (length (now limits)) ≡ true ⌝ }
-    ensures { λ r. ⌜ record { rows = rowsOf (now (streams .exit)) (now (codes .exit)) (now (flags .exit)) (now (balances .exit)) (now (limits .exit)); answer = r } ≡ filledBook (now (book .entry)) (rowsOf (now (streams .entry)) (now (codes .entry)) (now (flags .entry)) (now (balances .entry)) (now (limits .entry))) ⌝ }
+    requires { ⌜ roomFor (length (now streams)) (length (now codes)) (length (now flags)) (length (now balances)) (length (now sublimits)) ≡ true ⌝ }
+    ensures { λ r. ⌜ record { rows = rowsOf (now (streams .exit)) (now (codes .exit)) (now (flags .exit)) (now (balances .exit)) (now (sublimits .exit)); answer = r } ≡ filledBook (now (book .entry)) (rowsOf (now (streams .entry)) (now (codes .entry)) (now (flags .entry)) (now (balances .entry)) (now (sublimits .entry))) ⌝ }
 {
     let n = entries(book, 0);
     let banks = bank_count(book, book.len() / Book::BLOCK);
@@ -620,7 +620,7 @@ fn fill(
     read_column(book, banks, Field::Code, codes);
     read_column(book, banks, Field::Flags, flags);
     read_column(book, banks, Field::Balance, balances);
-    read_column(book, banks, Field::Limit, limits);
+    read_column(book, banks, Field::Sublimit, sublimits);
     Book {
         day: day_in(book),
         streams: n,
@@ -636,21 +636,21 @@ pub fn read(
     codes: &mut [u64],
     flags: &mut [u64],
     balances: &mut [u64],
-    limits: &mut [u64],
+    sublimits: &mut [u64],
 ) -> Reading
-    ensures { λ r. ⌜ record { rows = rowsOf (now (streams .exit)) (now (codes .exit)) (now (flags .exit)) (now (balances .exit)) (now (limits .exit)); answer = r } ≡ readBook (now (book .entry)) (rowsOf (now (streams .entry)) (now (codes .entry)) (now (flags .entry)) (now (balances .entry)) (now (limits .entry))) ⌝ }
+    ensures { λ r. ⌜ record { rows = rowsOf (now (streams .exit)) (now (codes .exit)) (now (flags .exit)) (now (balances .exit)) (now (sublimits .exit)); answer = r } ≡ readBook (now (book .entry)) (rowsOf (now (streams .entry)) (now (codes .entry)) (now (flags .entry)) (now (balances .entry)) (now (sublimits .entry))) ⌝ }
 {
     if !rows_fit(
         streams.len(),
         codes.len(),
         flags.len(),
         balances.len(),
-        limits.len(),
+        sublimits.len(),
     ) {
         return Reading::Unread(Refusal::ShortBuffer);
     }
     if let Answer::Fault(f) = check(book) {
         return Reading::Unread(f);
     }
-    Reading::Held(fill(book, streams, codes, flags, balances, limits))
+    Reading::Held(fill(book, streams, codes, flags, balances, sublimits))
 }

@@ -82,7 +82,7 @@ stream-put out at x p q =
 
 pub bank-put : (out : List ℕ) (at : ℕ) (x : Bank) {a b c d : List ℕ} → a ≡ sets out at (shortText (x .code))
     → b ≡ sets a (at + 4) (x .flags % 2 ∷ x .flags / 2 % 256 ∷ 0 ∷ 0 ∷ []) → c ≡ sets b (at + 8) (littleOf 8 (x .balance))
-    → d ≡ sets c (at + 16) (littleOf 8 (x .limit)) → d ≡ sets out at (bankBytes x)
+    → d ≡ sets c (at + 16) (littleOf 8 (x .sublimit)) → d ≡ sets out at (bankBytes x)
 unfolding bankBytes
 bank-put out at x p q r t =
     let code = shortText (x .code) in
@@ -90,7 +90,7 @@ bank-put out at x p q r t =
     let money = littleOf 8 (x .balance) in
     let two = then out code mid at p (ap (λ (n : ℕ). at + n) (sym (short-length (x .code)))) q in
     let three = then out (code ++ mid) money at two (simp (length-append, short-length)) r in
-    then out ((code ++ mid) ++ money) (littleOf 8 (x .limit)) at three (simp (length-append, short-length, little-length)) t
+    then out ((code ++ mid) ++ money) (littleOf 8 (x .sublimit)) at three (simp (length-append, short-length, little-length)) t
 
 -- entries one after another
 pub each-next : {A : Type 0} (f : ℕ → A) (i n : ℕ) → 0 < n → each f i n ≡ f i ∷ each f (i + 1) (n - 1)

@@ -65,12 +65,12 @@ module _ (k : Book) (s a b c d : ℕ) where
   rows-rest p q u v w e =
       e ∙ rw (le-leb 1 (k .streams) p, le-leb (k .streams) 8 q, le-leb 1 (k .banks) u, le-leb (k .banks) 64 v, le-leb (2 * k .streams) s w)
 
-pub reach-part : {n : ℕ} (m : ℕ) {codes flags balances limits : List ℕ} → m ≤ n → Reaching n codes flags balances limits → Reaching m codes flags balances limits
+pub reach-part : {n : ℕ} (m : ℕ) {codes flags balances sublimits : List ℕ} → m ≤ n → Reaching n codes flags balances sublimits → Reaching m codes flags balances sublimits
 reach-part m h r = record {
   in-codes = omega (arith, r .in-codes);
   in-flags = omega (arith, r .in-flags);
   in-balances = omega (arith, r .in-balances);
-  in-limits = omega (arith, r .in-limits);
+  in-sublimits = omega (arith, r .in-sublimits);
 }
 
 -- counts in range, and rows that hold them
@@ -83,7 +83,7 @@ pub record Holding (n m s a b c d : ℕ) : Type 0 where
   pub in-codes : m ≤ a
   pub in-flags : m ≤ b
   pub in-balances : m ≤ c
-  pub in-limits : m ≤ d
+  pub in-sublimits : m ≤ d
 
 pub holding : (k : Book) (s a b c d : ℕ) → holdingRows k s a b c d ≡ true → Holding (k .streams) (k .banks) s a b c d
 unfolding holdingRows holdingColumns
@@ -104,7 +104,7 @@ holding k s a b c d h =
       in-codes = leb-true m a (t .0);
       in-flags = leb-true m b (u .0);
       in-balances = leb-true m c (v .0);
-      in-limits = leb-true m d (v .1);
+      in-sublimits = leb-true m d (v .1);
     }
 
 -- each return of the writing

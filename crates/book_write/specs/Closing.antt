@@ -30,7 +30,7 @@ streamBytes x = shortText (x .code) ++ (x .sender % 256 ∷ 0 ∷ 0 ∷ 0 ∷ []
 -- "bank 4, flag 0 active or 1 suspended, stream bits (1 is the first stream), two zeros, balance 8, sub-limit 8"
 unfoldable pub bankBytes : Bank → List ℕ
 bankBytes b =
-    ((shortText (b .code) ++ (b .flags % 2 ∷ b .flags / 2 % 256 ∷ 0 ∷ 0 ∷ [])) ++ littleOf 8 (b .balance)) ++ littleOf 8 (b .limit)
+    ((shortText (b .code) ++ (b .flags % 2 ∷ b .flags / 2 % 256 ∷ 0 ∷ 0 ∷ [])) ++ littleOf 8 (b .balance)) ++ littleOf 8 (b .sublimit)
 
 -- the bytes of one after another
 abbrev pub joined : {A : Type 0} → (A → List ℕ) → List A → List ℕ
@@ -77,35 +77,35 @@ abbrev pub streamOf : List ℕ → ℕ → Stream
 streamOf row i = record { code = getD row (2 * i) 0; sender = getD row (2 * i + 1) 0 }
 
 abbrev pub bankOf : List ℕ → List ℕ → List ℕ → List ℕ → ℕ → Bank
-bankOf codes flags balances limits i =
-    record { code = getD codes i 0; flags = getD flags i 0; balance = getD balances i 0; limit = getD limits i 0 }
+bankOf codes flags balances sublimits i =
+    record { code = getD codes i 0; flags = getD flags i 0; balance = getD balances i 0; sublimit = getD sublimits i 0 }
 
 -- columns that hold n banks
-pub record Reaching (n : ℕ) (codes flags balances limits : List ℕ) : Type 0 where
+pub record Reaching (n : ℕ) (codes flags balances sublimits : List ℕ) : Type 0 where
   pub in-codes : n ≤ length codes
   pub in-flags : n ≤ length flags
   pub in-balances : n ≤ length balances
-  pub in-limits : n ≤ length limits
+  pub in-sublimits : n ≤ length sublimits
 
 unfoldable pub streamsOf : Rows → ℕ → List Stream
 streamsOf t n = each (streamOf (t .streams)) 0 n
 
 unfoldable pub banksOf : Rows → ℕ → List Bank
-banksOf t n = each (bankOf (t .codes) (t .flags) (t .balances) (t .limits)) 0 n
+banksOf t n = each (bankOf (t .codes) (t .flags) (t .balances) (t .sublimits)) 0 n
 
 -- columns, by their lengths, that hold m banks; 1 to 8 streams and 1 to 64 banks, and rows that hold them
 unfoldable pub holdingColumns : ℕ → ℕ → ℕ → ℕ → ℕ → Bool
-holdingColumns m codes flags balances limits = leb m codes && (leb m flags && (leb m balances && leb m limits))
+holdingColumns m codes flags balances sublimits = leb m codes && (leb m flags && (leb m balances && leb m sublimits))
 
 unfoldable pub holdingRows : Book → ℕ → ℕ → ℕ → ℕ → ℕ → Bool
-holdingRows b streams codes flags balances limits =
+holdingRows b streams codes flags balances sublimits =
     within 1 8 (b .streams)
     && (within 1 64 (b .banks)
-    && (leb (2 * b .streams) streams && holdingColumns (b .banks) codes flags balances limits))
+    && (leb (2 * b .streams) streams && holdingColumns (b .banks) codes flags balances sublimits))
 
 abbrev pub holds : Book → Rows → Bool
 holds b t =
-    holdingRows b (length (t .streams)) (length (t .codes)) (length (t .flags)) (length (t .balances)) (length (t .limits))
+    holdingRows b (length (t .streams)) (length (t .codes)) (length (t .flags)) (length (t .balances)) (length (t .sublimits))
 
 -- what a buffer holds after a writing, and the answer
 pub record Made : Type 0 where

@@ -64,9 +64,9 @@ fn put_stream(out: &mut [u8], at: usize, code: u64, sender: u64)
 }
 
 // A bank's entry.
-fn put_bank(out: &mut [u8], at: usize, code: u64, flags: u64, balance: u64, limit: u64)
+fn put_bank(out: &mut [u8], at: usize, code: u64, flags: u64, balance: u64, sublimit: u64)
     requires { ⌜ at ≤ 4096 ⌝ }
-    ensures { λ _. ⌜ now (out .exit) ≡ sets (now (out .entry)) at (bankBytes (record { code = code; flags = flags; balance = balance; limit = limit })) ⌝ }
+    ensures { λ _. ⌜ now (out .exit) ≡ sets (now (out .entry)) at (bankBytes (record { code = code; flags = flags; balance = balance; sublimit = sublimit })) ⌝ }
 {
     text_put::short_code(out, at, code);
     text_put::bytes(
@@ -75,7 +75,7 @@ fn put_bank(out: &mut [u8], at: usize, code: u64, flags: u64, balance: u64, limi
         &[(flags % 2) as u8, (flags / 2 % 256) as u8, 0, 0],
     );
     put_little(out, at + 8, balance, 8);
-    put_little(out, at + 16, limit, 8);
+    put_little(out, at + 16, sublimit, 8);
 }
 
 // The check of the block at a place.
@@ -120,13 +120,13 @@ fn put_banks(
     codes: &[u64],
     flags: &[u64],
     balances: &[u64],
-    limits: &[u64],
+    sublimits: &[u64],
     from: usize,
     n: usize,
 )
     requires { ⌜ (at ≤ 2600) × (n ≤ 20) ⌝ }
-    requires { ⌜ Reaching (from + n) (now codes) (now flags) (now balances) (now limits) ⌝ }
-    ensures { λ _. ⌜ now (out .exit) ≡ sets (now (out .entry)) at (joined bankBytes (each (bankOf (now (codes .entry)) (now (flags .entry)) (now (balances .entry)) (now (limits .entry))) from n)) ⌝ }
+    requires { ⌜ Reaching (from + n) (now codes) (now flags) (now balances) (now sublimits) ⌝ }
+    ensures { λ _. ⌜ now (out .exit) ≡ sets (now (out .entry)) at (joined bankBytes (each (bankOf (now (codes .entry)) (now (flags .entry)) (now (balances .entry)) (now (sublimits .entry))) from n)) ⌝ }
 {
     let mut i = 0;
     while i < n {
@@ -137,7 +137,7 @@ fn put_banks(
             codes[b],
             flags[b],
             balances[b],
-            limits[b],
+            sublimits[b],
         );
         i += 1;
     }
@@ -176,13 +176,13 @@ fn put_bank_block(
     codes: &[u64],
     flags: &[u64],
     balances: &[u64],
-    limits: &[u64],
+    sublimits: &[u64],
     from: usize,
     n: usize,
 )
     requires { ⌜ (blocks ≤ 5) × (k < 5) × (n ≤ 20) × (512 * k + 512 ≤ length (now out)) ⌝ }
-    requires { ⌜ Reaching (from + n) (now codes) (now flags) (now balances) (now limits) ⌝ }
-    ensures { λ _. ⌜ now (out .exit) ≡ sets (now (out .entry)) (512 * k) (bankBlock blocks k (each (bankOf (now (codes .entry)) (now (flags .entry)) (now (balances .entry)) (now (limits .entry))) from n)) ⌝ }
+    requires { ⌜ Reaching (from + n) (now codes) (now flags) (now balances) (now sublimits) ⌝ }
+    ensures { λ _. ⌜ now (out .exit) ≡ sets (now (out .entry)) (512 * k) (bankBlock blocks k (each (bankOf (now (codes .entry)) (now (flags .entry)) (now (balances .entry)) (now (sublimits .entry))) from n)) ⌝ }
 {
     let at = Book::BLOCK * k;
     text_put::bytes(
@@ -205,7 +205,7 @@ fn put_bank_block(
         codes,
         flags,
         balances,
-        limits,
+        sublimits,
         from,
         n,
     );
@@ -219,12 +219,12 @@ fn put_bank_blocks(
     codes: &[u64],
     flags: &[u64],
     balances: &[u64],
-    limits: &[u64],
+    sublimits: &[u64],
     banks: usize,
 )
     requires { ⌜ (blocks ≡ blocksFor banks) × (banks ≤ 64) × (512 * blocks ≤ length (now out)) ⌝ }
-    requires { ⌜ Reaching banks (now codes) (now flags) (now balances) (now limits) ⌝ }
-    ensures { λ _. ⌜ now (out .exit) ≡ sets (now (out .entry)) 512 (bankBlocksOf blocks 1 (blocks - 1) (each (bankOf (now (codes .entry)) (now (flags .entry)) (now (balances .entry)) (now (limits .entry))) 0 banks)) ⌝ }
+    requires { ⌜ Reaching banks (now codes) (now flags) (now balances) (now sublimits) ⌝ }
+    ensures { λ _. ⌜ now (out .exit) ≡ sets (now (out .entry)) 512 (bankBlocksOf blocks 1 (blocks - 1) (each (bankOf (now (codes .entry)) (now (flags .entry)) (now (balances .entry)) (now (sublimits .entry))) 0 banks)) ⌝ }
 {
     let mut k = 1;
     while k < blocks {
@@ -236,7 +236,7 @@ fn put_bank_blocks(
             codes,
             flags,
             balances,
-            limits,
+            sublimits,
             from,
             in_block(banks - from),
         );
@@ -262,9 +262,9 @@ fn rows_hold(
     codes: usize,
     flags: usize,
     balances: usize,
-    limits: usize,
+    sublimits: usize,
 ) -> bool
-    ensures { λ r. ⌜ r ≡ holdingRows book streams codes flags balances limits ⌝ }
+    ensures { λ r. ⌜ r ≡ holdingRows book streams codes flags balances sublimits ⌝ }
 {
     let n = book.streams;
     let m = book.banks;
@@ -283,12 +283,12 @@ fn rows_hold(
     if streams < 2 * n {
         return false;
     }
-    columns_hold(m, codes, flags, balances, limits)
+    columns_hold(m, codes, flags, balances, sublimits)
 }
 
 // Whether columns of these lengths hold m banks.
-fn columns_hold(m: usize, codes: usize, flags: usize, balances: usize, limits: usize) -> bool
-    ensures { λ r. ⌜ r ≡ holdingColumns m codes flags balances limits ⌝ }
+fn columns_hold(m: usize, codes: usize, flags: usize, balances: usize, sublimits: usize) -> bool
+    ensures { λ r. ⌜ r ≡ holdingColumns m codes flags balances sublimits ⌝ }
 {
     if codes < m {
         return false;
@@ -299,7 +299,7 @@ fn columns_hold(m: usize, codes: usize, flags: usize, balances: usize, limits: u
     if balances < m {
         return false;
     }
-    m <= limits
+    m <= sublimits
 }
 
 // The closing book of a day: its date, and the streams and banks of the rows, as many as `book` says.
@@ -311,9 +311,9 @@ pub fn write(
     codes: &[u64],
     flags: &[u64],
     balances: &[u64],
-    limits: &[u64],
+    sublimits: &[u64],
 ) -> Writing
-    ensures { λ r. ⌜ record { out = now (out .exit); answer = r } ≡ writeBook (now (out .entry)) book (rowsOf (now (streams .entry)) (now (codes .entry)) (now (flags .entry)) (now (balances .entry)) (now (limits .entry))) ⌝ }
+    ensures { λ r. ⌜ record { out = now (out .exit); answer = r } ≡ writeBook (now (out .entry)) book (rowsOf (now (streams .entry)) (now (codes .entry)) (now (flags .entry)) (now (balances .entry)) (now (sublimits .entry))) ⌝ }
 {
     if !rows_hold(
         book,
@@ -321,7 +321,7 @@ pub fn write(
         codes.len(),
         flags.len(),
         balances.len(),
-        limits.len(),
+        sublimits.len(),
     ) {
         return Writing::Unwritten(Refusal::BrokenTables);
     }
@@ -331,6 +331,6 @@ pub fn write(
         return Writing::Unwritten(Refusal::ShortBuffer);
     }
     put_stream_block(out, book.day, streams, book.streams, blocks);
-    put_bank_blocks(out, blocks, codes, flags, balances, limits, banks);
+    put_bank_blocks(out, blocks, codes, flags, balances, sublimits, banks);
     Writing::Written(Book::BLOCK * blocks)
 }

@@ -7,14 +7,14 @@ use mathlib.Core.List.{List, [], _∷_, map}
 use lib.ListN.{length, getD, set, take, length-set, length-map}
 use Rattle.tables.specs.House.{Lengths}
 use Rattle.call_records.specs.declared.Account.{Account}
-use Rattle.call_records.specs.Records.{codesOf, flagsOf, balancesOf, limitsOf, Columns}
+use Rattle.call_records.specs.Records.{codesOf, flagsOf, balancesOf, sublimitsOf, Columns}
 use Rattle.call_records.proofs.Rows.{none, column, field-stored, whole-row}
 use Rattle.c_engine.specs.Lending.{banksIn, bankWords}
 
 -- ---- record i is made of the words from 4 i on
 
 abbrev pub bankOf : List ℕ → ℕ → Account
-bankOf w i = record { code = getD w (4 * i + 0) 0; flags = getD w (4 * i + 1) 0; balance = getD w (4 * i + 2) 0; limit = getD w (4 * i + 3) 0 }
+bankOf w i = record { code = getD w (4 * i + 0) 0; flags = getD w (4 * i + 1) 0; balance = getD w (4 * i + 2) 0; sublimit = getD w (4 * i + 3) 0 }
 
 behind : (i k : ℕ) → 4 * suc i + k ≡ suc (suc (suc (suc (4 * i + k))))
 behind i k = omega arith
@@ -30,7 +30,7 @@ bank-at (suc i) (a ∷ b ∷ c ∷ d ∷ w) h = rw (behind i 0, behind i 1, behi
 
 -- its words, stored
 abbrev stored : List ℕ → ℕ → Account → List ℕ
-stored w i a = set (set (set (set w (4 * i + 0) (a .code)) (4 * i + 1) (a .flags)) (4 * i + 2) (a .balance)) (4 * i + 3) (a .limit)
+stored w i a = set (set (set (set w (4 * i + 0) (a .code)) (4 * i + 1) (a .flags)) (4 * i + 2) (a .balance)) (4 * i + 3) (a .sublimit)
 
 bank-stored : (i : ℕ) (w : List ℕ) (a : Account) → 4 * i + 3 < length w → banksIn (stored w i a) ≡ set (banksIn w) i a
 unfolding banksIn
@@ -41,7 +41,7 @@ bank-stored i (a ∷ b ∷ c ∷ []) x h = absurd (omega arith)
 bank-stored zero (a ∷ b ∷ c ∷ d ∷ w) x h = refl
 bank-stored (suc i) (a ∷ b ∷ c ∷ d ∷ w) x h =
     rw (behind i 0, behind i 1, behind i 2, behind i 3)
-    (ap (λ (l : List Account). record { code = a; flags = b; balance = c; limit = d } ∷ l) (bank-stored i w x (omega arith)))
+    (ap (λ (l : List Account). record { code = a; flags = b; balance = c; sublimit = d } ∷ l) (bank-stored i w x (omega arith)))
 
 banks-length : (n : ℕ) (w : List ℕ) → length w ≡ 4 * n → length (banksIn w) ≡ n
 unfolding banksIn
@@ -80,14 +80,14 @@ unfolding bankWords
 bank-words-long [] = refl
 bank-words-long (a ∷ row) = omega (arith, bank-words-long row)
 
-pub columns-long : (w : List ℕ) → length w ≡ 256 → Lengths (codesOf (banksIn w)) (flagsOf (banksIn w)) (balancesOf (banksIn w)) (limitsOf (banksIn w))
+pub columns-long : (w : List ℕ) → length w ≡ 256 → Lengths (codesOf (banksIn w)) (flagsOf (banksIn w)) (balancesOf (banksIn w)) (sublimitsOf (banksIn w))
 columns-long w h =
     let long : (f : Account → ℕ) → length (map f (banksIn w)) ≡ 64 = λ f. length-map (banksIn w) f ∙ banks-long w h in
     record {
       codes-long = long (λ (a : Account). a .code);
       flags-long = long (λ (a : Account). a .flags);
       balances-long = long (λ (a : Account). a .balance);
-      limits-long = long (λ (a : Account). a .limit);
+      sublimits-long = long (λ (a : Account). a .sublimit);
     }
 
 -- ---- the columns, read
@@ -101,20 +101,20 @@ module _ (f : Account → ℕ) (w : List ℕ) (long : length w ≡ 256) where
   column-end : (zs : List ℕ) (i : ℕ) → i ≡ 64 → length zs ≡ 64 → take i zs ≡ take i (map f (banksIn w)) → zs ≡ map f (banksIn w)
   column-end zs i h l e = whole-row i zs (map f (banksIn w)) h l (length-map (banksIn w) f ∙ banks-long w long) e
 
-pub record Loading (w : List ℕ) (i : ℕ) (codes flags balances limits : List ℕ) : Type 0 where
+pub record Loading (w : List ℕ) (i : ℕ) (codes flags balances sublimits : List ℕ) : Type 0 where
   pub few : i ≤ 64
-  pub long : Lengths codes flags balances limits
+  pub long : Lengths codes flags balances sublimits
   pub codes-so : take i codes ≡ take i (codesOf (banksIn w))
   pub flags-so : take i flags ≡ take i (flagsOf (banksIn w))
   pub balances-so : take i balances ≡ take i (balancesOf (banksIn w))
-  pub limits-so : take i limits ≡ take i (limitsOf (banksIn w))
+  pub sublimits-so : take i sublimits ≡ take i (sublimitsOf (banksIn w))
 
-module _ (w codes flags balances limits : List ℕ) (long : length w ≡ 256) where
-  pub load-start : Lengths codes flags balances limits → Loading w 0 codes flags balances limits
-  load-start l = record { few = omega arith; long = l; codes-so = refl; flags-so = refl; balances-so = refl; limits-so = refl }
+module _ (w codes flags balances sublimits : List ℕ) (long : length w ≡ 256) where
+  pub load-start : Lengths codes flags balances sublimits → Loading w 0 codes flags balances sublimits
+  load-start l = record { few = omega arith; long = l; codes-so = refl; flags-so = refl; balances-so = refl; sublimits-so = refl }
 
-  pub load-turn : (i : ℕ) → i < 64 → Loading w i codes flags balances limits
-      → Loading w (i + 1) (set codes i (getD w (4 * i + 0) 0)) (set flags i (getD w (4 * i + 1) 0)) (set balances i (getD w (4 * i + 2) 0)) (set limits i (getD w (4 * i + 3) 0))
+  pub load-turn : (i : ℕ) → i < 64 → Loading w i codes flags balances sublimits
+      → Loading w (i + 1) (set codes i (getD w (4 * i + 0) 0)) (set flags i (getD w (4 * i + 1) 0)) (set balances i (getD w (4 * i + 2) 0)) (set sublimits i (getD w (4 * i + 3) 0))
   load-turn i h x =
       let l = x .long in
       record {
@@ -123,15 +123,15 @@ module _ (w codes flags balances limits : List ℕ) (long : length w ≡ 256) wh
           codes-long = simp length-set (l .codes-long);
           flags-long = simp length-set (l .flags-long);
           balances-long = simp length-set (l .balances-long);
-          limits-long = simp length-set (l .limits-long);
+          sublimits-long = simp length-set (l .sublimits-long);
         };
         codes-so = column-turn (λ (a : Account). a .code) w long codes i h (l .codes-long) (x .codes-so);
         flags-so = column-turn (λ (a : Account). a .flags) w long flags i h (l .flags-long) (x .flags-so);
         balances-so = column-turn (λ (a : Account). a .balance) w long balances i h (l .balances-long) (x .balances-so);
-        limits-so = column-turn (λ (a : Account). a .limit) w long limits i h (l .limits-long) (x .limits-so);
+        sublimits-so = column-turn (λ (a : Account). a .sublimit) w long sublimits i h (l .sublimits-long) (x .sublimits-so);
       }
 
-  pub load-end : (i : ℕ) → 64 ≤ i → Loading w i codes flags balances limits → Columns (banksIn w) codes flags balances limits
+  pub load-end : (i : ℕ) → 64 ≤ i → Loading w i codes flags balances sublimits → Columns (banksIn w) codes flags balances sublimits
   load-end i h x =
       let l = x .long in
       let e : i ≡ 64 = omega arith in
@@ -139,7 +139,7 @@ module _ (w codes flags balances limits : List ℕ) (long : length w ≡ 256) wh
         codes-are = column-end (λ (a : Account). a .code) w long codes i e (l .codes-long) (x .codes-so);
         flags-are = column-end (λ (a : Account). a .flags) w long flags i e (l .flags-long) (x .flags-so);
         balances-are = column-end (λ (a : Account). a .balance) w long balances i e (l .balances-long) (x .balances-so);
-        limits-are = column-end (λ (a : Account). a .limit) w long limits i e (l .limits-long) (x .limits-so);
+        sublimits-are = column-end (λ (a : Account). a .sublimit) w long sublimits i e (l .sublimits-long) (x .sublimits-so);
       }
 
 -- ---- and stored
@@ -152,37 +152,37 @@ module _ (f : Account → ℕ) (ws : List ℕ) (long : length ws ≡ 64) where
   field-end : (w : List ℕ) (i : ℕ) → length w ≡ 256 → i ≡ 64 → take i (map f (banksIn w)) ≡ take i ws → ws ≡ map f (banksIn w)
   field-end w i l h e = sym (whole-row i (map f (banksIn w)) ws h (length-map (banksIn w) f ∙ banks-long w l) long e)
 
-pub record Saving (w : List ℕ) (i : ℕ) (codes flags balances limits : List ℕ) : Type 0 where
+pub record Saving (w : List ℕ) (i : ℕ) (codes flags balances sublimits : List ℕ) : Type 0 where
   pub few : i ≤ 64
   pub long : length w ≡ 256
   pub codes-so : take i (codesOf (banksIn w)) ≡ take i codes
   pub flags-so : take i (flagsOf (banksIn w)) ≡ take i flags
   pub balances-so : take i (balancesOf (banksIn w)) ≡ take i balances
-  pub limits-so : take i (limitsOf (banksIn w)) ≡ take i limits
+  pub sublimits-so : take i (sublimitsOf (banksIn w)) ≡ take i sublimits
 
-module _ (w codes flags balances limits : List ℕ) (l : Lengths codes flags balances limits) where
-  pub save-start : length w ≡ 256 → Saving w 0 codes flags balances limits
-  save-start h = record { few = omega arith; long = h; codes-so = refl; flags-so = refl; balances-so = refl; limits-so = refl }
+module _ (w codes flags balances sublimits : List ℕ) (l : Lengths codes flags balances sublimits) where
+  pub save-start : length w ≡ 256 → Saving w 0 codes flags balances sublimits
+  save-start h = record { few = omega arith; long = h; codes-so = refl; flags-so = refl; balances-so = refl; sublimits-so = refl }
 
-  pub save-turn : (i : ℕ) → i < 64 → Saving w i codes flags balances limits
-      → Saving (set (set (set (set w (4 * i + 0) (getD codes i 0)) (4 * i + 1) (getD flags i 0)) (4 * i + 2) (getD balances i 0)) (4 * i + 3) (getD limits i 0)) (i + 1) codes flags balances limits
+  pub save-turn : (i : ℕ) → i < 64 → Saving w i codes flags balances sublimits
+      → Saving (set (set (set (set w (4 * i + 0) (getD codes i 0)) (4 * i + 1) (getD flags i 0)) (4 * i + 2) (getD balances i 0)) (4 * i + 3) (getD sublimits i 0)) (i + 1) codes flags balances sublimits
   save-turn i h x =
-      let a : Account = record { code = getD codes i 0; flags = getD flags i 0; balance = getD balances i 0; limit = getD limits i 0 } in
+      let a : Account = record { code = getD codes i 0; flags = getD flags i 0; balance = getD balances i 0; sublimit = getD sublimits i 0 } in
       record {
         few = omega arith;
         long = simp length-set (x .long);
         codes-so = field-turn (λ (b : Account). b .code) codes (l .codes-long) w i a (x .long) h refl (x .codes-so);
         flags-so = field-turn (λ (b : Account). b .flags) flags (l .flags-long) w i a (x .long) h refl (x .flags-so);
         balances-so = field-turn (λ (b : Account). b .balance) balances (l .balances-long) w i a (x .long) h refl (x .balances-so);
-        limits-so = field-turn (λ (b : Account). b .limit) limits (l .limits-long) w i a (x .long) h refl (x .limits-so);
+        sublimits-so = field-turn (λ (b : Account). b .sublimit) sublimits (l .sublimits-long) w i a (x .long) h refl (x .sublimits-so);
       }
 
-  pub save-end : (i : ℕ) → 64 ≤ i → Saving w i codes flags balances limits → Columns (banksIn w) codes flags balances limits
+  pub save-end : (i : ℕ) → 64 ≤ i → Saving w i codes flags balances sublimits → Columns (banksIn w) codes flags balances sublimits
   save-end i h x =
       let e : i ≡ 64 = omega arith in
       record {
         codes-are = field-end (λ (b : Account). b .code) codes (l .codes-long) w i (x .long) e (x .codes-so);
         flags-are = field-end (λ (b : Account). b .flags) flags (l .flags-long) w i (x .long) e (x .flags-so);
         balances-are = field-end (λ (b : Account). b .balance) balances (l .balances-long) w i (x .long) e (x .balances-so);
-        limits-are = field-end (λ (b : Account). b .limit) limits (l .limits-long) w i (x .long) e (x .limits-so);
+        sublimits-are = field-end (λ (b : Account). b .sublimit) sublimits (l .sublimits-long) w i (x .long) e (x .sublimits-so);
       }

@@ -21,7 +21,7 @@ no-tables : tablesBy noWords ≡ tablesOf cleared
 unfolding noWords banksIn
 no-tables =
     blank-tables (tablesBy noWords)
-    (record { codes-none = is-blank 64 _ refl; flags-none = is-blank 64 _ refl; balances-none = is-blank 64 _ refl; limits-none = is-blank 64 _ refl })
+    (record { codes-none = is-blank 64 _ refl; flags-none = is-blank 64 _ refl; balances-none = is-blank 64 _ refl; sublimits-none = is-blank 64 _ refl })
     (record { batches-none = is-blank 11168 _ refl; references-none = is-blank 6144 _ refl; bins-none = is-blank 1536 _ refl })
 
 long-tables : (x : EngineWords) → LongWords x → Long (tablesBy x)
@@ -31,7 +31,7 @@ long-tables x l =
       codes = c .codes-long;
       flags = c .flags-long;
       balances = c .balances-long;
-      limits = c .limits-long;
+      sublimits = c .sublimits-long;
       batches = l .batches-long;
       references = l .references-long;
       bins = l .bins-long;

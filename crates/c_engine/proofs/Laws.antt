@@ -31,15 +31,15 @@ use Rattle.c_engine.proofs.Banks.{bank-words-back}
 
 -- ---- a call on the banks' words is a call on their records
 
-module _ (d : Desk) (b codes flags balances limits t rs bs out r : List ℕ) (a : Asked) (n : Answer) (w k : ℕ) (d′ : Desk)
-    (b′ codes′ flags′ balances′ limits′ t′ rs′ bs′ out′ r′ : List ℕ) where
-  pub call-banks : Columns (banksIn b) codes flags balances limits
-      → Called (lentAs d (lentWith codes flags balances limits t rs bs) out r) a (leftAs n w k d′ (lentWith codes′ flags′ balances′ limits′ t′ rs′ bs′) out′ r′)
-      → Columns (banksIn b′) codes′ flags′ balances′ limits′
+module _ (d : Desk) (b codes flags balances sublimits t rs bs out r : List ℕ) (a : Asked) (n : Answer) (w k : ℕ) (d′ : Desk)
+    (b′ codes′ flags′ balances′ sublimits′ t′ rs′ bs′ out′ r′ : List ℕ) where
+  pub call-banks : Columns (banksIn b) codes flags balances sublimits
+      → Called (lentAs d (lentWith codes flags balances sublimits t rs bs) out r) a (leftAs n w k d′ (lentWith codes′ flags′ balances′ sublimits′ t′ rs′ bs′) out′ r′)
+      → Columns (banksIn b′) codes′ flags′ balances′ sublimits′
       → Called (lentAs d (tablesIn (banksIn b) t rs bs) out r) a (leftAs n w k d′ (tablesIn (banksIn b′) t′ rs′ bs′) out′ r′)
   call-banks x c y =
-      subst (λ (z : Tables). Called (lentAs d z out r) a (leftAs n w k d′ (tablesIn (banksIn b′) t′ rs′ bs′) out′ r′)) (tables-in (banksIn b) codes flags balances limits t rs bs x)
-      (subst (λ (z : Tables). Called (lentAs d (lentWith codes flags balances limits t rs bs) out r) a (leftAs n w k d′ z out′ r′)) (tables-in (banksIn b′) codes′ flags′ balances′ limits′ t′ rs′ bs′ y) c)
+      subst (λ (z : Tables). Called (lentAs d z out r) a (leftAs n w k d′ (tablesIn (banksIn b′) t′ rs′ bs′) out′ r′)) (tables-in (banksIn b) codes flags balances sublimits t rs bs x)
+      (subst (λ (z : Tables). Called (lentAs d (lentWith codes flags balances sublimits t rs bs) out r) a (leftAs n w k d′ z out′ r′)) (tables-in (banksIn b′) codes′ flags′ balances′ sublimits′ t′ rs′ bs′ y) c)
 
 -- ---- and what it leaves stands in the words
 

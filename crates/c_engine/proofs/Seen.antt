@@ -26,10 +26,10 @@ use Rattle.c_engine.proofs.Desks.{phase-small, streams-long, desk-back}
 
 -- ---- four columns of one length are the columns of their row
 
-columns-back : (codes flags balances limits : List ℕ) → length flags ≡ length codes → length balances ≡ length codes → length limits ≡ length codes
-    → Columns (rowOf codes flags balances limits) codes flags balances limits
+columns-back : (codes flags balances sublimits : List ℕ) → length flags ≡ length codes → length balances ≡ length codes → length sublimits ≡ length codes
+    → Columns (rowOf codes flags balances sublimits) codes flags balances sublimits
 unfolding rowOf
-columns-back [] [] [] [] h k m = record { codes-are = refl; flags-are = refl; balances-are = refl; limits-are = refl }
+columns-back [] [] [] [] h k m = record { codes-are = refl; flags-are = refl; balances-are = refl; sublimits-are = refl }
 columns-back [] [] [] (l ∷ ls) h k m = absurd (omega arith)
 columns-back [] [] (b ∷ bs) ls h k m = absurd (omega arith)
 columns-back [] (f ∷ fs) bs ls h k m = absurd (omega arith)
@@ -42,14 +42,14 @@ columns-back (c ∷ cs) (f ∷ fs) (b ∷ bs) (l ∷ ls) h k m =
       codes-are = ap (λ (z : List ℕ). c ∷ z) (r .codes-are);
       flags-are = ap (λ (z : List ℕ). f ∷ z) (r .flags-are);
       balances-are = ap (λ (z : List ℕ). b ∷ z) (r .balances-are);
-      limits-are = ap (λ (z : List ℕ). l ∷ z) (r .limits-are);
+      sublimits-are = ap (λ (z : List ℕ). l ∷ z) (r .sublimits-are);
     }
 
 -- ---- what a call leaves fits its words
 
 record Fitting (l : Lent) : Type 0 where
   streams : length (l .desk .streams) ≡ 16
-  columns : Lengths (l .tables .codes) (l .tables .flags) (l .tables .balances) (l .tables .limits)
+  columns : Lengths (l .tables .codes) (l .tables .flags) (l .tables .balances) (l .tables .sublimits)
 
 right-streams : (d : Desk) (t : Tables) → Right d t → length (d .streams) ≡ 16
 right-streams d t r = go (d .phase) (tables-exact d t .back r)
@@ -74,20 +74,20 @@ module _ (x : Words) (a : Asked) (shape : InShape x) where
           let l = right-long (y .lent .desk) (y .lent .tables) q in
           record {
             streams = right-streams (y .lent .desk) (y .lent .tables) q;
-            columns = record { codes-long = l .codes; flags-long = l .flags; balances-long = l .balances; limits-long = l .limits };
+            columns = record { codes-long = l .codes; flags-long = l .flags; balances-long = l .balances; sublimits-long = l .sublimits };
           }
       go false r e = subst (λ (z : Left). Fitting (z .lent)) (sym e) lent-fits
 
 -- ---- and is read back from them
 
-row-columns : (t : Tables) → Lengths (t .codes) (t .flags) (t .balances) (t .limits) → Columns (rowIn t) (t .codes) (t .flags) (t .balances) (t .limits)
-row-columns t l = columns-back (t .codes) (t .flags) (t .balances) (t .limits) (omega arith) (omega arith) (omega arith)
+row-columns : (t : Tables) → Lengths (t .codes) (t .flags) (t .balances) (t .sublimits) → Columns (rowIn t) (t .codes) (t .flags) (t .balances) (t .sublimits)
+row-columns t l = columns-back (t .codes) (t .flags) (t .balances) (t .sublimits) (omega arith) (omega arith) (omega arith)
 
 lent-back : (x : Words) (y : Left) → Fitting (y .lent) → lentIn (returned x y .words) ≡ y .lent
 lent-back x y f =
     let t = y .lent .tables in
     let e : tablesIn (rowIn t) (t .batches) (t .references) (t .bins) ≡ t =
-    sym (tables-in (rowIn t) (t .codes) (t .flags) (t .balances) (t .limits) (t .batches) (t .references) (t .bins) (row-columns t (f .columns)))
+    sym (tables-in (rowIn t) (t .codes) (t .flags) (t .balances) (t .sublimits) (t .batches) (t .references) (t .bins) (row-columns t (f .columns)))
     in
     rw (desk-back (y .lent .desk) (f .streams), banks-back (rowIn t), e)
 

@@ -58,11 +58,11 @@ banksIn [] = []
 banksIn (a ∷ []) = []
 banksIn (a ∷ b ∷ []) = []
 banksIn (a ∷ b ∷ c ∷ []) = []
-banksIn (a ∷ b ∷ c ∷ d ∷ w) = record { code = a; flags = b; balance = c; limit = d } ∷ banksIn w
+banksIn (a ∷ b ∷ c ∷ d ∷ w) = record { code = a; flags = b; balance = c; sublimit = d } ∷ banksIn w
 
 unfoldable pub bankWords : List Account → List ℕ
 bankWords [] = []
-bankWords (a ∷ row) = a .code ∷ a .flags ∷ a .balance ∷ a .limit ∷ bankWords row
+bankWords (a ∷ row) = a .code ∷ a .flags ∷ a .balance ∷ a .sublimit ∷ bankWords row
 
 -- ---- all that is lent
 

@@ -178,11 +178,11 @@ fn load(
     codes: &mut [u64],
     flags: &mut [u64],
     balances: &mut [u64],
-    limits: &mut [u64],
+    sublimits: &mut [u64],
 )
     requires { ⌜ length (now banks) ≡ 256 ⌝ }
-    requires { ⌜ Lengths (now codes) (now flags) (now balances) (now limits) ⌝ }
-    ensures { λ _. ⌜ Columns (banksIn (now (banks .entry))) (now (codes .exit)) (now (flags .exit)) (now (balances .exit)) (now (limits .exit)) ⌝ }
+    requires { ⌜ Lengths (now codes) (now flags) (now balances) (now sublimits) ⌝ }
+    ensures { λ _. ⌜ Columns (banksIn (now (banks .entry))) (now (codes .exit)) (now (flags .exit)) (now (balances .exit)) (now (sublimits .exit)) ⌝ }
 {
     let mut i = 0;
     while i < BANKS {
@@ -190,16 +190,16 @@ fn load(
         codes[i] = banks[bank + BANK_CODE];
         flags[i] = banks[bank + BANK_FLAGS];
         balances[i] = banks[bank + BANK_BALANCE];
-        limits[i] = banks[bank + BANK_SUBLIMIT];
+        sublimits[i] = banks[bank + BANK_SUBLIMIT];
         i += 1;
     }
 }
 
 // The columns, stored back into the banks.
-fn save(banks: &mut [u64], codes: &[u64], flags: &[u64], balances: &[u64], limits: &[u64])
+fn save(banks: &mut [u64], codes: &[u64], flags: &[u64], balances: &[u64], sublimits: &[u64])
     requires { ⌜ length (now banks) ≡ 256 ⌝ }
-    requires { ⌜ Lengths (now codes) (now flags) (now balances) (now limits) ⌝ }
-    ensures { λ _. ⌜ Columns (banksIn (now (banks .exit))) (now (codes .entry)) (now (flags .entry)) (now (balances .entry)) (now (limits .entry)) ⌝ }
+    requires { ⌜ Lengths (now codes) (now flags) (now balances) (now sublimits) ⌝ }
+    ensures { λ _. ⌜ Columns (banksIn (now (banks .exit))) (now (codes .entry)) (now (flags .entry)) (now (balances .entry)) (now (sublimits .entry)) ⌝ }
 {
     let mut i = 0;
     while i < BANKS {
@@ -207,7 +207,7 @@ fn save(banks: &mut [u64], codes: &[u64], flags: &[u64], balances: &[u64], limit
         banks[bank + BANK_CODE] = codes[i];
         banks[bank + BANK_FLAGS] = flags[i];
         banks[bank + BANK_BALANCE] = balances[i];
-        banks[bank + BANK_SUBLIMIT] = limits[i];
+        banks[bank + BANK_SUBLIMIT] = sublimits[i];
         i += 1;
     }
 }
@@ -232,8 +232,8 @@ fn call_banks(
     let mut codes = [0u64; 64];
     let mut flags = [0u64; 64];
     let mut balances = [0u64; 64];
-    let mut limits = [0u64; 64];
-    load(banks, &mut codes, &mut flags, &mut balances, &mut limits);
+    let mut sublimits = [0u64; 64];
+    load(banks, &mut codes, &mut flags, &mut balances, &mut sublimits);
     let told = call::entry::call(
         quick,
         clock,
@@ -243,14 +243,14 @@ fn call_banks(
         &mut codes,
         &mut flags,
         &mut balances,
-        &mut limits,
+        &mut sublimits,
         batches,
         references,
         bins,
         out,
         tries,
     );
-    save(banks, &codes, &flags, &balances, &limits);
+    save(banks, &codes, &flags, &balances, &sublimits);
     told
 }
 

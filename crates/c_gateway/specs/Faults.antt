@@ -4,7 +4,7 @@ use mathlib.Core.List.{List, [], _∷_}
 use Rattle.chars.specs.Refusals.{numberOf}
 use Rattle.book_explain.specs.Faults.{refusalOf, bookFinding}
 use Rattle.book_explain.specs.declared.Flaw.{Flaw}
-use Rattle.book_explain.specs.declared.Flaw.the-variants.{WrongLength, WrongSum, WrongHead, WrongCount, UntrueDate, AfterDate, Unused, NoCode, NotAbove, NoAdministrator, WrongFlag, NoStream, EntryZeros, HighBalance, HighLimit, HighTotal}
+use Rattle.book_explain.specs.declared.Flaw.the-variants.{WrongLength, WrongSum, WrongHead, WrongCount, UntrueDate, AfterDate, Unused, NoCode, NotAbove, NoAdministrator, WrongFlag, NoStream, EntryZeros, HighBalance, HighSublimit, HighTotal}
 use Rattle.book_explain.specs.declared.Finding.{Finding}
 use Rattle.book_explain.specs.declared.Finding.the-variants.{Whole, Broken}
 use Rattle.c_gateway.specs.Rows.{numberIn, rowAfter}
@@ -25,7 +25,7 @@ flawNumber WrongFlag = 11
 flawNumber NoStream = 12
 flawNumber EntryZeros = 13
 flawNumber HighBalance = 14
-flawNumber HighLimit = 15
+flawNumber HighSublimit = 15
 flawNumber HighTotal = 16
 
 abbrev pub spotWords : (block entry test : ℕ) → List ℕ

@@ -70,7 +70,7 @@ fn flaw_number(f: Flaw) -> u64
         Flaw::NoStream => TEST_STREAM_BIT,
         Flaw::EntryZeros => TEST_ZEROS,
         Flaw::HighBalance => TEST_BALANCE,
-        Flaw::HighLimit => TEST_SUB_LIMIT,
+        Flaw::HighSublimit => TEST_SUB_LIMIT,
         Flaw::HighTotal => TEST_TOTAL,
     }
 }

@@ -26,7 +26,7 @@ pub fn work(
     codes: &[u64],
     flags: &[u64],
     balances: &mut [u64],
-    limits: &mut [u64],
+    sublimits: &mut [u64],
     batches: &mut [u64],
     references: &mut [u64],
     bins: &mut [u64],
@@ -38,8 +38,8 @@ pub fn work(
     out: &mut [u8],
     tries: &mut [u64],
 ) -> Report
-    requires { ⌜ Workable quick desk action (now input) (now codes) (now flags) (now balances) (now limits) (now batches) (now queue) nq (now pending) nw (now references) (now bins) (now memory) (now out) (now tries) ⌝ }
-    ensures { λ y. ⌜ Worked (middle desk (now (codes .entry)) (now (flags .entry)) (now (balances .entry)) (now (limits .entry)) (now (batches .entry)) (now (queue .entry)) nq (now (pending .entry)) nw (now (references .entry)) (now (bins .entry))) (actedIn desk action (now (input .entry)) (now (codes .entry)) (now (flags .entry)) (now (balances .entry)) (now (limits .entry)) (now (batches .entry)) (now (queue .entry)) nq (now (pending .entry)) nw (now (references .entry)) (now (bins .entry))) (testedIn quick desk action (now (input .entry)) (now (codes .entry)) (now (flags .entry)) (now (balances .entry)) (now (limits .entry)) (now (batches .entry)) (now (queue .entry)) nq (now (pending .entry)) nw (now (references .entry)) (now (bins .entry)) (now (memory .entry))) (now (out .entry)) (now (tries .entry)) (desk .texts) (y .answer) (now (balances .exit)) (now (limits .exit)) (now (batches .exit)) (now (queue .exit)) (y .queued) (now (pending .exit)) (y .pending) (now (references .exit)) (now (bins .exit)) (now (memory .exit)) (now (out .exit)) (y .at) (y .texts) (now (tries .exit)) (y .tried) ⌝ }
+    requires { ⌜ Workable quick desk action (now input) (now codes) (now flags) (now balances) (now sublimits) (now batches) (now queue) nq (now pending) nw (now references) (now bins) (now memory) (now out) (now tries) ⌝ }
+    ensures { λ y. ⌜ Worked (middle desk (now (codes .entry)) (now (flags .entry)) (now (balances .entry)) (now (sublimits .entry)) (now (batches .entry)) (now (queue .entry)) nq (now (pending .entry)) nw (now (references .entry)) (now (bins .entry))) (actedIn desk action (now (input .entry)) (now (codes .entry)) (now (flags .entry)) (now (balances .entry)) (now (sublimits .entry)) (now (batches .entry)) (now (queue .entry)) nq (now (pending .entry)) nw (now (references .entry)) (now (bins .entry))) (testedIn quick desk action (now (input .entry)) (now (codes .entry)) (now (flags .entry)) (now (balances .entry)) (now (sublimits .entry)) (now (batches .entry)) (now (queue .entry)) nq (now (pending .entry)) nw (now (references .entry)) (now (bins .entry)) (now (memory .entry))) (now (out .entry)) (now (tries .entry)) (desk .texts) (y .answer) (now (balances .exit)) (now (sublimits .exit)) (now (batches .exit)) (now (queue .exit)) (y .queued) (now (pending .exit)) (y .pending) (now (references .exit)) (now (bins .exit)) (now (memory .exit)) (now (out .exit)) (y .at) (y .texts) (now (tries .exit)) (y .tried) ⌝ }
 {
     let acted = acts::act(
         action,
@@ -47,7 +47,7 @@ pub fn work(
         input,
         codes,
         flags,
-        limits,
+        sublimits,
         batches,
         references,
         bins,
@@ -63,7 +63,7 @@ pub fn work(
         desk.date,
         desk.clock,
         balances,
-        limits,
+        sublimits,
         batches,
         memory,
         queue,

@@ -59,20 +59,20 @@ fn perform(
     codes: &mut [u64],
     flags: &mut [u64],
     balances: &mut [u64],
-    limits: &mut [u64],
+    sublimits: &mut [u64],
     batches: &mut [u64],
     references: &mut [u64],
     bins: &mut [u64],
     out: &mut [u8],
     tries: &mut [u64],
 ) -> Told
-    requires { ⌜ Performable desk (lentWith (now codes) (now flags) (now balances) (now limits) (now batches) (now references) (now bins)) clock action (now out) (now tries) ⌝ }
-    ensures { λ y. ⌜ leftAs (y .answer) (y .written) (y .tried) (y .desk) (lentWith (now (codes .exit)) (now (flags .exit)) (now (balances .exit)) (now (limits .exit)) (now (batches .exit)) (now (references .exit)) (now (bins .exit))) (now (out .exit)) (now (tries .exit)) ≡ leftBy (lentAs desk (lentWith (now (codes .entry)) (now (flags .entry)) (now (balances .entry)) (now (limits .entry)) (now (batches .entry)) (now (references .entry)) (now (bins .entry))) (now (out .entry)) (now (tries .entry))) (performed (kindOf action) (engineIn desk (lentWith (now (codes .entry)) (now (flags .entry)) (now (balances .entry)) (now (limits .entry)) (now (batches .entry)) (now (references .entry)) (now (bins .entry)))) (callFor quick clock action (now (input .entry)) (length (now (out .entry))) (length (now (tries .entry))))) ⌝ }
+    requires { ⌜ Performable desk (lentWith (now codes) (now flags) (now balances) (now sublimits) (now batches) (now references) (now bins)) clock action (now out) (now tries) ⌝ }
+    ensures { λ y. ⌜ leftAs (y .answer) (y .written) (y .tried) (y .desk) (lentWith (now (codes .exit)) (now (flags .exit)) (now (balances .exit)) (now (sublimits .exit)) (now (batches .exit)) (now (references .exit)) (now (bins .exit))) (now (out .exit)) (now (tries .exit)) ≡ leftBy (lentAs desk (lentWith (now (codes .entry)) (now (flags .entry)) (now (balances .entry)) (now (sublimits .entry)) (now (batches .entry)) (now (references .entry)) (now (bins .entry))) (now (out .entry)) (now (tries .entry))) (performed (kindOf action) (engineIn desk (lentWith (now (codes .entry)) (now (flags .entry)) (now (balances .entry)) (now (sublimits .entry)) (now (batches .entry)) (now (references .entry)) (now (bins .entry)))) (callFor quick clock action (now (input .entry)) (length (now (out .entry))) (length (now (tries .entry))))) ⌝ }
 {
     let kind = kind_of(action);
     match kind {
         Kind::Opens => {
-            let begun = call_day::open_day(desk, clock, codes, flags, balances, limits, input);
+            let begun = call_day::open_day(desk, clock, codes, flags, balances, sublimits, input);
             let answer = begun.answer;
             let opened = begun.desk;
             Told {
@@ -91,7 +91,7 @@ fn perform(
             codes,
             flags,
             balances,
-            limits,
+            sublimits,
             batches,
             references,
             bins,
@@ -99,7 +99,7 @@ fn perform(
             tries,
         ),
         Kind::Gives(date) => {
-            let written = call_day::give_book(desk, codes, flags, balances, limits, date, out);
+            let written = call_day::give_book(desk, codes, flags, balances, sublimits, date, out);
             let moved = tables::moment::moved(desk, clock);
             Told {
                 answer: Answer::Done,
@@ -121,21 +121,21 @@ pub fn call(
     codes: &mut [u64],
     flags: &mut [u64],
     balances: &mut [u64],
-    limits: &mut [u64],
+    sublimits: &mut [u64],
     batches: &mut [u64],
     references: &mut [u64],
     bins: &mut [u64],
     out: &mut [u8],
     tries: &mut [u64],
 ) -> Told
-    ensures { λ y. ⌜ Called (lentAs desk (lentWith (now (codes .entry)) (now (flags .entry)) (now (balances .entry)) (now (limits .entry)) (now (batches .entry)) (now (references .entry)) (now (bins .entry))) (now (out .entry)) (now (tries .entry))) (record { quick = quick; clock = clock; action = action; input = now (input .entry) }) (leftAs (y .answer) (y .written) (y .tried) (y .desk) (lentWith (now (codes .exit)) (now (flags .exit)) (now (balances .exit)) (now (limits .exit)) (now (batches .exit)) (now (references .exit)) (now (bins .exit))) (now (out .exit)) (now (tries .exit))) ⌝ }
+    ensures { λ y. ⌜ Called (lentAs desk (lentWith (now (codes .entry)) (now (flags .entry)) (now (balances .entry)) (now (sublimits .entry)) (now (batches .entry)) (now (references .entry)) (now (bins .entry))) (now (out .entry)) (now (tries .entry))) (record { quick = quick; clock = clock; action = action; input = now (input .entry) }) (leftAs (y .answer) (y .written) (y .tried) (y .desk) (lentWith (now (codes .exit)) (now (flags .exit)) (now (balances .exit)) (now (sublimits .exit)) (now (batches .exit)) (now (references .exit)) (now (bins .exit))) (now (out .exit)) (now (tries .exit))) ⌝ }
 {
     if !tables_rules::whole::tables_right(
         desk,
         codes,
         flags,
         balances,
-        limits,
+        sublimits,
         batches,
         references,
         bins,
@@ -154,7 +154,7 @@ pub fn call(
             codes,
             flags,
             balances,
-            limits,
+            sublimits,
             batches,
             references,
             bins,

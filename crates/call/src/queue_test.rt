@@ -18,7 +18,7 @@ pub fn test(
     date: u64,
     clock: u64,
     balances: &mut [u64],
-    limits: &[u64],
+    sublimits: &[u64],
     batches: &mut [u64],
     memory: &mut [u64],
     queue: &mut [u64],
@@ -28,15 +28,15 @@ pub fn test(
     out: &mut [u8],
     at: usize,
 ) -> Tested
-    requires { ⌜ Testable (now balances) (now limits) (now batches) (now memory) (now queue) nq (now tries) × Legible (now batches) ⌝ }
-    requires { ⌜ Room (now out) at texts (settledReplies (dayAt date clock) (batchesOn (now batches)) (outcomeOf quick (now balances) (now limits) (now batches) (now memory) (now queue) nq .done)) ⌝ }
-    ensures { λ r. ⌜ Ended (outcomeOf quick (now (balances .entry)) (now (limits .entry)) (now (batches .entry)) (now (memory .entry)) (now (queue .entry)) nq) (now (limits .entry)) (now (batches .entry)) (now (tries .entry)) (now (balances .exit)) (now (batches .exit)) (now (memory .exit)) (now (queue .exit)) (r .waiting) (now (tries .exit)) (r .tried) ⌝ }
-    ensures { λ r. ⌜ Wrote (now (out .entry)) at texts (settledReplies (dayAt date clock) (batchesOn (now (batches .entry))) (outcomeOf quick (now (balances .entry)) (now (limits .entry)) (now (batches .entry)) (now (memory .entry)) (now (queue .entry)) nq .done)) (now (out .exit)) (r .at) (r .texts) ⌝ }
+    requires { ⌜ Testable (now balances) (now sublimits) (now batches) (now memory) (now queue) nq (now tries) × Legible (now batches) ⌝ }
+    requires { ⌜ Room (now out) at texts (settledReplies (dayAt date clock) (batchesOn (now batches)) (outcomeOf quick (now balances) (now sublimits) (now batches) (now memory) (now queue) nq .done)) ⌝ }
+    ensures { λ r. ⌜ Ended (outcomeOf quick (now (balances .entry)) (now (sublimits .entry)) (now (batches .entry)) (now (memory .entry)) (now (queue .entry)) nq) (now (sublimits .entry)) (now (batches .entry)) (now (tries .entry)) (now (balances .exit)) (now (batches .exit)) (now (memory .exit)) (now (queue .exit)) (r .waiting) (now (tries .exit)) (r .tried) ⌝ }
+    ensures { λ r. ⌜ Wrote (now (out .entry)) at texts (settledReplies (dayAt date clock) (batchesOn (now (batches .entry))) (outcomeOf quick (now (balances .entry)) (now (sublimits .entry)) (now (batches .entry)) (now (memory .entry)) (now (queue .entry)) nq .done)) (now (out .exit)) (r .at) (r .texts) ⌝ }
 {
     let reached = queue::run(
         quick,
         balances,
-        limits,
+        sublimits,
         batches,
         memory,
         queue,

@@ -64,15 +64,15 @@ pub fn step(
     codes: &[u64],
     flags: &[u64],
     balances: &mut [u64],
-    limits: &mut [u64],
+    sublimits: &mut [u64],
     batches: &mut [u64],
     references: &mut [u64],
     bins: &mut [u64],
     out: &mut [u8],
     tries: &mut [u64],
 ) -> Told
-    requires { ⌜ Steppable desk (lentWith (now codes) (now flags) (now balances) (now limits) (now batches) (now references) (now bins)) clock action (now out) (now tries) ⌝ }
-    ensures { λ y. ⌜ leftAs (y .answer) (y .written) (y .tried) (y .desk) (lentWith (now (codes .entry)) (now (flags .entry)) (now (balances .exit)) (now (limits .exit)) (now (batches .exit)) (now (references .exit)) (now (bins .exit))) (now (out .exit)) (now (tries .exit)) ≡ leftBy (lentAs desk (lentWith (now (codes .entry)) (now (flags .entry)) (now (balances .entry)) (now (limits .entry)) (now (batches .entry)) (now (references .entry)) (now (bins .entry))) (now (out .entry)) (now (tries .entry))) (stepped (engineIn desk (lentWith (now (codes .entry)) (now (flags .entry)) (now (balances .entry)) (now (limits .entry)) (now (batches .entry)) (now (references .entry)) (now (bins .entry)))) (callFor quick clock action (now (input .entry)) (length (now (out .entry))) (length (now (tries .entry))))) ⌝ }
+    requires { ⌜ Steppable desk (lentWith (now codes) (now flags) (now balances) (now sublimits) (now batches) (now references) (now bins)) clock action (now out) (now tries) ⌝ }
+    ensures { λ y. ⌜ leftAs (y .answer) (y .written) (y .tried) (y .desk) (lentWith (now (codes .entry)) (now (flags .entry)) (now (balances .exit)) (now (sublimits .exit)) (now (batches .exit)) (now (references .exit)) (now (bins .exit))) (now (out .exit)) (now (tries .exit)) ≡ leftBy (lentAs desk (lentWith (now (codes .entry)) (now (flags .entry)) (now (balances .entry)) (now (sublimits .entry)) (now (batches .entry)) (now (references .entry)) (now (bins .entry))) (now (out .entry)) (now (tries .entry))) (stepped (engineIn desk (lentWith (now (codes .entry)) (now (flags .entry)) (now (balances .entry)) (now (sublimits .entry)) (now (batches .entry)) (now (references .entry)) (now (bins .entry)))) (callFor quick clock action (now (input .entry)) (length (now (out .entry))) (length (now (tries .entry))))) ⌝ }
 {
     let mut queue = [0u64; 64];
     let mut pending = [0u64; 64];
@@ -87,7 +87,7 @@ pub fn step(
         codes,
         flags,
         balances,
-        limits,
+        sublimits,
         batches,
         references,
         bins,

@@ -1,3 +1,3 @@
-pub mod LimitLaws
+pub mod SublimitLaws
 pub mod DebitLaws
 pub mod StatusLaws

@@ -35,7 +35,7 @@ use Rattle.call_orders.proofs.LetterLaws.{HasLetters, batchWith, row-relettered
 use Rattle.call_plan.specs.rules.Steps.{banksHouse, batchAt}
 use Rattle.call_plan.proofs.rules.LiveRows.{not-free, live-word, word-live, neat-row, row-counted, placed-became}
 use Rattle.call_change.specs.Changing.{Changed, AllCounted, debitOn}
-use Rattle.call_change.proofs.LimitLaws.{untouched-so, bank-there}
+use Rattle.call_change.proofs.SublimitLaws.{untouched-so, bank-there}
 use Rattle.call_change.proofs.DebitLaws.{Waits, waits-at}
 
 -- ---- what the rules say of a live batch
@@ -148,11 +148,11 @@ module _ (banks : ℕ) (codes : List ℕ) (t q : List ℕ) (nq : ℕ) (w : List 
   Leaves m f =
       Ready t q nq w nw
       × ((s : State) → s .house .banks ≡ banks → s .house .codes ≡ codes → s .batches ≡ seen t q nq w nw
-      → Changed s (status s code bin letter) (Refused f) (seen t q nq w nw) (s .books .limits) m m)
+      → Changed s (status s code bin letter) (Refused f) (seen t q nq w nw) (s .books .sublimits) m m)
 
   leaves : (m : List ℕ) (f : Refusal)
       → ((s : State) → s .house .banks ≡ banks → s .house .codes ≡ codes → s .batches ≡ seen t q nq w nw → status s code bin letter ≡ untouched s f) → Leaves m f
-  leaves m f h = (pre .0, λ s b c e. rw (h s b c e, sym e) (untouched-so s f (s .books .limits) m refl))
+  leaves m f h = (pre .0, λ s b c e. rw (h s b c e, sym e) (untouched-so s f (s .books .sublimits) m refl))
 
   pub wrong-letter : (m : List ℕ) → not v ≡ true → Leaves m WrongEsa
   unfolding status
@@ -193,7 +193,7 @@ module _ (banks : ℕ) (codes : List ℕ) (t q : List ℕ) (nq : ℕ) (w : List 
             → (m′ : List ℕ) → m′ ≡ set m p 0
             → Ready t′ q nq w nw
             × ((s : State) → s .house .banks ≡ banks → s .house .codes ≡ codes → s .batches ≡ seen t q nq w nw
-            → Changed s (status s code bin letter) Done (seen t′ q nq w nw) (s .books .limits) m m′)
+            → Changed s (status s code bin letter) Done (seen t′ q nq w nw) (s .books .sublimits) m m′)
         unfolding woken
         changes m t′ l i m′ j =
             let z = relettered-became banks t q nq w nw (pre .0) (pre .1) k letter p (waits .below) (waits .there) is-letter t′ l i in (

@@ -15,10 +15,10 @@ use Rattle.tables.specs.Rows.{word, batchRows}
 use Rattle.call_plan.specs.rules.Steps.{Counted}
 
 -- what a change leaves stands in the batches b, in the sub-limits and in the memory; all else is as it was, and there is no text
-pub record Changed (s : State) (a : Acted) (answer : Answer) (b : Batches) (limits m m′ : List ℕ) : Type 0 where
+pub record Changed (s : State) (a : Acted) (answer : Answer) (b : Batches) (sublimits m m′ : List ℕ) : Type 0 where
   pub answered : answer ≡ a .answer
   pub batches : b ≡ a .batches
-  pub books : accounts (s .books .balances) limits ≡ a .books
+  pub books : accounts (s .books .balances) sublimits ≡ a .books
   pub known : a .known ≡ s .known
   pub replies : a .replies ≡ []
   pub memory : m′ ≡ woken (a .wakes) m

@@ -20,13 +20,13 @@ ghost use Rattle.call_change.specs.Changing.{Changed};
 pub fn sub_limit(
     codes: &[u64],
     banks: usize,
-    limits: &mut [u64],
+    sublimits: &mut [u64],
     memory: &mut [u64],
     code: u64,
     cents: u64,
 ) -> Answer
-    requires { ⌜ (banks ≤ length (now codes)) × (banks ≤ length (now limits)) ⌝ }
-    ensures { λ r. ⌜ ((s : State) → s .house .banks ≡ banks → s .house .codes ≡ now (codes .entry) → s .books .limits ≡ now (limits .entry) → Changed s (subLimit s code cents) r (s .batches) (now (limits .exit)) (now (memory .entry)) (now (memory .exit))) ⌝ }
+    requires { ⌜ (banks ≤ length (now codes)) × (banks ≤ length (now sublimits)) ⌝ }
+    ensures { λ r. ⌜ ((s : State) → s .house .banks ≡ banks → s .house .codes ≡ now (codes .entry) → s .books .sublimits ≡ now (sublimits .entry) → Changed s (subLimit s code cents) r (s .batches) (now (sublimits .exit)) (now (memory .entry)) (now (memory .exit))) ⌝ }
 {
     let found = places::bank_place(codes, banks, code);
     let Sought::Here(bank) = found else {
@@ -35,7 +35,7 @@ pub fn sub_limit(
     if Bank::RICHEST < cents {
         return Answer::Refused(Refusal::OutOfRange);
     }
-    limits[bank] = cents;
+    sublimits[bank] = cents;
     queue::wake_bank(memory, bank as u64);
     Answer::Done
 }
@@ -56,7 +56,7 @@ pub fn status(
     letter: u64,
 ) -> Answer
     requires { ⌜ Ready (now batches) (now queue) nq (now pending) nw × Stood banks (seen (now batches) (now queue) nq (now pending) nw) × (banks ≤ length (now codes)) ⌝ }
-    ensures { λ r. ⌜ Ready (now (batches .exit)) (now (queue .entry)) nq (now (pending .entry)) nw × ((s : State) → s .house .banks ≡ banks → s .house .codes ≡ now (codes .entry) → s .batches ≡ seen (now (batches .entry)) (now (queue .entry)) nq (now (pending .entry)) nw → Changed s (status s code bin letter) r (seen (now (batches .exit)) (now (queue .entry)) nq (now (pending .entry)) nw) (s .books .limits) (now (memory .entry)) (now (memory .exit))) ⌝ }
+    ensures { λ r. ⌜ Ready (now (batches .exit)) (now (queue .entry)) nq (now (pending .entry)) nw × ((s : State) → s .house .banks ≡ banks → s .house .codes ≡ now (codes .entry) → s .batches ≡ seen (now (batches .entry)) (now (queue .entry)) nq (now (pending .entry)) nw → Changed s (status s code bin letter) r (seen (now (batches .exit)) (now (queue .entry)) nq (now (pending .entry)) nw) (s .books .sublimits) (now (memory .entry)) (now (memory .exit))) ⌝ }
 {
     if !debits::is_esa(letter) {
         return Answer::Refused(Refusal::WrongEsa);

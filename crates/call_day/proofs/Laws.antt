@@ -64,15 +64,15 @@ day-number x date k e f = rw (sym e, f)
 pub day-untrue : (x : Date) (date : ℕ) → x ≡ dayOf date → x ≡ Untrue → 0 ≡ onDate (dayOf date)
 day-untrue x date e f = rw (sym e, f)
 
-module _ (out : List ℕ) (d : Desk) (codes flags balances limits : List ℕ) (date day : ℕ) (n₁ : 1 ≤ d .n) (n₂ : d .n ≤ 8) (b₁ : 1 ≤ d .banks) (b₂ : d .banks ≤ 64)
-    (w : length (d .streams) ≡ 16) (f : Full (columns codes flags balances limits)) (room : 512 * blocksFor (d .banks) ≤ length out) (g : day ≡ onDate (dayOf date)) where
+module _ (out : List ℕ) (d : Desk) (codes flags balances sublimits : List ℕ) (date day : ℕ) (n₁ : 1 ≤ d .n) (n₂ : d .n ≤ 8) (b₁ : 1 ≤ d .banks) (b₂ : d .banks ≤ 64)
+    (w : length (d .streams) ≡ 16) (f : Full (columns codes flags balances sublimits)) (room : 512 * blocksFor (d .banks) ≤ length out) (g : day ≡ onDate (dayOf date)) where
   abbrev book : Book
   book = record { day = day; streams = d .n; banks = d .banks }
 
   abbrev rows : Rows
-  rows = rowsOf (d .streams) codes flags balances limits
+  rows = rowsOf (d .streams) codes flags balances sublimits
 
-  holds : holdingRows book (length (d .streams)) (length codes) (length flags) (length balances) (length limits) ≡ true
+  holds : holdingRows book (length (d .streams)) (length codes) (length flags) (length balances) (length sublimits) ≡ true
   unfolding holdingRows holdingColumns
   holds =
       rw (
@@ -84,15 +84,15 @@ module _ (out : List ℕ) (d : Desk) (codes flags balances limits : List ℕ) (d
         le-leb (d .banks) (length codes) (omega (arith, f .codes)),
         le-leb (d .banks) (length flags) (omega (arith, f .flags)),
         le-leb (d .banks) (length balances) (omega (arith, f .balances)),
-        le-leb (d .banks) (length limits) (omega (arith, f .limits)),
+        le-leb (d .banks) (length sublimits) (omega (arith, f .sublimits)),
       )
 
-  made : writeBook out book rows ≡ record { out = sets out 0 (bookBytes (onDate (dayOf date)) (streamsOn d) (banksOn d (columns codes flags balances limits))); answer = Written (512 * blocksFor (d .banks)) }
+  made : writeBook out book rows ≡ record { out = sets out 0 (bookBytes (onDate (dayOf date)) (streamsOn d) (banksOn d (columns codes flags balances sublimits))); answer = Written (512 * blocksFor (d .banks)) }
   unfolding writeBook streamsOf banksOf
   made = rw (holds, le-leb (512 * blocksFor (d .banks)) (length out) room, g)
 
   module _ (o : List ℕ) (a : Writing) (is : record { out = o; answer = a } ≡ writeBook out book rows) where
-    pub book-bytes : o ≡ sets out 0 (bookBytes (onDate (dayOf date)) (streamsOn d) (banksOn d (columns codes flags balances limits)))
+    pub book-bytes : o ≡ sets out 0 (bookBytes (onDate (dayOf date)) (streamsOn d) (banksOn d (columns codes flags balances sublimits)))
     book-bytes = ap (λ (x : Made). x .out) (is ∙ made)
 
     answered : a ≡ Written (512 * blocksFor (d .banks))
@@ -132,12 +132,12 @@ module _ (book : List ℕ) where
   unfolding readBook roomFor
   read-zero = refl
 
-  module _ (d : Desk) (clock : ℕ) (x : Columns) (streams codes flags balances limits : List ℕ) (a : Reading)
-      (is : record { rows = rowsOf streams codes flags balances limits; answer = a } ≡ readBook book rows-zero) where
+  module _ (d : Desk) (clock : ℕ) (x : Columns) (streams codes flags balances sublimits : List ℕ) (a : Reading)
+      (is : record { rows = rowsOf streams codes flags balances sublimits; answer = a } ≡ readBook book rows-zero) where
     abbrev Opens : Answer → Desk → Columns → Type 0
     Opens r e y = record { answer = r; desk = e; columns = y } ≡ openedOn (openingAnswer (dayOn d) book) d clock book x
 
-    so : (k : Check) → bookCheck book ≡ k → record { rows = rowsOf streams codes flags balances limits; answer = a } ≡ readAs k book
+    so : (k : Check) → bookCheck book ≡ k → record { rows = rowsOf streams codes flags balances sublimits; answer = a } ≡ readAs k book
     so k e = is ∙ read-zero ∙ rw e
 
     refused-by : (k : Check) → bookCheck book ≡ k → (f : Refusal) → a ≡ Unread f → Opens (Refused f) d x
@@ -165,7 +165,7 @@ module _ (book : List ℕ) where
       sound : bookCheck book ≡ Sound
       sound = sound-by (bookCheck book) refl
 
-      read-rows : rowsOf streams codes flags balances limits ≡ filledRows book rows-zero
+      read-rows : rowsOf streams codes flags balances sublimits ≡ filledRows book rows-zero
       read-rows = ap (λ (z : With Reading). z .rows) (so Sound sound)
 
       is-book : held ≡ bookIn book
@@ -189,10 +189,10 @@ module _ (book : List ℕ) where
         unfolding bookIn banksIn streamsIn
         desk-is = rw (is-book, streams-are, each-length, each-length)
 
-        columns-are : columns codes flags balances limits ≡ bookColumns book
+        columns-are : columns codes flags balances sublimits ≡ bookColumns book
         unfolding filledRows
-        columns-are = ap (λ (z : Rows). columns (z .codes) (z .flags) (z .balances) (z .limits)) read-rows
+        columns-are = ap (λ (z : Rows). columns (z .codes) (z .flags) (z .balances) (z .sublimits)) read-rows
 
-        pub open-done : not t ≡ false → (c f b m : List ℕ) → columns c f b m ≡ columns codes flags balances limits
+        pub open-done : not t ≡ false → (c f b m : List ℕ) → columns c f b m ≡ columns codes flags balances sublimits
             → Opens Done (record { phase = Open; date = held .day; clock = clock; texts = 0; banks = held .banks; streams = streams; n = held .streams }) (columns c f b m)
         open-done n c f b m e = rw (answer-is, not-false t n, desk-is, e, columns-are)

@@ -5,7 +5,7 @@ use mathlib.Core.List.{List}
 use lib.ListN.{length}
 use Rattle.book_read.specs.Accounts.{Bank, dayIn, streamsIn, banksIn, streamRow}
 use Rattle.book_read.specs.Book.{each}
-use Rattle.book_read.specs.declared.Field.the-variants.{Code, Flags, Balance, Limit}
+use Rattle.book_read.specs.declared.Field.the-variants.{Code, Flags, Balance, Sublimit}
 use Rattle.book_write.specs.Closing.{bankOf}
 use Rattle.model.specs.declared.Phase.the-variants.{Open}
 use Rattle.model.specs.declared.Answer.{Answer}
@@ -18,17 +18,17 @@ pub record Columns : Type 0 where
   pub codes : List ℕ
   pub flags : List ℕ
   pub balances : List ℕ
-  pub limits : List ℕ
+  pub sublimits : List ℕ
 
-abbrev pub columns : (codes flags balances limits : List ℕ) → Columns
-columns codes flags balances limits = record { codes = codes; flags = flags; balances = balances; limits = limits }
+abbrev pub columns : (codes flags balances sublimits : List ℕ) → Columns
+columns codes flags balances sublimits = record { codes = codes; flags = flags; balances = balances; sublimits = sublimits }
 
 -- "lengths 64"
 pub record Full (x : Columns) : Type 0 where
   pub codes : length (x .codes) ≡ 64
   pub flags : length (x .flags) ≡ 64
   pub balances : length (x .balances) ≡ 64
-  pub limits : length (x .limits) ≡ 64
+  pub sublimits : length (x .sublimits) ≡ 64
 
 pub record Begins : Type 0 where
   pub answer : Answer
@@ -48,7 +48,7 @@ bookDesk clock book = record {
 
 abbrev pub bookColumns : List ℕ → Columns
 bookColumns book =
-    columns (columnOf Code (banksIn book)) (columnOf Flags (banksIn book)) (columnOf Balance (banksIn book)) (columnOf Limit (banksIn book))
+    columns (columnOf Code (banksIn book)) (columnOf Flags (banksIn book)) (columnOf Balance (banksIn book)) (columnOf Sublimit (banksIn book))
 
 -- C17: "An opening replaces accounts, streams and date .., sets the texts to 0 and the clock as given"; a refusal changes nothing
 abbrev pub openedOn : Answer → Desk → (clock : ℕ) (book : List ℕ) → Columns → Begins
@@ -57,4 +57,4 @@ openedOn (Refused r) d clock book x = record { answer = Refused r; desk = d; col
 
 -- the banks that the columns hold
 abbrev pub banksOn : Desk → Columns → List Bank
-banksOn d x = each (bankOf (x .codes) (x .flags) (x .balances) (x .limits)) 0 (d .banks)
+banksOn d x = each (bankOf (x .codes) (x .flags) (x .balances) (x .sublimits)) 0 (d .banks)

@@ -53,20 +53,20 @@ fn take_over(
     codes: &mut [u64],
     flags: &mut [u64],
     balances: &mut [u64],
-    limits: &mut [u64],
+    sublimits: &mut [u64],
     bank: &[u64],
     flag: &[u64],
     balance: &[u64],
-    limit: &[u64],
+    sublimit: &[u64],
 )
-    requires { ⌜ Full (columns (now codes) (now flags) (now balances) (now limits)) ⌝ }
-    requires { ⌜ Full (columns (now bank) (now flag) (now balance) (now limit)) ⌝ }
-    ensures { λ _. ⌜ columns (now (codes .exit)) (now (flags .exit)) (now (balances .exit)) (now (limits .exit)) ≡ columns (now (bank .entry)) (now (flag .entry)) (now (balance .entry)) (now (limit .entry)) ⌝ }
+    requires { ⌜ Full (columns (now codes) (now flags) (now balances) (now sublimits)) ⌝ }
+    requires { ⌜ Full (columns (now bank) (now flag) (now balance) (now sublimit)) ⌝ }
+    ensures { λ _. ⌜ columns (now (codes .exit)) (now (flags .exit)) (now (balances .exit)) (now (sublimits .exit)) ≡ columns (now (bank .entry)) (now (flag .entry)) (now (balance .entry)) (now (sublimit .entry)) ⌝ }
 {
     replace(codes, bank);
     replace(flags, flag);
     replace(balances, balance);
-    replace(limits, limit);
+    replace(sublimits, sublimit);
 }
 
 // "An opening": 11 to 15, then the date; else accounts, streams and date are the book's, the clock is set anew, and no text is written yet.
@@ -76,24 +76,24 @@ pub fn open_day(
     codes: &mut [u64],
     flags: &mut [u64],
     balances: &mut [u64],
-    limits: &mut [u64],
+    sublimits: &mut [u64],
     input: &[u8],
 ) -> Begun
-    requires { ⌜ Full (columns (now codes) (now flags) (now balances) (now limits)) ⌝ }
-    ensures { λ r. ⌜ record { answer = r .answer; desk = r .desk; columns = columns (now (codes .exit)) (now (flags .exit)) (now (balances .exit)) (now (limits .exit)) } ≡ openedOn (openingAnswer (dayOn desk) (now (input .entry))) desk clock (now (input .entry)) (columns (now (codes .entry)) (now (flags .entry)) (now (balances .entry)) (now (limits .entry))) ⌝ }
+    requires { ⌜ Full (columns (now codes) (now flags) (now balances) (now sublimits)) ⌝ }
+    ensures { λ r. ⌜ record { answer = r .answer; desk = r .desk; columns = columns (now (codes .exit)) (now (flags .exit)) (now (balances .exit)) (now (sublimits .exit)) } ≡ openedOn (openingAnswer (dayOn desk) (now (input .entry))) desk clock (now (input .entry)) (columns (now (codes .entry)) (now (flags .entry)) (now (balances .entry)) (now (sublimits .entry))) ⌝ }
 {
     let mut streams = [0u64; 16];
     let mut bank = [0u64; 64];
     let mut flag = [0u64; 64];
     let mut balance = [0u64; 64];
-    let mut limit = [0u64; 64];
+    let mut sublimit = [0u64; 64];
     let reading = book_read::read(
         input,
         &mut streams,
         &mut bank,
         &mut flag,
         &mut balance,
-        &mut limit,
+        &mut sublimit,
     );
     match reading {
         Reading::Unread(f) => Begun {
@@ -111,11 +111,11 @@ pub fn open_day(
                 codes,
                 flags,
                 balances,
-                limits,
+                sublimits,
                 &bank,
                 &flag,
                 &balance,
-                &limit,
+                &sublimit,
             );
             Begun {
                 answer: Answer::Done,
@@ -149,14 +149,14 @@ pub fn give_book(
     codes: &[u64],
     flags: &[u64],
     balances: &[u64],
-    limits: &[u64],
+    sublimits: &[u64],
     date: u64,
     out: &mut [u8],
 ) -> usize
-    requires { ⌜ Full (columns (now codes) (now flags) (now balances) (now limits)) ⌝ }
+    requires { ⌜ Full (columns (now codes) (now flags) (now balances) (now sublimits)) ⌝ }
     requires { ⌜ (1 ≤ desk .n) × (desk .n ≤ 8) × (1 ≤ desk .banks) × (desk .banks ≤ 64) ⌝ }
     requires { ⌜ 512 * blocksFor (desk .banks) ≤ length (now out) ⌝ }
-    ensures { λ r. ⌜ (now (out .exit) ≡ sets (now (out .entry)) 0 (bookBytes (onDate (dayOf date)) (streamsOn desk) (banksOn desk (columns (now (codes .entry)) (now (flags .entry)) (now (balances .entry)) (now (limits .entry)))))) × (r ≡ 512 * blocksFor (desk .banks)) ⌝ }
+    ensures { λ r. ⌜ (now (out .exit) ≡ sets (now (out .entry)) 0 (bookBytes (onDate (dayOf date)) (streamsOn desk) (banksOn desk (columns (now (codes .entry)) (now (flags .entry)) (now (balances .entry)) (now (sublimits .entry)))))) × (r ≡ 512 * blocksFor (desk .banks)) ⌝ }
 {
     let day = day_for(date);
     let streams = desk.streams;
@@ -165,7 +165,7 @@ pub fn give_book(
         streams: desk.n,
         banks: desk.banks,
     };
-    let written = book_write::write(out, book, &streams, codes, flags, balances, limits);
+    let written = book_write::write(out, book, &streams, codes, flags, balances, sublimits);
     match written {
         Writing::Written(n) => n,
         Writing::Unwritten(_) => 0,

@@ -8,7 +8,7 @@ use Rattle.settle.specs.Payments.{Payment, credit, debit, payment, paymentAt, p
 use Rattle.settle.specs.Settlement.{paid, settled}
 use Rattle.settle.specs.Rules.{Fits, Payable, AllPayable, Ready}
 use Rattle.call_records.specs.declared.Account.{Account}
-use Rattle.call_records.specs.Records.{codesOf, flagsOf, balancesOf, limitsOf}
+use Rattle.call_records.specs.Records.{codesOf, flagsOf, balancesOf, sublimitsOf}
 use Rattle.call_records.specs.Payments.{balanceAfter, Bears, Stored}
 use Rattle.tables.proofs.MemoryLaws.{map-set}
 use Rattle.call_records.proofs.Rows.{none}
@@ -38,7 +38,7 @@ money-debit b c (suc l) h n = h
 
 -- a record with another balance
 abbrev pub withBalance : Account → ℕ → Account
-withBalance a b = record { code = a .code; flags = a .flags; balance = b; limit = a .limit }
+withBalance a b = record { code = a .code; flags = a .flags; balance = b; sublimit = a .sublimit }
 
 module _ (row : List Account) (k c l : ℕ) where
   abbrev here : Account
@@ -89,7 +89,7 @@ stored-one row k c l r e =
       balances-are = map-set (λ (x : Account). x .balance) row k a ∙ ap (set (balancesOf row) k) e ∙ sym (paid-at row k c l);
       codes-kept = field-kept (λ (x : Account). x .code) row k a refl refl;
       flags-kept = field-kept (λ (x : Account). x .flags) row k a refl refl;
-      limits-kept = field-kept (λ (x : Account). x .limit) row k a refl refl;
+      sublimits-kept = field-kept (λ (x : Account). x .sublimit) row k a refl refl;
     }
 
 -- ---- one after another
@@ -99,7 +99,7 @@ stored-then x y = record {
   balances-are = y .balances-are;
   codes-kept = y .codes-kept ∙ x .codes-kept;
   flags-kept = y .flags-kept ∙ x .flags-kept;
-  limits-kept = y .limits-kept ∙ x .limits-kept;
+  sublimits-kept = y .sublimits-kept ∙ x .sublimits-kept;
 }
 
 -- ---- the payments of a batch: some are paid, and what is left of them, paid too, gives what the whole batch gives
@@ -111,7 +111,7 @@ pub record Settling (ys : List Account) (ws : List ℕ) (place at left : ℕ) (z
   pub same : settled (balancesOf z) (paymentsFrom ws at left) ≡ settled (balancesOf ys) (rowPayments ws place)
   pub codes-kept : codesOf z ≡ codesOf ys
   pub flags-kept : flagsOf z ≡ flagsOf ys
-  pub limits-kept : limitsOf z ≡ limitsOf ys
+  pub sublimits-kept : sublimitsOf z ≡ sublimitsOf ys
 
 module _ (ys : List Account) (ws : List ℕ) (place : ℕ) where
   pub settle-start : Ready (balancesOf ys) ws place → Settling ys ws place (place * 349 + 49) (howMany ws place) ys
@@ -122,7 +122,7 @@ module _ (ys : List Account) (ws : List ℕ) (place : ℕ) where
     same = refl;
     codes-kept = refl;
     flags-kept = refl;
-    limits-kept = refl;
+    sublimits-kept = refl;
   }
 
   abbrev pub lineAt : ℕ → Payment
@@ -142,9 +142,9 @@ module _ (ys : List Account) (ws : List ℕ) (place : ℕ) where
       same = ap (λ (b : List ℕ). settled b (paymentsFrom ws (at + 3) n)) (st .balances-are) ∙ s .same;
       codes-kept = st .codes-kept ∙ s .codes-kept;
       flags-kept = st .flags-kept ∙ s .flags-kept;
-      limits-kept = st .limits-kept ∙ s .limits-kept;
+      sublimits-kept = st .sublimits-kept ∙ s .sublimits-kept;
     }
 
   pub settle-end : (at : ℕ) (z : List Account) → Settling ys ws place at 0 z → Stored ys z (settled (balancesOf ys) (rowPayments ws place))
   unfolding paymentsFrom settled
-  settle-end at z s = record { balances-are = s .same; codes-kept = s .codes-kept; flags-kept = s .flags-kept; limits-kept = s .limits-kept }
+  settle-end at z s = record { balances-are = s .same; codes-kept = s .codes-kept; flags-kept = s .flags-kept; sublimits-kept = s .sublimits-kept }

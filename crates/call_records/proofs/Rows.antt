@@ -13,7 +13,7 @@ use Rattle.call_records.specs.declared.Account.{Account}
 use Rattle.call_records.specs.Records.{tablesIn, Columns}
 
 abbrev pub none : Account
-none = record { code = 0; flags = 0; balance = 0; limit = 0 }
+none = record { code = 0; flags = 0; balance = 0; sublimit = 0 }
 
 -- ---- a test that was made
 
@@ -47,6 +47,6 @@ whole-row i xs ys h l m e = sym (take-all i xs (omega (arith, h, l))) ∙ e ∙ 
 
 -- ---- tables of columns are tables of the row
 
-pub tables-in : (row : List Account) (codes flags balances limits batches references bins : List ℕ) → Columns row codes flags balances limits
-    → lentWith codes flags balances limits batches references bins ≡ tablesIn row batches references bins
-tables-in row codes flags balances limits batches references bins c = rw (c .codes-are, c .flags-are, c .balances-are, c .limits-are)
+pub tables-in : (row : List Account) (codes flags balances sublimits batches references bins : List ℕ) → Columns row codes flags balances sublimits
+    → lentWith codes flags balances sublimits batches references bins ≡ tablesIn row batches references bins
+tables-in row codes flags balances sublimits batches references bins c = rw (c .codes-are, c .flags-are, c .balances-are, c .sublimits-are)

@@ -5,7 +5,7 @@ use mathlib.Core.List.{List, [], _∷_}
 use Rattle.settle.specs.Payments.{Payment}
 use Rattle.settle.specs.Settlement.{settled}
 use Rattle.call_records.specs.declared.Account.{Account}
-use Rattle.call_records.specs.Records.{codesOf, flagsOf, balancesOf, limitsOf}
+use Rattle.call_records.specs.Records.{codesOf, flagsOf, balancesOf, sublimitsOf}
 
 -- a credit, which has no letters, raises the balance; a debit lowers it
 unfoldable pub balanceAfter : (balance cents letters : ℕ) → ℕ
@@ -22,7 +22,7 @@ pub record Stored (before after : List Account) (balances : List ℕ) : Type 0 w
   pub balances-are : balancesOf after ≡ balances
   pub codes-kept : codesOf after ≡ codesOf before
   pub flags-kept : flagsOf after ≡ flagsOf before
-  pub limits-kept : limitsOf after ≡ limitsOf before
+  pub sublimits-kept : sublimitsOf after ≡ sublimitsOf before
 
 -- the batches at these places, settled on the row one after another
 pub data InOrder (batch : ℕ → List Payment) : List Account → List ℕ → List Account → Type 0 where

@@ -22,12 +22,12 @@ use Rattle.call_records.specs.declared.AccountOr.the-variants.{Held, Bey
 -- ---- one account: 14 where a value is out of range
 
 abbrev pub heldBy : (code flags : ℕ) → BankOr → AccountOr
-heldBy code flags (Is bank) = Held (record { code = code; flags = flags; balance = bank .balance; limit = bank .limit })
+heldBy code flags (Is bank) = Held (record { code = code; flags = flags; balance = bank .balance; sublimit = bank .sublimit })
 heldBy code flags (Not refusal) = Beyond refusal
 
 -- a code of four characters, a suspension and eight stream bits
-abbrev pub accountOr : (code flags balance limit : ℕ) → AccountOr
-accountOr code flags balance limit = cond (leb code 4294967295 && leb flags 511) (heldBy code flags (bankOr balance limit)) (Beyond OutOfRange)
+abbrev pub accountOr : (code flags balance sublimit : ℕ) → AccountOr
+accountOr code flags balance sublimit = cond (leb code 4294967295 && leb flags 511) (heldBy code flags (bankOr balance sublimit)) (Beyond OutOfRange)
 
 -- ---- the columns of a row
 
@@ -40,38 +40,38 @@ flagsOf row = map (λ (a : Account). a .flags) row
 abbrev pub balancesOf : List Account → List ℕ
 balancesOf row = map (λ (a : Account). a .balance) row
 
-abbrev pub limitsOf : List Account → List ℕ
-limitsOf row = map (λ (a : Account). a .limit) row
+abbrev pub sublimitsOf : List Account → List ℕ
+sublimitsOf row = map (λ (a : Account). a .sublimit) row
 
 -- the lent tables, their accounts in a row of records
 abbrev pub tablesIn : List Account → (batches references bins : List ℕ) → Tables
-tablesIn row batches references bins = lentWith (codesOf row) (flagsOf row) (balancesOf row) (limitsOf row) batches references bins
+tablesIn row batches references bins = lentWith (codesOf row) (flagsOf row) (balancesOf row) (sublimitsOf row) batches references bins
 
 -- four columns are the fields of a row
-pub record Columns (row : List Account) (codes flags balances limits : List ℕ) : Type 0 where
+pub record Columns (row : List Account) (codes flags balances sublimits : List ℕ) : Type 0 where
   pub codes-are : codes ≡ codesOf row
   pub flags-are : flags ≡ flagsOf row
   pub balances-are : balances ≡ balancesOf row
-  pub limits-are : limits ≡ limitsOf row
+  pub sublimits-are : sublimits ≡ sublimitsOf row
 
 -- "lengths 64"
-pub record Long (row : List Account) (codes flags balances limits : List ℕ) : Type 0 where
+pub record Long (row : List Account) (codes flags balances sublimits : List ℕ) : Type 0 where
   pub row-long : length row ≡ 64
   pub codes-long : length codes ≡ 64
   pub flags-long : length flags ≡ 64
   pub balances-long : length balances ≡ 64
-  pub limits-long : length limits ≡ 64
+  pub sublimits-long : length sublimits ≡ 64
 
 -- ---- and the row of four columns
 
-unfoldable pub rowOf : (codes flags balances limits : List ℕ) → List Account
-rowOf [] flags balances limits = []
-rowOf (c ∷ codes) flags balances limits =
-    record { code = c; flags = getD flags 0 0; balance = getD balances 0 0; limit = getD limits 0 0 }
-    ∷ rowOf codes (drop 1 flags) (drop 1 balances) (drop 1 limits)
+unfoldable pub rowOf : (codes flags balances sublimits : List ℕ) → List Account
+rowOf [] flags balances sublimits = []
+rowOf (c ∷ codes) flags balances sublimits =
+    record { code = c; flags = getD flags 0 0; balance = getD balances 0 0; sublimit = getD sublimits 0 0 }
+    ∷ rowOf codes (drop 1 flags) (drop 1 balances) (drop 1 sublimits)
 
 abbrev pub rowIn : Tables → List Account
-rowIn t = rowOf (t .codes) (t .flags) (t .balances) (t .limits)
+rowIn t = rowOf (t .codes) (t .flags) (t .balances) (t .sublimits)
 
 -- ---- what a call leaves, in its own shape, and as the rules see it
 

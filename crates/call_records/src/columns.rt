@@ -13,15 +13,15 @@ ghost use Rattle.call.specs.step.Stepping.{lentAs, leftAs};
 ghost use Rattle.call_records.specs.Records.{Columns};
 
 // The row of four columns.
-fn row_of(codes: &[u64], flags: &[u64], balances: &[u64], limits: &[u64]) -> [Account; 64]
-    requires { ⌜ Lengths (now codes) (now flags) (now balances) (now limits) ⌝ }
-    ensures { λ r. ⌜ Columns r (now (codes .entry)) (now (flags .entry)) (now (balances .entry)) (now (limits .entry)) ⌝ }
+fn row_of(codes: &[u64], flags: &[u64], balances: &[u64], sublimits: &[u64]) -> [Account; 64]
+    requires { ⌜ Lengths (now codes) (now flags) (now balances) (now sublimits) ⌝ }
+    ensures { λ r. ⌜ Columns r (now (codes .entry)) (now (flags .entry)) (now (balances .entry)) (now (sublimits .entry)) ⌝ }
 {
     let none = Account {
         code: 0,
         flags: 0,
         balance: 0,
-        limit: 0,
+        sublimit: 0,
     };
     let mut row = [none; 64];
     let mut i = 0;
@@ -30,7 +30,7 @@ fn row_of(codes: &[u64], flags: &[u64], balances: &[u64], limits: &[u64]) -> [Ac
             code: codes[i],
             flags: flags[i],
             balance: balances[i],
-            limit: limits[i],
+            sublimit: sublimits[i],
         };
         i += 1;
     }
@@ -43,17 +43,17 @@ fn part(
     codes: &mut [u64],
     flags: &mut [u64],
     balances: &mut [u64],
-    limits: &mut [u64],
+    sublimits: &mut [u64],
 )
-    requires { ⌜ Lengths (now codes) (now flags) (now balances) (now limits) ⌝ }
-    ensures { λ _. ⌜ Columns row (now (codes .exit)) (now (flags .exit)) (now (balances .exit)) (now (limits .exit)) ⌝ }
+    requires { ⌜ Lengths (now codes) (now flags) (now balances) (now sublimits) ⌝ }
+    ensures { λ _. ⌜ Columns row (now (codes .exit)) (now (flags .exit)) (now (balances .exit)) (now (sublimits .exit)) ⌝ }
 {
     let mut i = 0;
     while i < Account::ROW {
         codes[i] = row[i].code;
         flags[i] = row[i].flags;
         balances[i] = row[i].balance;
-        limits[i] = row[i].limit;
+        sublimits[i] = row[i].sublimit;
         i += 1;
     }
 }
@@ -68,7 +68,7 @@ pub fn call(
     codes: &mut [u64; 64],
     flags: &mut [u64; 64],
     balances: &mut [u64; 64],
-    limits: &mut [u64; 64],
+    sublimits: &mut [u64; 64],
     batches: &mut [u64],
     references: &mut [u64],
     bins: &mut [u64],
@@ -76,13 +76,13 @@ pub fn call(
     tries: &mut [u64],
 ) -> Told
     ensures { λ y. ⌜ Called
-        (lentAs desk (lentWith (now (codes .entry)) (now (flags .entry)) (now (balances .entry)) (now (limits .entry))
+        (lentAs desk (lentWith (now (codes .entry)) (now (flags .entry)) (now (balances .entry)) (now (sublimits .entry))
         (now (batches .entry)) (now (references .entry)) (now (bins .entry))) (now (out .entry)) (now (tries .entry)))
         (record { quick = quick; clock = clock; action = action; input = now (input .entry) })
-        (leftAs (y .answer) (y .written) (y .tried) (y .desk) (lentWith (now (codes .exit)) (now (flags .exit)) (now (balances .exit)) (now (limits .exit))
+        (leftAs (y .answer) (y .written) (y .tried) (y .desk) (lentWith (now (codes .exit)) (now (flags .exit)) (now (balances .exit)) (now (sublimits .exit))
         (now (batches .exit)) (now (references .exit)) (now (bins .exit))) (now (out .exit)) (now (tries .exit))) ⌝ }
 {
-    let row = row_of(codes, flags, balances, limits);
+    let row = row_of(codes, flags, balances, sublimits);
     let left = crate::call_row(
         quick,
         clock,
@@ -97,7 +97,7 @@ pub fn call(
         tries,
     );
     let after = left.row;
-    part(after, codes, flags, balances, limits);
+    part(after, codes, flags, balances, sublimits);
     let told = left.told;
     told
 }
@@ -108,25 +108,25 @@ pub fn clear(
     codes: &mut [u64; 64],
     flags: &mut [u64; 64],
     balances: &mut [u64; 64],
-    limits: &mut [u64; 64],
+    sublimits: &mut [u64; 64],
     batches: &mut [u64],
     references: &mut [u64],
     bins: &mut [u64],
 ) -> Start
     ensures { λ r. ⌜ Cleared desk
-        (lentWith (now (codes .entry)) (now (flags .entry)) (now (balances .entry)) (now (limits .entry))
+        (lentWith (now (codes .entry)) (now (flags .entry)) (now (balances .entry)) (now (sublimits .entry))
         (now (batches .entry)) (now (references .entry)) (now (bins .entry)))
         (record {
           answer = r .answer;
           desk = r .desk;
-          tables = lentWith (now (codes .exit)) (now (flags .exit)) (now (balances .exit)) (now (limits .exit))
+          tables = lentWith (now (codes .exit)) (now (flags .exit)) (now (balances .exit)) (now (sublimits .exit))
               (now (batches .exit)) (now (references .exit)) (now (bins .exit));
         }) ⌝ }
 {
-    let row = row_of(codes, flags, balances, limits);
+    let row = row_of(codes, flags, balances, sublimits);
     let left = crate::clear_row(desk, row, batches, references, bins);
     let after = left.row;
-    part(after, codes, flags, balances, limits);
+    part(after, codes, flags, balances, sublimits);
     let start = left.start;
     start
 }

@@ -23,7 +23,7 @@ pub struct Account {
     pub code: u64,
     pub flags: u64,
     pub balance: u64,
-    pub limit: u64,
+    pub sublimit: u64,
 }
 
 pub enum AccountOr {
@@ -39,8 +39,8 @@ impl Account {
     // The suspension, and the bits of eight streams.
     pub const LAST_FLAGS: u64 = 511;
 
-    pub fn new(code: u64, flags: u64, balance: u64, limit: u64) -> AccountOr
-        ensures { λ r. ⌜ r ≡ accountOr code flags balance limit ⌝ }
+    pub fn new(code: u64, flags: u64, balance: u64, sublimit: u64) -> AccountOr
+        ensures { λ r. ⌜ r ≡ accountOr code flags balance sublimit ⌝ }
     {
         if Account::LAST_CODE < code {
             return AccountOr::Beyond(Refusal::OutOfRange);
@@ -48,13 +48,13 @@ impl Account {
         if Account::LAST_FLAGS < flags {
             return AccountOr::Beyond(Refusal::OutOfRange);
         }
-        let money = settle::Bank::new(balance, limit);
+        let money = settle::Bank::new(balance, sublimit);
         match money {
             BankOr::Is(bank) => AccountOr::Held(Account {
                 code,
                 flags,
                 balance: bank.balance,
-                limit: bank.limit,
+                sublimit: bank.sublimit,
             }),
             BankOr::Not(refusal) => AccountOr::Beyond(refusal),
         }
@@ -67,32 +67,32 @@ fn load(
     codes: &mut [u64],
     flags: &mut [u64],
     balances: &mut [u64],
-    limits: &mut [u64],
+    sublimits: &mut [u64],
 )
-    requires { ⌜ Long (now row) (now codes) (now flags) (now balances) (now limits) ⌝ }
-    ensures { λ _. ⌜ Columns (now (row .entry)) (now (codes .exit)) (now (flags .exit)) (now (balances .exit)) (now (limits .exit)) ⌝ }
+    requires { ⌜ Long (now row) (now codes) (now flags) (now balances) (now sublimits) ⌝ }
+    ensures { λ _. ⌜ Columns (now (row .entry)) (now (codes .exit)) (now (flags .exit)) (now (balances .exit)) (now (sublimits .exit)) ⌝ }
 {
     let mut i = 0;
     while i < Account::ROW {
         codes[i] = row[i].code;
         flags[i] = row[i].flags;
         balances[i] = row[i].balance;
-        limits[i] = row[i].limit;
+        sublimits[i] = row[i].sublimit;
         i += 1;
     }
 }
 
 // The columns, stored back into the records.
-fn save(row: &mut [Account], codes: &[u64], flags: &[u64], balances: &[u64], limits: &[u64])
-    requires { ⌜ Long (now row) (now codes) (now flags) (now balances) (now limits) ⌝ }
-    ensures { λ _. ⌜ Columns (now (row .exit)) (now (codes .entry)) (now (flags .entry)) (now (balances .entry)) (now (limits .entry)) ⌝ }
+fn save(row: &mut [Account], codes: &[u64], flags: &[u64], balances: &[u64], sublimits: &[u64])
+    requires { ⌜ Long (now row) (now codes) (now flags) (now balances) (now sublimits) ⌝ }
+    ensures { λ _. ⌜ Columns (now (row .exit)) (now (codes .entry)) (now (flags .entry)) (now (balances .entry)) (now (sublimits .entry)) ⌝ }
 {
     let mut i = 0;
     while i < Account::ROW {
         row[i].code = codes[i];
         row[i].flags = flags[i];
         row[i].balance = balances[i];
-        row[i].limit = limits[i];
+        row[i].sublimit = sublimits[i];
         i += 1;
     }
 }
@@ -138,8 +138,8 @@ fn call_on(
     let mut codes = [0u64; 64];
     let mut flags = [0u64; 64];
     let mut balances = [0u64; 64];
-    let mut limits = [0u64; 64];
-    load(row, &mut codes, &mut flags, &mut balances, &mut limits);
+    let mut sublimits = [0u64; 64];
+    load(row, &mut codes, &mut flags, &mut balances, &mut sublimits);
     let told = call::entry::call(
         quick,
         clock,
@@ -149,14 +149,14 @@ fn call_on(
         &mut codes,
         &mut flags,
         &mut balances,
-        &mut limits,
+        &mut sublimits,
         batches,
         references,
         bins,
         out,
         tries,
     );
-    save(row, &codes, &flags, &balances, &limits);
+    save(row, &codes, &flags, &balances, &sublimits);
     told
 }
 
@@ -208,19 +208,19 @@ fn clear_on(
     let mut codes = [0u64; 64];
     let mut flags = [0u64; 64];
     let mut balances = [0u64; 64];
-    let mut limits = [0u64; 64];
-    load(row, &mut codes, &mut flags, &mut balances, &mut limits);
+    let mut sublimits = [0u64; 64];
+    load(row, &mut codes, &mut flags, &mut balances, &mut sublimits);
     let start = tables_clear::clear(
         desk,
         &mut codes,
         &mut flags,
         &mut balances,
-        &mut limits,
+        &mut sublimits,
         batches,
         references,
         bins,
     );
-    save(row, &codes, &flags, &balances, &limits);
+    save(row, &codes, &flags, &balances, &sublimits);
     start
 }
 

@@ -345,16 +345,16 @@ module _ {s : List ℕ} {at : ℕ} {row : List ℕ} {n here : ℕ} (g : Serving 
       same = simp (one-more, ← p, p′) at (g .same);
     }
 
-pub record Holding (s : List ℕ) (at : ℕ) (row codes flags balances limits : List ℕ) (n here : ℕ) : Type 0 where
+pub record Holding (s : List ℕ) (at : ℕ) (row codes flags balances sublimits : List ℕ) (n here : ℕ) : Type 0 where
   pub room : n ≤ 64
   pub codes-size : length codes ≡ 64
   pub flags-size : length flags ≡ 64
   pub balances-size : length balances ≡ 64
-  pub limits-size : length limits ≡ 64
-  pub same : banksOn (64 - n) s row here n codes flags balances limits ≡ banksAt s at row
+  pub sublimits-size : length sublimits ≡ 64
+  pub same : banksOn (64 - n) s row here n codes flags balances sublimits ≡ banksAt s at row
 
-module _ {s : List ℕ} {at : ℕ} {row codes flags balances limits : List ℕ} {n here : ℕ} (g : Holding s at row codes flags balances limits n here) where
-  pub holding-done : 64 ≤ n → banks codes flags balances limits n here ≡ banksAt s at row
+module _ {s : List ℕ} {at : ℕ} {row codes flags balances sublimits : List ℕ} {n here : ℕ} (g : Holding s at row codes flags balances sublimits n here) where
+  pub holding-done : 64 ≤ n → banks codes flags balances sublimits n here ≡ banksAt s at row
   unfolding banksOn
   holding-done h = let z : 64 - n ≡ 0 = omega (arith, g .room) in rw z at (g .same)
 
@@ -362,19 +362,19 @@ module _ {s : List ℕ} {at : ℕ} {row codes flags balances limits : List ℕ} 
     one-bank-more : 64 - n ≡ suc (64 - (n + 1))
     one-bank-more = omega arith
 
-    pub holding-stop : r ≡ Unheld → banks codes flags balances limits n here ≡ banksAt s at row
+    pub holding-stop : r ≡ Unheld → banks codes flags balances sublimits n here ≡ banksAt s at row
     unfolding banksOn
     holding-stop p′ = simp (one-bank-more, ← p, p′) at (g .same)
 
     pub holding-on : {b : Entry} {next : ℕ} → r ≡ Held b next
-        → Holding s at row (set codes n (b .code)) (set flags n (b .flags)) (set balances n (b .balance)) (set limits n (b .limit)) (n + 1) next
+        → Holding s at row (set codes n (b .code)) (set flags n (b .flags)) (set balances n (b .balance)) (set sublimits n (b .sublimit)) (n + 1) next
     unfolding banksOn
     holding-on p′ = record {
       room = omega arith;
       codes-size = simp length-set (g .codes-size);
       flags-size = simp length-set (g .flags-size);
       balances-size = simp length-set (g .balances-size);
-      limits-size = simp length-set (g .limits-size);
+      sublimits-size = simp length-set (g .sublimits-size);
       same = simp (one-bank-more, ← p, p′) at (g .same);
     }
 

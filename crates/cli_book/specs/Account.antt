@@ -140,11 +140,11 @@ unfoldable pub moneyAt : List ℕ → ℕ → Money
 moneyAt s at =
     onGiven (centsAt s at) Neither (λ balance a.
     onNext (litAt s a (bytes " ")) Neither (λ b.
-    onGiven (centsAt s b) Neither (λ limit c.
-    Both balance limit c)))
+    onGiven (centsAt s b) Neither (λ sublimit c.
+    Both balance sublimit c)))
 
 abbrev pub entry : ℕ → ℕ → ℕ → ℕ → Entry
-entry code flags balance limit = record { code = code; flags = flags; balance = balance; limit = limit }
+entry code flags balance sublimit = record { code = code; flags = flags; balance = balance; sublimit = sublimit }
 
 -- "bank CODE active|suspended BALANCE SUBLIMIT STREAM..": the flags are 1 if it is suspended, and twice the stream bits
 unfoldable pub bankAt : List ℕ → ℕ → List ℕ → BankLine
@@ -152,20 +152,20 @@ bankAt s at row =
     onNext (litAt s at (bytes "bank ")) Unheld (λ a.
     onNext (codeAt s a 4) Unheld (λ b.
     onGiven (standingAt s b) Unheld (λ standing c.
-    onMoney (moneyAt s c) Unheld (λ balance limit d.
+    onMoney (moneyAt s c) Unheld (λ balance sublimit d.
     onNext (lineOver s (bitsAt s d row .at)) Unheld (λ e.
-    Held (entry (shortAt s a) (standing + 2 * bitsAt s d row .bits) balance limit) e)))))
+    Held (entry (shortAt s a) (standing + 2 * bitsAt s d row .bits) balance sublimit) e)))))
 
-abbrev pub banks : (codes flags balances limits : List ℕ) → ℕ → ℕ → Banks
-banks codes flags balances limits n at =
-    record { codes = codes; flags = flags; balances = balances; limits = limits; n = n; at = at }
+abbrev pub banks : (codes flags balances sublimits : List ℕ) → ℕ → ℕ → Banks
+banks codes flags balances sublimits n at =
+    record { codes = codes; flags = flags; balances = balances; sublimits = sublimits; n = n; at = at }
 
 -- with n banks so far and room for as many more as the first number says
-unfoldable pub banksOn : ℕ → List ℕ → List ℕ → ℕ → ℕ → (codes flags balances limits : List ℕ) → Banks
-banksOn zero s row at n codes flags balances limits = banks codes flags balances limits n at
-banksOn (suc room) s row at n codes flags balances limits =
-    onBank (bankAt s at row) (banks codes flags balances limits n at) (λ b e.
-    banksOn room s row e (n + 1) (set codes n (b .code)) (set flags n (b .flags)) (set balances n (b .balance)) (set limits n (b .limit)))
+unfoldable pub banksOn : ℕ → List ℕ → List ℕ → ℕ → ℕ → (codes flags balances sublimits : List ℕ) → Banks
+banksOn zero s row at n codes flags balances sublimits = banks codes flags balances sublimits n at
+banksOn (suc room) s row at n codes flags balances sublimits =
+    onBank (bankAt s at row) (banks codes flags balances sublimits n at) (λ b e.
+    banksOn room s row e (n + 1) (set codes n (b .code)) (set flags n (b .flags)) (set balances n (b .balance)) (set sublimits n (b .sublimit)))
 
 abbrev pub noBanks : List ℕ
 noBanks = replicate 64 0

@@ -36,7 +36,7 @@ pub struct Entry {
     pub code: u64,
     pub flags: u64,
     pub balance: u64,
-    pub limit: u64,
+    pub sublimit: u64,
 }
 
 // A bank, and the place past its line.
@@ -74,7 +74,7 @@ pub struct Banks {
     pub codes: [u64; 64],
     pub flags: [u64; 64],
     pub balances: [u64; 64],
-    pub limits: [u64; 64],
+    pub sublimits: [u64; 64],
     pub n: usize,
     pub at: usize,
 }
@@ -254,10 +254,10 @@ fn read_money(s: &[u8], at: usize) -> Money
     let At::Next(b) = text_scan::lit(s, a, b" ") else {
         return Money::Neither;
     };
-    let Given::Value(limit, c) = read_cents(s, b) else {
+    let Given::Value(sublimit, c) = read_cents(s, b) else {
         return Money::Neither;
     };
-    Money::Both(balance, limit, c)
+    Money::Both(balance, sublimit, c)
 }
 
 fn read_bank(s: &[u8], at: usize, row: [u64; 16]) -> BankLine
@@ -272,7 +272,7 @@ fn read_bank(s: &[u8], at: usize, row: [u64; 16]) -> BankLine
     let Given::Value(standing, c) = read_standing(s, b) else {
         return BankLine::Unheld;
     };
-    let Money::Both(balance, limit, d) = read_money(s, c) else {
+    let Money::Both(balance, sublimit, d) = read_money(s, c) else {
         return BankLine::Unheld;
     };
     let found = read_bits(s, d, row);
@@ -284,7 +284,7 @@ fn read_bank(s: &[u8], at: usize, row: [u64; 16]) -> BankLine
             code: codes::short_code(s, a),
             flags: standing + 2 * found.bits,
             balance,
-            limit,
+            sublimit,
         },
         e,
     )
@@ -297,7 +297,7 @@ fn read_banks(s: &[u8], at: usize, row: [u64; 16]) -> Banks
     let mut codes = [0u64; 64];
     let mut flags = [0u64; 64];
     let mut balances = [0u64; 64];
-    let mut limits = [0u64; 64];
+    let mut sublimits = [0u64; 64];
     let mut n = 0;
     let mut here = at;
     while n < 64 {
@@ -307,7 +307,7 @@ fn read_banks(s: &[u8], at: usize, row: [u64; 16]) -> Banks
                     codes,
                     flags,
                     balances,
-                    limits,
+                    sublimits,
                     n,
                     at: here,
                 };
@@ -316,7 +316,7 @@ fn read_banks(s: &[u8], at: usize, row: [u64; 16]) -> Banks
                 codes[n] = b.code;
                 flags[n] = b.flags;
                 balances[n] = b.balance;
-                limits[n] = b.limit;
+                sublimits[n] = b.sublimit;
                 n += 1;
                 here = next;
             }
@@ -326,7 +326,7 @@ fn read_banks(s: &[u8], at: usize, row: [u64; 16]) -> Banks
         codes,
         flags,
         balances,
-        limits,
+        sublimits,
         n,
         at: here,
     }
@@ -395,7 +395,7 @@ fn unread(at: usize, wanted: Wanted) -> BookAccount
             codes: none,
             flags: none,
             balances: none,
-            limits: none,
+            sublimits: none,
             n: 0,
             at: 0,
         },

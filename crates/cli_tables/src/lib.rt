@@ -30,7 +30,7 @@ fn show_day(desk: Desk) {
     }
 }
 
-fn show_bank(code: u64, flags: u64, balance: u64, limit: u64) {
+fn show_bank(code: u64, flags: u64, balance: u64, sublimit: u64) {
     cli_print::text(b"bank ");
     cli_print::code(code);
     if flags % 2 == 1 {
@@ -39,11 +39,11 @@ fn show_bank(code: u64, flags: u64, balance: u64, limit: u64) {
         cli_print::text(b" active");
     }
     cli_print::field(b" balance ", balance);
-    cli_print::field(b" sublimit ", limit);
+    cli_print::field(b" sublimit ", sublimit);
     cli_print::end();
 }
 
-fn show_banks(codes: &[u64], flags: &[u64], balances: &[u64], limits: &[u64], n: usize) {
+fn show_banks(codes: &[u64], flags: &[u64], balances: &[u64], sublimits: &[u64], n: usize) {
     let mut i = 0;
     while i < Bank::MOST {
         if i < n {
@@ -51,7 +51,7 @@ fn show_banks(codes: &[u64], flags: &[u64], balances: &[u64], limits: &[u64], n:
                 orders::at(codes, i),
                 orders::at(flags, i),
                 orders::at(balances, i),
-                orders::at(limits, i),
+                orders::at(sublimits, i),
             );
         }
         i += 1;
@@ -86,20 +86,20 @@ pub fn show(
     codes: &[u64],
     flags: &[u64],
     balances: &[u64],
-    limits: &[u64],
+    sublimits: &[u64],
     batches: &[u64],
     bins: &[u64],
 ) {
     let date = desk.date;
     show_day(desk);
-    show_banks(codes, flags, balances, limits, desk.banks);
+    show_banks(codes, flags, balances, sublimits, desk.banks);
     show_order(b"queue", batches, bins, date, orders::QUEUED);
     show_order(b"pending", batches, bins, date, orders::PENDING);
     show_order(b"assembling", batches, bins, date, orders::ASSEMBLING);
 }
 
 // The debit that holds a batch, and the account that it is held at.
-fn tell_debit(batches: &[u64], place: usize, debit: Debit, code: u64, balance: u64, limit: u64) {
+fn tell_debit(batches: &[u64], place: usize, debit: Debit, code: u64, balance: u64, sublimit: u64) {
     cli_print::text(b"held");
     show_bin(batches, place);
     cli_print::space();
@@ -108,13 +108,13 @@ fn tell_debit(batches: &[u64], place: usize, debit: Debit, code: u64, balance: u
     cli_print::letter(debit.letter);
     cli_print::field(b" amount ", debit.cents);
     cli_print::field(b" balance ", balance);
-    cli_print::field(b" sublimit ", limit);
+    cli_print::field(b" sublimit ", sublimit);
 }
 
 fn tell_account(
     codes: &[u64],
     balances: &[u64],
-    limits: &[u64],
+    sublimits: &[u64],
     batches: &[u64],
     place: usize,
     debit: Debit,
@@ -126,19 +126,19 @@ fn tell_account(
         debit,
         orders::at(codes, bank),
         orders::at(balances, bank),
-        orders::at(limits, bank),
+        orders::at(sublimits, bank),
     );
 }
 
-fn tell_held(codes: &[u64], balances: &[u64], limits: &[u64], batches: &[u64], place: usize) {
-    match queue_explain::held_at(balances, limits, batches, place) {
+fn tell_held(codes: &[u64], balances: &[u64], sublimits: &[u64], batches: &[u64], place: usize) {
+    match queue_explain::held_at(balances, sublimits, batches, place) {
         Held::Short(debit, short) => {
-            tell_account(codes, balances, limits, batches, place, debit);
+            tell_account(codes, balances, sublimits, batches, place, debit);
             cli_print::field(b" short ", short);
             cli_print::end();
         }
         Held::Deferred(debit) => {
-            tell_account(codes, balances, limits, batches, place, debit);
+            tell_account(codes, balances, sublimits, batches, place, debit);
             cli_print::text(b" deferred\n");
         }
         // No queued batch would pass after a call.
@@ -169,7 +169,7 @@ fn tell_assembling(batches: &[u64], place: usize) {
 fn tell(
     codes: &[u64],
     balances: &[u64],
-    limits: &[u64],
+    sublimits: &[u64],
     batches: &[u64],
     phase: u64,
     place: usize,
@@ -177,7 +177,7 @@ fn tell(
     match phase {
         1 => tell_assembling(batches, place),
         2 => tell_pending(batches, place),
-        _ => tell_held(codes, balances, limits, batches, place),
+        _ => tell_held(codes, balances, sublimits, batches, place),
     }
 }
 
@@ -185,7 +185,7 @@ fn tell(
 fn tell_order(
     codes: &[u64],
     balances: &[u64],
-    limits: &[u64],
+    sublimits: &[u64],
     batches: &[u64],
     bins: &[u64],
     date: u64,
@@ -197,7 +197,7 @@ fn tell_order(
         if orders::NOWHERE <= last {
             break;
         }
-        tell(codes, balances, limits, batches, phase, last);
+        tell(codes, balances, sublimits, batches, phase, last);
         last = orders::next(batches, bins, date, phase, last);
         left -= 1;
     }
@@ -207,15 +207,23 @@ pub fn tell_why(
     date: u64,
     codes: &[u64],
     balances: &[u64],
-    limits: &[u64],
+    sublimits: &[u64],
     batches: &[u64],
     bins: &[u64],
 ) {
-    tell_order(codes, balances, limits, batches, bins, date, orders::QUEUED);
     tell_order(
         codes,
         balances,
-        limits,
+        sublimits,
+        batches,
+        bins,
+        date,
+        orders::QUEUED,
+    );
+    tell_order(
+        codes,
+        balances,
+        sublimits,
         batches,
         bins,
         date,
@@ -224,7 +232,7 @@ pub fn tell_why(
     tell_order(
         codes,
         balances,
-        limits,
+        sublimits,
         batches,
         bins,
         date,

@@ -62,14 +62,14 @@ fn write_book(account: BookAccount) {
     let codes = banks.codes;
     let flags = banks.flags;
     let balances = banks.balances;
-    let limits = banks.limits;
+    let sublimits = banks.sublimits;
     let book = Book {
         day: account.day,
         streams: streams.n,
         banks: banks.n,
     };
     let mut out = [0u8; 2560];
-    match book_write::write(&mut out, book, &row, &codes, &flags, &balances, &limits) {
+    match book_write::write(&mut out, book, &row, &codes, &flags, &balances, &sublimits) {
         Writing::Unwritten(why) => crate::say_refused(why),
         Writing::Written(n) => show_first(&out, n),
     }

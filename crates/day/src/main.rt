@@ -254,7 +254,7 @@ fn call(
     codes: &mut [u64; 64],
     flags: &mut [u64; 64],
     balances: &mut [u64; 64],
-    limits: &mut [u64; 64],
+    sublimits: &mut [u64; 64],
     batches: &mut [u64; 11168],
     references: &mut [u64; 6144],
     bins: &mut [u64; 1536],
@@ -274,7 +274,7 @@ fn call(
         codes,
         flags,
         balances,
-        limits,
+        sublimits,
         batches,
         references,
         bins,
@@ -288,7 +288,7 @@ fn clear(
     codes: &mut [u64; 64],
     flags: &mut [u64; 64],
     balances: &mut [u64; 64],
-    limits: &mut [u64; 64],
+    sublimits: &mut [u64; 64],
     batches: &mut [u64; 11168],
     references: &mut [u64; 6144],
     bins: &mut [u64; 1536],
@@ -298,7 +298,7 @@ fn clear(
         codes,
         flags,
         balances,
-        limits,
+        sublimits,
         batches,
         references,
         bins,
@@ -323,7 +323,7 @@ fn perform(
     codes: &mut [u64; 64],
     flags: &mut [u64; 64],
     balances: &mut [u64; 64],
-    limits: &mut [u64; 64],
+    sublimits: &mut [u64; 64],
     batches: &mut [u64; 11168],
     references: &mut [u64; 6144],
     bins: &mut [u64; 1536],
@@ -336,7 +336,7 @@ fn perform(
             codes,
             flags,
             balances,
-            limits,
+            sublimits,
             batches,
             references,
             bins,
@@ -350,7 +350,7 @@ fn perform(
             codes,
             flags,
             balances,
-            limits,
+            sublimits,
             batches,
             references,
             bins,
@@ -377,7 +377,7 @@ fn tell(
     codes: &[u64; 64],
     flags: &[u64; 64],
     balances: &[u64; 64],
-    limits: &[u64; 64],
+    sublimits: &[u64; 64],
     batches: &[u64; 11168],
     bins: &[u64; 1536],
     out: &[u8; 33705],
@@ -388,8 +388,8 @@ fn tell(
     match deed {
         Deed::Nothing => {}
         Deed::NotACall => not_a_call(number),
-        Deed::Show => cli_tables::show(desk, codes, flags, balances, limits, batches, bins),
-        Deed::Why => cli_tables::tell_why(desk.date, codes, balances, limits, batches, bins),
+        Deed::Show => cli_tables::show(desk, codes, flags, balances, sublimits, batches, bins),
+        Deed::Why => cli_tables::tell_why(desk.date, codes, balances, sublimits, batches, bins),
         Deed::Clear => tell_clear(answer),
         Deed::Call(asked) => {
             if length <= line.len() {
@@ -412,7 +412,7 @@ fn do_next(
     codes: &mut [u64; 64],
     flags: &mut [u64; 64],
     balances: &mut [u64; 64],
-    limits: &mut [u64; 64],
+    sublimits: &mut [u64; 64],
     batches: &mut [u64; 11168],
     references: &mut [u64; 6144],
     bins: &mut [u64; 1536],
@@ -431,7 +431,7 @@ fn do_next(
         codes,
         flags,
         balances,
-        limits,
+        sublimits,
         batches,
         references,
         bins,
@@ -447,7 +447,7 @@ fn do_next(
         codes,
         flags,
         balances,
-        limits,
+        sublimits,
         batches,
         bins,
         out,
@@ -469,7 +469,7 @@ fn run(quick: bool, fd: i32) {
     let mut codes = [0u64; 64];
     let mut flags = [0u64; 64];
     let mut balances = [0u64; 64];
-    let mut limits = [0u64; 64];
+    let mut sublimits = [0u64; 64];
     let mut batches = [0u64; 11168];
     let mut references = [0u64; 6144];
     let mut bins = [0u64; 1536];
@@ -501,7 +501,7 @@ fn run(quick: bool, fd: i32) {
             &mut codes,
             &mut flags,
             &mut balances,
-            &mut limits,
+            &mut sublimits,
             &mut batches,
             &mut references,
             &mut bins,

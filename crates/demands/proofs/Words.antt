@@ -46,7 +46,7 @@ record Fit (x : EngineWords) : Type 0 where
 tables-long : (x : EngineWords) → LongWords x → Long (tablesBy x)
 tables-long x l =
     let c = columns-long (x .banks) (l .banks-long) in
-    record { codes = c .codes-long; flags = c .flags-long; balances = c .balances-long; limits = c .limits-long; batches = l .batches-long; references = l .references-long; bins = l .bins-long }
+    record { codes = c .codes-long; flags = c .flags-long; balances = c .balances-long; sublimits = c .sublimits-long; batches = l .batches-long; references = l .references-long; bins = l .bins-long }
 
 short-report : (n : ℕ) → n < 2 → leb 2 n ≡ false
 short-report n h = go (leb 2 n) refl

@@ -40,7 +40,7 @@ fn show_bits(streams: &[u64], bits: u64) {
     }
 }
 
-fn show_bank(streams: &[u64], code: u64, flags: u64, balance: u64, limit: u64) {
+fn show_bank(streams: &[u64], code: u64, flags: u64, balance: u64, sublimit: u64) {
     cli_print::text(b"bank ");
     cli_print::code(code);
     if flags % 2 == 1 {
@@ -50,7 +50,7 @@ fn show_bank(streams: &[u64], code: u64, flags: u64, balance: u64, limit: u64) {
     }
     cli_print::number(balance);
     cli_print::space();
-    cli_print::number(limit);
+    cli_print::number(sublimit);
     show_bits(streams, flags / 2);
     cli_print::end();
 }
@@ -60,7 +60,7 @@ fn show_banks(
     codes: &[u64],
     flags: &[u64],
     balances: &[u64],
-    limits: &[u64],
+    sublimits: &[u64],
     n: usize,
 ) {
     let mut i = 0;
@@ -71,7 +71,7 @@ fn show_banks(
                 at(codes, i),
                 at(flags, i),
                 at(balances, i),
-                at(limits, i),
+                at(sublimits, i),
             );
         }
         i += 1;
@@ -108,14 +108,14 @@ pub fn show(s: &[u8]) {
     let mut codes = [0u64; 64];
     let mut flags = [0u64; 64];
     let mut balances = [0u64; 64];
-    let mut limits = [0u64; 64];
+    let mut sublimits = [0u64; 64];
     match book_read::read(
         s,
         &mut streams,
         &mut codes,
         &mut flags,
         &mut balances,
-        &mut limits,
+        &mut sublimits,
     ) {
         Reading::Unread(why) => {
             cli_print::refused(why);
@@ -124,7 +124,7 @@ pub fn show(s: &[u8]) {
         Reading::Held(book) => {
             show_head(book);
             show_streams(&streams, book.streams);
-            show_banks(&streams, &codes, &flags, &balances, &limits, book.banks);
+            show_banks(&streams, &codes, &flags, &balances, &sublimits, book.banks);
             show_total(total(&balances, book.banks));
         }
     }

@@ -16,7 +16,7 @@ fn show_entry(spot: Spot) {
         Flaw::NoStream => cli_print::text(b"a stream bit has no stream"),
         Flaw::EntryZeros => cli_print::text(b"bytes that must be zero are not"),
         Flaw::HighBalance => cli_print::text(b"the balance is out of range"),
-        Flaw::HighLimit => cli_print::text(b"the sub-limit is out of range"),
+        Flaw::HighSublimit => cli_print::text(b"the sub-limit is out of range"),
         _ => {}
     }
 }

@@ -31,7 +31,7 @@ use Rattle.model.proofs.Admitting.{Gives}
 use Rattle.model.proofs.Lettering.{relettered-length}
 use Rattle.model.proofs.Noting.{same-self}
 use Rattle.model.proofs.Remembering.{reference-noted, same-code, bin-code, unlike-none}
-use Rattle.model.proofs.Doing.{New, Start, going, begun, Did, sent, idle, limits, letters, alone, repeats, recalls, completes, grows, rejects}
+use Rattle.model.proofs.Doing.{New, Start, going, begun, Did, sent, idle, sublimits, letters, alone, repeats, recalls, completes, grows, rejects}
 
 -- ---- live messages
 
@@ -100,7 +100,7 @@ module _ (s : State) (r : Reading) (g : Gives r) where
   pub counted : {a : Acted} → Did s r a → Counted s a
   unfolding ended
   counted (sent (idle n)) = record { new = 0; few = omega arith; answered = omega arith; noted-today = omega arith }
-  counted (limits k x b l) = record { new = 0; few = omega arith; answered = omega arith; noted-today = omega arith }
+  counted (sublimits k x b l) = record { new = 0; few = omega arith; answered = omega arith; noted-today = omega arith }
   counted (letters k x p c m w) = record {
     new = 0;
     few = omega arith;

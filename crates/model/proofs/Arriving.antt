@@ -45,7 +45,7 @@ use Rattle.model.proofs.Truth.{or-right, or-second, and-true}
 use Rattle.model.proofs.Noting.{today-remembered, free-unnoted, unlike-used, same-sym, same-self}
 use Rattle.model.proofs.Remembering.{bin-code, same-code, unlike-none}
 use Rattle.model.proofs.Seeking.{seek-answers, byFound}
-use Rattle.model.proofs.Doing.{Start, going, begun as anew, Joins, Did, sent, idle, limits, letters, alone, repeats, recalls, completes, grows, rejects, did}
+use Rattle.model.proofs.Doing.{Start, going, begun as anew, Joins, Did, sent, idle, sublimits, letters, alone, repeats, recalls, completes, grows, rejects, did}
 use Rattle.model.proofs.Agreement.{right-day}
 use Rattle.model.proofs.Admitting.{Gives}
 use Rattle.model.proofs.Reading.{readers}
@@ -270,7 +270,7 @@ module _ (s : State) (r : Reading) where
     did-takes : {a : Acted} → Did s r a → Took (a .known .bins) (a .batches .places)
     unfolding ended
     did-takes (sent (idle n)) = as-before h
-    did-takes (limits k x b l) = as-before h
+    did-takes (sublimits k x b l) = as-before h
     did-takes (letters k x p c m w) = with-place (as-before h) p _ (live-letter (λ c. has c lives ≡ true) k x (placeAt (s .batches) p) (live-among p))
     did-takes (sent (alone n y q w)) = as-before h
     did-takes (sent (repeats p c f i)) = with-place (as-before h) p free tt

@@ -18,7 +18,7 @@ use Rattle.model.specs.Changes.{relettered, withLetter}
 use Rattle.model.specs.Answered.{replyTo, repliedTo, timesIn, notedOn, referencesOf, awaitingAt}
 use Rattle.model.proofs.Admitting.{Gives}
 use Rattle.model.proofs.Remembering.{reference-noted}
-use Rattle.model.proofs.Doing.{New, Alone, refuses, answers, Start, going, begun, Did, sent, idle, limits, letters, alone, repeats, recalls, completes, grows, rejects}
+use Rattle.model.proofs.Doing.{New, Alone, refuses, answers, Start, going, begun, Did, sent, idle, sublimits, letters, alone, repeats, recalls, completes, grows, rejects}
 
 -- ---- references, counted
 
@@ -146,7 +146,7 @@ module _ (s : State) (r : Reading) (g : Gives r) (x : Code) where
   pub balanced : {a : Acted} → Did s r a → Balanced a
   unfolding ended repliedTo timesIn
   balanced (sent (idle n)) = omega arith
-  balanced (limits k v b l) = omega arith
+  balanced (sublimits k v b l) = omega arith
   balanced (letters k l p c m w) =
       omega (arith, waits-set x (s .batches .places) p (withLetter k l (placeAt (s .batches) p)) (w .there .inside), letter-among k l (placeAt (s .batches) p))
   balanced (sent (alone n y q w)) = omega (arith, this-more w, alone-told q)

@@ -17,7 +17,7 @@ use Rattle.book_write.specs.Closing.{bankOf, bookBytes}
 use Rattle.book_read.specs.Accounts.{Stream, Bank, fieldOf, column, dayIn, streamsIn, banksIn}
 use Rattle.book_read.specs.Range.{Each, InRange}
 use Rattle.book_read.specs.declared.Field.{Field}
-use Rattle.book_read.specs.declared.Field.the-variants.{Code, Flags, Balance, Limit}
+use Rattle.book_read.specs.declared.Field.the-variants.{Code, Flags, Balance, Sublimit}
 use Rattle.book_read.proofs.Filling.{map-each}
 use Rattle.book_read.proofs.Filling.{each-length}
 use Rattle.thm_books_back.proofs.Theorems.{written-accepted, written-reads-back}
@@ -63,42 +63,42 @@ zeros-same [] (y ∷ b) n f g = absurd (omega arith)
 zeros-same (x ∷ a) [] n f g = absurd (omega arith)
 zeros-same (x ∷ a) (y ∷ b) n f g = rw (f .0, g .0) (ap (λ (l : List ℕ). 0 ∷ l) (zeros-same a b (omega arith) (f .1) (g .1)))
 
-module _ (h : House) (a : Accounts) (g : RightHouse h (a .balances) (a .limits)) where
+module _ (h : House) (a : Accounts) (g : RightHouse h (a .balances) (a .sublimits)) where
   abbrev bs : List Bank
   bs = banksOf h a
 
   banks-long : length bs ≡ h .banks
-  banks-long = each-length (bankOf (h .codes) (h .flags) (a .balances) (a .limits)) 0 (h .banks)
+  banks-long = each-length (bankOf (h .codes) (h .flags) (a .balances) (a .sublimits)) 0 (h .banks)
 
   -- a column of the banks is the first part of the column of the tables
   abbrev of : Field → List ℕ
   of Code = h .codes
   of Flags = h .flags
   of Balance = a .balances
-  of Limit = a .limits
+  of Sublimit = a .sublimits
 
   of-long : (f : Field) → length (of f) ≡ 64
   of-long Code = g .codes-long
   of-long Flags = g .flags-long
   of-long Balance = g .balances-long
-  of-long Limit = g .limits-long
+  of-long Sublimit = g .sublimits-long
 
   of-past : (f : Field) → Each {A = ℕ} (λ x. x ≡ 0) (drop (h .banks) (of f))
   of-past Code = g .codes-past
   of-past Flags = g .flags-past
   of-past Balance = g .balances-past
-  of-past Limit = g .limits-past
+  of-past Sublimit = g .sublimits-past
 
-  of-field : (f : Field) (n i : ℕ) → each (λ (j : ℕ). fieldOf f (bankOf (h .codes) (h .flags) (a .balances) (a .limits) j)) i n ≡ each (λ (j : ℕ). getD (of f) j 0) i n
+  of-field : (f : Field) (n i : ℕ) → each (λ (j : ℕ). fieldOf f (bankOf (h .codes) (h .flags) (a .balances) (a .sublimits) j)) i n ≡ each (λ (j : ℕ). getD (of f) j 0) i n
   of-field f zero i = refl
   of-field Code (suc n) i = ap (λ (l : List ℕ). getD (h .codes) i 0 ∷ l) (of-field Code n (i + 1))
   of-field Flags (suc n) i = ap (λ (l : List ℕ). getD (h .flags) i 0 ∷ l) (of-field Flags n (i + 1))
   of-field Balance (suc n) i = ap (λ (l : List ℕ). getD (a .balances) i 0 ∷ l) (of-field Balance n (i + 1))
-  of-field Limit (suc n) i = ap (λ (l : List ℕ). getD (a .limits) i 0 ∷ l) (of-field Limit n (i + 1))
+  of-field Sublimit (suc n) i = ap (λ (l : List ℕ). getD (a .sublimits) i 0 ∷ l) (of-field Sublimit n (i + 1))
 
   first-of : (f : Field) → column f bs ≡ take (h .banks) (of f)
   first-of f =
-      map-each (fieldOf f) (bankOf (h .codes) (h .flags) (a .balances) (a .limits)) 0 (h .banks)
+      map-each (fieldOf f) (bankOf (h .codes) (h .flags) (a .balances) (a .sublimits)) 0 (h .banks)
       ∙ of-field f (h .banks) 0
       ∙ listed (of f) (h .banks) 0 (omega (arith, of-long f, g .few-banks))
 
@@ -140,7 +140,7 @@ module _ (h : House) (a : Accounts) (g : RightHouse h (a .balances) (a .limits))
     banks-rise = rw (first-of Code) (g .banks-rise);
     flags-right = rw (first-of Flags) (g .flags-right);
     balances-right = rw (first-of Balance) (each-first (λ x. x ≤ 6400000000000000) (h .banks) (a .balances) (each-below 6400000000000000 (a .balances) (g .total)));
-    limits-right = rw (first-of Limit) (each-first (λ x. x ≤ 6400000000000000) (h .banks) (a .limits) (g .limits-right));
+    sublimits-right = rw (first-of Sublimit) (each-first (λ x. x ≤ 6400000000000000) (h .banks) (a .sublimits) (g .sublimits-right));
     total = few-cents;
   }
 
@@ -167,8 +167,8 @@ module _ (s : State) (v : Opened s) (date k : ℕ) (is : dayOf date ≡ Number k
   house-of xs bs e f =
       rw (e, f, banks-long (s .house) (s .books) (v .house), columns-back (s .house) (s .books) (v .house) Code, columns-back (s .house) (s .books) (v .house) Flags) refl
 
-  books-of : (bs : List Bank) → bs ≡ banksOf (s .house) (s .books) → accounts (columnOf Balance bs) (columnOf Limit bs) ≡ s .books
-  books-of bs f = rw (f, columns-back (s .house) (s .books) (v .house) Balance, columns-back (s .house) (s .books) (v .house) Limit) refl
+  books-of : (bs : List Bank) → bs ≡ banksOf (s .house) (s .books) → accounts (columnOf Balance bs) (columnOf Sublimit bs) ≡ s .books
+  books-of bs f = rw (f, columns-back (s .house) (s .books) (v .house) Balance, columns-back (s .house) (s .books) (v .house) Sublimit) refl
 
   pub tells : Tells s date out
   unfolding opened

@@ -14,7 +14,7 @@ use Rattle.settle.specs.Payments.{Payment}
 use Rattle.settle.specs.Settlement.{Accounts, verdict}
 use Rattle.settle.specs.declared.Verdict.the-variants.{Passes}
 use Rattle.settle.specs.Rules.{sum}
-use Rattle.queue.specs.Promise.{Trail, All, Stuck, Off, Fair, limited, broughtBy, takenBy}
+use Rattle.queue.specs.Promise.{Trail, All, Stuck, Off, Fair, sublimited, broughtBy, takenBy}
 use Rattle.queue.specs.Tests.{Outcome, fuel}
 use Rattle.queue.proofs.Trail.{All-zip, test-trail, test-stuck, test-parted}
 use Rattle.queue.proofs.Balances.{trail-sum, trail-total}
@@ -34,7 +34,7 @@ use Rattle.model.proofs.Agreement.{Faithful, true-acted, right-day}
 use Rattle.model.proofs.Counting.{times-once, off-none}
 use Rattle.model.proofs.Standing.{at-most-once, emptied-off}
 use Rattle.model.proofs.Settling.{gone-fair, house-books}
-use Rattle.model.proofs.Doing.{Did, sent, idle, limits, letters, alone, repeats, recalls, completes, grows, rejects, did}
+use Rattle.model.proofs.Doing.{Did, sent, idle, sublimits, letters, alone, repeats, recalls, completes, grows, rejects, did}
 use Rattle.model.proofs.Keeping.{Readers, Kept, acted-stood, acted-house}
 
 -- ---- the words
@@ -93,9 +93,9 @@ taken-append k (x ∷ a) b = omega (arith, taken-append k a b)
 
 -- no action moves money
 same-money : (s : State) (r : Reading) {a : Acted} → Did s r a → a .books .balances ≡ s .books .balances
-unfolding limited
+unfolding sublimited
 same-money s r (sent (idle n)) = refl
-same-money s r (limits k x b l) = refl
+same-money s r (sublimits k x b l) = refl
 same-money s r (letters k x p c m w) = refl
 same-money s r (sent (alone n y q w)) = refl
 same-money s r (sent (repeats p c f i)) = refl

@@ -18,10 +18,10 @@ use Rattle.request_read.specs.declared.whole.Reading.{Reading}
 use Rattle.response_write.specs.declared.Outcome.the-variants.{Rejected}
 use Rattle.response_write.specs.declared.Answer.the-variants.{Recalled, Kept}
 use Rattle.book_read.specs.Book.{mostMoney}
-use Rattle.queue.specs.Promise.{limited}
+use Rattle.queue.specs.Promise.{sublimited}
 use Rattle.model.specs.declared.Answer.{Answer}
 use Rattle.model.specs.declared.Answer.the-variants.{Done, Refused}
-use Rattle.model.specs.Kinds.{Own, receives, changesLimit, changesStatus, nothing}
+use Rattle.model.specs.Kinds.{Own, receives, changesSublimit, changesStatus, nothing}
 use Rattle.model.specs.State.{Found, at, nowhere, onFound, seek, isFree, Batch, Place, free, live, onLive, Batches, Known, State, placeAt, placeMessages, paymentsAt, withPlace}
 use Rattle.model.specs.Memory.{isUsed, vacant}
 use Rattle.model.specs.Replies.{Reply, settlement, recall, repliesTo}
@@ -77,8 +77,8 @@ module _ (s : State) (r : Reading) where
   -- any action
   pub data Did : Acted → Type 0 where
     sent : {a : Acted} → Told a → Did a
-    limits : (k v : ℕ) → k < s .house .banks → v ≤ mostMoney
-        → Did (record { answer = Done; replies = []; wakes = bank k ∷ []; books = limited (s .books) k v; batches = s .batches; known = s .known })
+    sublimits : (k v : ℕ) → k < s .house .banks → v ≤ mostMoney
+        → Did (record { answer = Done; replies = []; wakes = bank k ∷ []; books = sublimited (s .books) k v; batches = s .batches; known = s .known })
     letters : (k x p : ℕ) (c : Code) → member x (bytes "ADP") ≡ true → Waiting (s .batches) c p
         → Did (leaving s Done [] (place p ∷ []) (withPlace (s .batches) p (withLetter k x (placeAt (s .batches) p))) (s .known))
 
@@ -161,11 +161,11 @@ module _ (s : State) (r : Reading) where
       by-cond Told (isUsed (today s) (reference s r) (s .known .references)) (λ _. did-repeated t) (λ u.
       by-cond Told (fits s r t) (λ f. did-noted t stream i u f) (λ _. idle _))))
 
-  did-limit : (code cents : ℕ) → Did (subLimit s code cents)
+  did-sublimit : (code cents : ℕ) → Did (subLimit s code cents)
   unfolding subLimit
-  did-limit code cents =
+  did-sublimit code cents =
       by-found Did (bankPlace (s .house) code) (sent (idle _)) (λ p e.
-      by-cond Did (leb cents mostMoney) (λ l. limits p cents (bank-below (s .house) code p e) (leb-true _ _ l)) (λ _. sent (idle _)))
+      by-cond Did (leb cents mostMoney) (λ l. sublimits p cents (bank-below (s .house) code p e) (leb-true _ _ l)) (λ _. sent (idle _)))
 
   did-status : (code : ℕ) (bin : Code) (letter : ℕ) → Did (status s code bin letter)
   unfolding status
@@ -179,7 +179,7 @@ module _ (s : State) (r : Reading) where
   did-own : (x : Own) (input : List ℕ) → requestAt input ≡ r → Did (act s x input)
   unfolding act
   did-own (receives sender) input e = rw e (sent (did-message sender))
-  did-own (changesLimit code cents) input e = did-limit code cents
+  did-own (changesSublimit code cents) input e = did-sublimit code cents
   did-own (changesStatus code bin letter) input e = did-status code bin letter
   did-own nothing input e = sent (idle _)
 

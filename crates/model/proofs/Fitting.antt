@@ -33,7 +33,7 @@ use Rattle.model.proofs.Settling.{each-append}
 use Rattle.model.proofs.Admitting.{Gives, each-last}
 use Rattle.model.proofs.Remembering.{same-code, named-reference}
 use Rattle.model.proofs.Placing.{starts}
-use Rattle.model.proofs.Doing.{New, Alone, refuses, answers, Did, sent, idle, limits, letters, alone, repeats, recalls, completes, grows, rejects}
+use Rattle.model.proofs.Doing.{New, Alone, refuses, answers, Did, sent, idle, sublimits, letters, alone, repeats, recalls, completes, grows, rejects}
 
 -- ---- one text
 
@@ -146,7 +146,7 @@ module _ (s : State) (h : Stood (s .house .banks) (s .batches)) (r : Reading) (g
 
   pub acted-fit : {a : Acted} → Did s r a → Each (λ y. Fits y) (a .replies)
   acted-fit (sent (idle n)) = tt
-  acted-fit (limits k x b l) = tt
+  acted-fit (sublimits k x b l) = tt
   acted-fit (letters k x p c m w) = tt
   acted-fit (sent (alone n y q w)) = (alone-fits w q, tt)
   acted-fit (sent (repeats p c f i)) = replies-fit (placeMessages (placeAt (s .batches) p)) c _ (place-referring (s .house .banks) (h .each p)) (found-bin c p (i .there)) (refused-told f)

@@ -39,7 +39,7 @@ use Rattle.model.proofs.Moved.{Moved, still, one, sub, moved}
 use Rattle.model.proofs.Counting.{times, times-append, times-kept, no-member, a-member, times-all}
 use Rattle.model.proofs.Standing.{emptied-off}
 use Rattle.model.proofs.Settling.{test-times}
-use Rattle.model.proofs.Doing.{Start, going, begun as begins, Did, sent, idle, limits, letters, alone, repeats, recalls, completes, grows, rejects, did}
+use Rattle.model.proofs.Doing.{Start, going, begun as begins, Did, sent, idle, sublimits, letters, alone, repeats, recalls, completes, grows, rejects, did}
 
 -- what is held: of a place in q, a bank with a debit there
 abbrev pub Holds : List ℕ → (ℕ → List Payment) → List ℕ → Type 0
@@ -166,7 +166,7 @@ module _ (s : State) (r : Reading) where
   -- a queued place that the action does not name stays queued
   still-queued : {a : Acted} → Did s r a → (q : ℕ) → ((p : ℕ) → a .wakes ≡ place p ∷ [] → q ≡ p → ⊥) → times q (s .batches .queue) ≤ times q (a .batches .queue)
   still-queued (sent (idle n)) q h = omega arith
-  still-queued (limits k x b l) q h = omega arith
+  still-queued (sublimits k x b l) q h = omega arith
   still-queued (letters k x p c m w) q h = omega arith
   still-queued (sent (alone n y i w)) q h = omega arith
   still-queued (sent (repeats p c f i)) q h = omega (arith, ended-queue (s .batches) p q (h p refl))

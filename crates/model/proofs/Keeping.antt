@@ -11,7 +11,7 @@ use Rattle.book_read.specs.Book.{bookCheck}
 use Rattle.book_read.specs.Accounts.{dayIn, streamsIn, banksIn}
 use Rattle.book_read.specs.declared.Answer.{Answer as Check}
 use Rattle.book_read.specs.declared.Answer.the-variants.{Sound, Fault}
-use Rattle.book_read.specs.declared.Field.the-variants.{Code, Flags, Balance, Limit}
+use Rattle.book_read.specs.declared.Field.the-variants.{Code, Flags, Balance, Sublimit}
 use Rattle.queue.specs.Tests.{Outcome, fuel}
 use Rattle.book_read.specs.Range.{Each}
 use Rattle.model.specs.declared.Answer.{Answer}
@@ -34,7 +34,7 @@ pub record BookGives (book : List ℕ) : Type 0 where
   pub house : RightHouse
       (record { streams = streamsIn book; banks = length (banksIn book); codes = columnOf Code (banksIn book); flags = columnOf Flags (banksIn book) })
       (columnOf Balance (banksIn book))
-      (columnOf Limit (banksIn book))
+      (columnOf Sublimit (banksIn book))
   pub date : dayIn book < 36525
   pub some-streams : 1 ≤ length (streamsIn book)
   pub some-banks : 1 ≤ length (banksIn book)
@@ -45,7 +45,7 @@ pub record Readers : Type 0 where
   pub books : (b : List ℕ) → bookCheck b ≡ Sound → BookGives b
 
 pub record Kept (s : State) : Type 0 where
-  pub house : RightHouse (s .house) (s .books .balances) (s .books .limits)
+  pub house : RightHouse (s .house) (s .books .balances) (s .books .sublimits)
   pub batches : Stood (s .house .banks) (s .batches)
   -- "no live batch unless the day is open"
   pub idle : isOpen (s .day .phase) ≡ false → s .batches ≡ noBatches
@@ -67,16 +67,16 @@ fresh-kept = record {
     codes-long = refl;
     flags-long = refl;
     balances-long = refl;
-    limits-long = refl;
+    sublimits-long = refl;
     bank-codes = tt;
     banks-rise = tt;
     flags-right = tt;
-    limits-right = each-none (λ x. x ≤ 6400000000000000) 64 (omega arith);
+    sublimits-right = each-none (λ x. x ≤ 6400000000000000) 64 (omega arith);
     total = omega arith;
     codes-past = each-none (λ x. x ≡ 0) 64 refl;
     flags-past = each-none (λ x. x ≡ 0) 64 refl;
     balances-past = each-none (λ x. x ≡ 0) 64 refl;
-    limits-past = each-none (λ x. x ≡ 0) 64 refl;
+    sublimits-past = each-none (λ x. x ≡ 0) 64 refl;
   };
   batches = free-stood 0;
   idle = λ e. refl;
@@ -108,7 +108,7 @@ module _ (readers : Readers) (e : Engine) (c : Call) (k : Kept (e .state)) where
   unfolding begun
   begun-stood = join-stood (e .state .house .banks) (c .asked .clock) (e .state .batches) (k .batches)
 
-  pub begun-house : RightHouse (s .house) (s .books .balances) (s .books .limits)
+  pub begun-house : RightHouse (s .house) (s .books .balances) (s .books .sublimits)
   unfolding begun
   begun-house = k .house
 
@@ -116,7 +116,7 @@ module _ (readers : Readers) (e : Engine) (c : Call) (k : Kept (e .state)) where
   pub acted-stood : Stood (s .house .banks) (a .batches)
   acted-stood = places-kept s begun-stood (requestAt (c .asked .input)) (did s (ownOf (c .asked .action)) (c .asked .input)) (readers .texts (c .asked .input) .settlement)
 
-  pub acted-house : RightHouse (s .house) (a .books .balances) (a .books .limits)
+  pub acted-house : RightHouse (s .house) (a .books .balances) (a .books .sublimits)
   acted-house = house-kept s (requestAt (c .asked .input)) (did s (ownOf (c .asked .action)) (c .asked .input)) begun-house
 
   -- after (d)
@@ -124,7 +124,7 @@ module _ (readers : Readers) (e : Engine) (c : Call) (k : Kept (e .state)) where
   unfolding left tested
   tested-stood = test-stood (s .house .banks) (a .batches) (o .queue) (o .done) acted-stood (λ p. test-times (c .asked .quick) (paymentsAt (a .batches)) (fuel (a .batches .queue)) p (a .books) _ (a .batches .queue))
 
-  pub tested-house : RightHouse (s .house) (o .books .balances) (o .books .limits)
+  pub tested-house : RightHouse (s .house) (o .books .balances) (o .books .sublimits)
   unfolding tested
   tested-house = house-tested (s .house) (a .batches) (a .books) (c .asked .quick) _ acted-house acted-stood
 

@@ -22,7 +22,7 @@ use Rattle.model.specs.declared.Action.{Action}
 use Rattle.model.specs.declared.Action.the-variants.{Opening, Message, SubLimit, Status, Tick, Close, ClosingBook}
 use Rattle.model.specs.declared.Answer.{Answer}
 use Rattle.model.specs.declared.Answer.the-variants.{Done, Refused}
-use Rattle.model.specs.Kinds.{Kind, isClose, Own, receives, changesLimit, changesStatus, nothing, ownOf}
+use Rattle.model.specs.Kinds.{Kind, isClose, Own, receives, changesSublimit, changesStatus, nothing, ownOf}
 use Rattle.model.specs.State.{Found, at, nowhere, onFound, seek, isFree, Batch, Place, free, live, onLive, Batches, Known, State, placeAt, paymentsAt, paymentsOf, withPlace}
 use Rattle.model.specs.Memory.{isUsed}
 use Rattle.model.specs.Joining.{keep}
@@ -214,9 +214,9 @@ module _ (s : State) (r : Reading) (h : Stood (s .house .banks) (s .batches)) wh
 
   -- ---- changes
 
-  limit-left : (code cents : ℕ) → Left (λ q. untouched s q) (subLimit s code cents)
+  sublimit-left : (code cents : ℕ) → Left (λ q. untouched s q) (subLimit s code cents)
   unfolding subLimit
-  limit-left code cents =
+  sublimit-left code cents =
       by-found (λ q. untouched s q) (bankPlace (s .house) code)
       (λ _. left-at (λ q. untouched s q) UnknownBank _ refl refl)
       (λ p _. by-cond (λ q. untouched s q) (leb cents mostMoney) (λ _. left-done (λ q. untouched s q) _ refl) (λ _. left-at (λ q. untouched s q) OutOfRange _ refl refl))
@@ -235,7 +235,7 @@ module _ (s : State) (r : Reading) (h : Stood (s .house .banks) (s .batches)) wh
   own-left : (x : Own) (input : List ℕ) → requestAt input ≡ r → Left (leftBy s r x) (act s x input)
   unfolding act message
   own-left (receives sender) input e = rw e (text-left sender (r .outcome))
-  own-left (changesLimit code cents) input e = limit-left code cents
+  own-left (changesSublimit code cents) input e = sublimit-left code cents
   own-left (changesStatus code c letter) input e = status-left code c letter
   own-left nothing input e = left-done (leftBy s r nothing) _ refl
 

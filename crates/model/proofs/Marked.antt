@@ -45,8 +45,8 @@ abbrev pub row : ℕ → Said → Said → Row
 row n a s = record { number = n; asked = a; said = s }
 
 -- a debit with these letters, on a balance and a sub-limit
-abbrev pub cover : (balance limit : ℕ) (letters : String) (amount : ℕ) → Said
-cover balance limit letters amount = cond (covered (lettered (bytes letters)) balance limit amount) passes no
+abbrev pub cover : (balance sublimit : ℕ) (letters : String) (amount : ℕ) → Said
+cover balance sublimit letters amount = cond (covered (lettered (bytes letters)) balance sublimit amount) passes no
 
 -- an amount as 32B has it
 abbrev pub amount : String → Said

@@ -9,15 +9,15 @@ use borrow.Author.Tests.{eqb-true, eqb-false}
 use Rattle.request_read.specs.whole.Request.{requestAt}
 use Rattle.request_read.specs.declared.whole.Reading.{Reading}
 use Rattle.settle.specs.Settlement.{Accounts}
-use Rattle.queue.specs.Promise.{True, limited}
+use Rattle.queue.specs.Promise.{True, sublimited}
 use Rattle.queue.proofs.MemoryLaws.{byBool}
-use Rattle.queue.proofs.Agree.{forgets, true-limit}
+use Rattle.queue.proofs.Agree.{forgets, true-sublimit}
 use Rattle.model.specs.Kinds.{Own}
 use Rattle.model.specs.State.{Batch, Place, free, live, Batches, Known, State, placeAt, paymentsAt}
 use Rattle.model.specs.Messages.{firstBatch, Acted, bank, place, ended, withMessage}
 use Rattle.model.specs.Changes.{withLetter}
 use Rattle.model.specs.Calls.{act, woken}
-use Rattle.model.proofs.Doing.{Start, going, begun, Did, sent, idle, limits, letters, alone, repeats, recalls, completes, grows, rejects, did}
+use Rattle.model.proofs.Doing.{Start, going, begun, Did, sent, idle, sublimits, letters, alone, repeats, recalls, completes, grows, rejects, did}
 
 -- all places but p are as before
 abbrev pub Beside : Batches → Batches → ℕ → Type 0
@@ -26,7 +26,7 @@ Beside b c p = (q : ℕ) → (q ≡ p → ⊥) → placeAt c q ≡ placeAt b q
 pub data Moved (s : State) (a : Acted) : Type 0 where
   still : a .wakes ≡ [] → a .books ≡ s .books → a .batches ≡ s .batches → Moved s a
   one : (p : ℕ) → a .wakes ≡ place p ∷ [] → a .books ≡ s .books → Beside (s .batches) (a .batches) p → Moved s a
-  sub : (k v : ℕ) → a .wakes ≡ bank k ∷ [] → a .books ≡ limited (s .books) k v → a .batches ≡ s .batches → Moved s a
+  sub : (k v : ℕ) → a .wakes ≡ bank k ∷ [] → a .books ≡ sublimited (s .books) k v → a .batches ≡ s .batches → Moved s a
 
 pub set-beside : (ps : List Place) (p : ℕ) (x : Place) (q : ℕ) → (q ≡ p → ⊥) → getD (set ps p x) q free ≡ getD ps q free
 set-beside ps p x q h = getD-set-other ps p q x free h
@@ -49,7 +49,7 @@ module _ (s : State) where
 
   moved-did : (r : Reading) {a : Acted} → Did s r a → Moved s a
   moved-did r (sent (idle n)) = still refl refl refl
-  moved-did r (limits k v b l) = sub k v refl refl refl
+  moved-did r (sublimits k v b l) = sub k v refl refl refl
   moved-did r (letters k x p c m w) = one p refl refl (put-beside (s .batches) p (withLetter k x (placeAt (s .batches) p)) (same-beside p))
   moved-did r (sent (alone n y q w)) = still refl refl refl
   moved-did r (sent (repeats p c f i)) = one p refl refl (ended-beside (s .batches) p (same-beside p))
@@ -75,4 +75,4 @@ pub true-moved : (s : State) (a : Acted) (m : List ℕ) → Moved s a → True (
 unfolding woken
 true-moved s a m (still w b c) t = rw (w, b, c) t
 true-moved s a m (one p w b h) t = rw (w, b) (true-beside (s .batches) (a .batches) (s .books) m p h t)
-true-moved s a m (sub k v w b c) t = rw (w, b, c) (true-limit (paymentsAt (s .batches)) (s .books) k v m t)
+true-moved s a m (sub k v w b c) t = rw (w, b, c) (true-sublimit (paymentsAt (s .batches)) (s .books) k v m t)

@@ -24,7 +24,7 @@ use Rattle.queue.proofs.History.{replay-append, replay-length, test-replays, te
 use Rattle.queue.proofs.Promises.{fresh-none}
 use Rattle.model.specs.declared.Answer.{Answer}
 use Rattle.model.specs.declared.Answer.the-variants.{Done, Refused}
-use Rattle.model.specs.Kinds.{Kind, opens, steps, gives, kindOf, isClose, Own, receives, changesLimit, changesStatus, nothing, ownOf}
+use Rattle.model.specs.Kinds.{Kind, opens, steps, gives, kindOf, isClose, Own, receives, changesSublimit, changesStatus, nothing, ownOf}
 use Rattle.model.specs.State.{Batch, Place, free, live, Batches, Known, State, noBatches, noMemory, hasBin, placeAt, paymentsAt, withPlace}
 use Rattle.model.specs.Messages.{Acted, bankPlace, waiting, ended, message}
 use Rattle.model.specs.Changes.{subLimit, hasDebit, withLetter, status}
@@ -159,9 +159,9 @@ module _ (s : State) (h : Stood (s .house .banks) (s .batches)) (m : List ℕ) (
   message-quiet sender Done = refl
   message-quiet sender (Refused r) = refl
 
-  limit-replays : (code cents : ℕ) → By (subLimit s code cents) (accepted s (changesLimit code cents) (subLimit s code cents .answer))
+  sublimit-replays : (code cents : ℕ) → By (subLimit s code cents) (accepted s (changesSublimit code cents) (subLimit s code cents .answer))
   unfolding subLimit woken replay afterEvent
-  limit-replays code cents =
+  sublimit-replays code cents =
       byFound (bankPlace (s .house) code)
       (λ k e. byBool (leb cents mostMoney) (λ f. rw (e, f) (rw e (ap (map (wake (eqb k))) still))) (λ f. rw (e, f) still))
       (λ e. rw e still)
@@ -190,7 +190,7 @@ module _ (s : State) (h : Stood (s .house .banks) (s .batches)) (m : List ℕ) (
   acts : (x : Own) (input : List ℕ) → By (act s x input) (accepted s x (act s x input .answer))
   unfolding act woken
   acts (receives sender) input = rw (message-quiet sender (message s sender (requestAt input) .answer)) (told-replays (requestAt input) (did-message s (requestAt input) sender))
-  acts (changesLimit code cents) input = limit-replays code cents
+  acts (changesSublimit code cents) input = sublimit-replays code cents
   acts (changesStatus code bin letter) input = letter-replays code bin letter
   acts nothing input = still
 

@@ -7,7 +7,7 @@ use lib.ListN.{length}
 use Rattle.book_read.specs.Book.{each}
 use Rattle.book_write.specs.Closing.{bankOf}
 use Rattle.book_read.specs.Accounts.{Bank, column, banksIn}
-use Rattle.book_read.specs.declared.Field.the-variants.{Code, Flags, Balance, Limit}
+use Rattle.book_read.specs.declared.Field.the-variants.{Code, Flags, Balance, Sublimit}
 use Rattle.model.specs.declared.Action.{Action}
 use Rattle.model.specs.declared.Answer.{Answer}
 use Rattle.model.specs.declared.Answer.the-variants.{Done, Refused}
@@ -28,13 +28,13 @@ shifted x y z w a b c d i (suc n) =
     ap (λ (l : List Bank). bankOf (x ∷ a) (y ∷ b) (z ∷ c) (w ∷ d) (i + 1) ∷ l) (shifted x y z w a b c d (i + 1) n)
     ∙ ap (λ (j : ℕ). bankOf (x ∷ a) (y ∷ b) (z ∷ c) (w ∷ d) j ∷ each (bankOf a b c d) (i + 1) n) k
 
-stored : (bs : List Bank) (a b c d : List ℕ) → each (bankOf (column Code bs ++ a) (column Flags bs ++ b) (column Balance bs ++ c) (column Limit bs ++ d)) 0 (length bs) ≡ bs
+stored : (bs : List Bank) (a b c d : List ℕ) → each (bankOf (column Code bs ++ a) (column Flags bs ++ b) (column Balance bs ++ c) (column Sublimit bs ++ d)) 0 (length bs) ≡ bs
 stored [] a b c d = refl
 stored (x ∷ bs) a b c d =
-    ap (λ (l : List Bank). x ∷ l) (shifted _ _ _ _ (column Code bs ++ a) (column Flags bs ++ b) (column Balance bs ++ c) (column Limit bs ++ d) 0 (length bs) ∙ stored bs a b c d)
+    ap (λ (l : List Bank). x ∷ l) (shifted _ _ _ _ (column Code bs ++ a) (column Flags bs ++ b) (column Balance bs ++ c) (column Sublimit bs ++ d) 0 (length bs) ∙ stored bs a b c d)
 
-banks-stored : (bs : List Bank) → length bs ≤ 64 → each (bankOf (columnOf Code bs) (columnOf Flags bs) (columnOf Balance bs) (columnOf Limit bs)) 0 (length bs) ≡ bs
-banks-stored bs h = rw (column-is Code bs h, column-is Flags bs h, column-is Balance bs h, column-is Limit bs h) (stored bs _ _ _ _)
+banks-stored : (bs : List Bank) → length bs ≤ 64 → each (bankOf (columnOf Code bs) (columnOf Flags bs) (columnOf Balance bs) (columnOf Sublimit bs)) 0 (length bs) ≡ bs
+banks-stored bs h = rw (column-is Code bs h, column-is Flags bs h, column-is Balance bs h, column-is Sublimit bs h) (stored bs _ _ _ _)
 
 module _ (e : Engine) (c : Call) where
   opens-right : openingAnswer (e .state .day) (c .asked .input) ≡ Done → Opens e (c .asked .clock) (c .asked .input) (opened (e .state) (c .asked .clock) (c .asked .input))

@@ -39,7 +39,7 @@ use Rattle.model.proofs.Keeping.{Readers, Kept, begun-stood, acted-stoo
 use Rattle.model.proofs.Validity.{valid-kept}
 use Rattle.model.proofs.Counting.{times, times-append, times-other, times-by-time, no-member, a-member, times-all, times-once}
 use Rattle.model.proofs.Standing.{Standing, vacant, building, awaits, stands, Stood, at-most-once, emptied-off, emptied-on}
-use Rattle.model.proofs.Doing.{Start, going, begun as begins, Told, Did, sent, idle, limits, letters, alone, repeats, recalls, completes, grows, rejects, did}
+use Rattle.model.proofs.Doing.{Start, going, begun as begins, Told, Did, sent, idle, sublimits, letters, alone, repeats, recalls, completes, grows, rejects, did}
 use Rattle.model.proofs.Moved.{Beside, set-beside, put-beside, same-beside, start-beside}
 use Rattle.model.proofs.Placing.{around}
 use Rattle.model.proofs.Settling.{test-times}
@@ -222,7 +222,7 @@ module _ (s : State) (h : Stood (s .house .banks) (s .batches)) where
 
     did-order : (r : Reading) {a : Acted} → Did s r a → ((q : ℕ) → placeAt (a .batches) q ≡ free → alive q ≡ false) → Order a
     did-order r (sent t) dead = told-order r t dead
-    did-order r (limits k v b l) dead = still _ refl
+    did-order r (sublimits k v b l) dead = still _ refl
     did-order r (letters k x p c m w) dead =
         quiet _
         (none-new (withPlace (s .batches) p (withLetter k x (placeAt (s .batches) p))) p (put-beside s (s .batches) p (withLetter k x (placeAt (s .batches) p)) (same-beside s p))
@@ -307,7 +307,7 @@ module _ (s : State) (h : Stood (s .house .banks) (s .batches)) (g : Started (s 
 
   did-started : (r : Reading) {a : Acted} → Did s r a → Started (s .day .clock) (a .batches)
   did-started r (sent t) = told-started r t
-  did-started r (limits k v b l) = g
+  did-started r (sublimits k v b l) = g
   did-started r (letters k x p c m w) =
       λ q i. as-before (withPlace (s .batches) p (withLetter k x (placeAt (s .batches) p))) q
       (byBool (eqb q p)

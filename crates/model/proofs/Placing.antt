@@ -23,8 +23,8 @@ use Rattle.model.proofs.Seeking.{Answers, no-times, Assembling}
 use Rattle.model.proofs.Standing.{Standing, vacant, building, awaits, stands, Stood, Around, alike, ended-stood, put-stood, tail-stood}
 use Rattle.model.proofs.Admitting.{TextGives, Takes, takes, message-right}
 use Rattle.model.proofs.Lettering.{a-status, a-byte, lettered-standing}
-use Rattle.model.proofs.Settling.{house-limited}
-use Rattle.model.proofs.Doing.{Start, going, begun, Did, sent, idle, limits, letters, alone, repeats, recalls, completes, grows, rejects}
+use Rattle.model.proofs.Settling.{house-sublimited}
+use Rattle.model.proofs.Doing.{Start, going, begun, Did, sent, idle, sublimits, letters, alone, repeats, recalls, completes, grows, rejects}
 
 module _ (s : State) (h : Stood (s .house .banks) (s .batches)) where
   ends : (p : ℕ) → Stood (s .house .banks) (ended (s .batches) p)
@@ -92,7 +92,7 @@ module _ (s : State) (h : Stood (s .house .banks) (s .batches)) where
   -- the batches, where a settlement request that is read gives right values
   pub places-kept : (r : Reading) {a : Acted} → Did s r a → (r .outcome ≡ Settlement → TextGives r) → Stood (s .house .banks) (a .batches)
   places-kept r (sent (idle n)) v = h
-  places-kept r (limits k x b l) v = h
+  places-kept r (sublimits k x b l) v = h
   places-kept r (letters k x p c m w) v = put-letter k x p m (w .there .inside)
   places-kept r (sent (alone n y q w)) v = h
   places-kept r (sent (repeats p c f i)) v = ends p
@@ -109,9 +109,9 @@ module _ (s : State) (h : Stood (s .house .banks) (s .batches)) where
   places-kept r (sent (rejects f b k p x j)) v = let a = around r (j .start) in ended-stood (s .house .banks) b p (a .long) (a .beside)
 
 -- the house: only a sub-limit changes
-pub house-kept : (s : State) (r : Reading) {a : Acted} → Did s r a → RightHouse (s .house) (s .books .balances) (s .books .limits) → RightHouse (s .house) (a .books .balances) (a .books .limits)
+pub house-kept : (s : State) (r : Reading) {a : Acted} → Did s r a → RightHouse (s .house) (s .books .balances) (s .books .sublimits) → RightHouse (s .house) (a .books .balances) (a .books .sublimits)
 house-kept s r (sent (idle n)) h = h
-house-kept s r (limits k x b l) h = house-limited (s .house) (s .books) k x h b l
+house-kept s r (sublimits k x b l) h = house-sublimited (s .house) (s .books) k x h b l
 house-kept s r (letters k x p c m w) h = h
 house-kept s r (sent (alone n y q w)) h = h
 house-kept s r (sent (repeats p c f i)) h = h

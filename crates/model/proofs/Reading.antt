@@ -24,7 +24,7 @@ use Rattle.book_read.specs.Book.{bookCheck}
 use Rattle.book_read.specs.Accounts.{Bank, column, streamsIn, banksIn}
 use Rattle.book_read.specs.declared.Answer.the-variants.{Sound}
 use Rattle.book_read.specs.declared.Field.{Field}
-use Rattle.book_read.specs.declared.Field.the-variants.{Code as Codes, Flags, Balance, Limit}
+use Rattle.book_read.specs.declared.Field.the-variants.{Code as Codes, Flags, Balance, Sublimit}
 use Rattle.book_read.proofs.Ranging.{accepted-in-range}
 use Rattle.settle.specs.Rules.{sum}
 use Rattle.book_read.specs.Range.{Each, Rising, isShort}
@@ -176,16 +176,16 @@ books-give b h =
         codes-long = column-64 Codes bs (g .few-banks);
         flags-long = column-64 Flags bs (g .few-banks);
         balances-long = column-64 Balance bs (g .few-banks);
-        limits-long = column-64 Limit bs (g .few-banks);
+        sublimits-long = column-64 Sublimit bs (g .few-banks);
         bank-codes = subst (λ (l : List ℕ). Each (λ x. isShort x ≡ true) l) (sym (column-first Codes bs (g .few-banks))) (g .bank-codes);
         banks-rise = subst (λ (l : List ℕ). Rising l) (sym (column-first Codes bs (g .few-banks))) (g .banks-rise);
         flags-right = subst (λ (l : List ℕ). Each (λ x. x / 2 < 2 ^ length (streamsIn b)) l) (sym (column-first Flags bs (g .few-banks))) (g .flags-right);
-        limits-right = column-each Limit bs (g .few-banks) (λ x. x ≤ 6400000000000000) (omega arith) (g .limits-right);
+        sublimits-right = column-each Sublimit bs (g .few-banks) (λ x. x ≤ 6400000000000000) (omega arith) (g .sublimits-right);
         total = omega (arith, column-sum Balance bs (g .few-banks), g .total);
         codes-past = column-past Codes bs (g .few-banks);
         flags-past = column-past Flags bs (g .few-banks);
         balances-past = column-past Balance bs (g .few-banks);
-        limits-past = column-past Limit bs (g .few-banks);
+        sublimits-past = column-past Sublimit bs (g .few-banks);
       };
       date = g .date;
       some-streams = g .some-streams;

@@ -22,7 +22,7 @@ use Rattle.model.proofs.Admitting.{Gives}
 use Rattle.model.proofs.Noting.{unlike-used, Noted}
 use Rattle.model.proofs.Noting.{noted as note-keeps}
 use Rattle.model.proofs.Bins.{LiveWith, Binned, binned-more, binned-same, binned-new}
-use Rattle.model.proofs.Doing.{New, Start, going, begun, Joins, Did, sent, idle, limits, letters, alone, repeats, recalls, completes, grows, rejects}
+use Rattle.model.proofs.Doing.{New, Start, going, begun, Joins, Did, sent, idle, sublimits, letters, alone, repeats, recalls, completes, grows, rejects}
 
 -- ---- a right reference or BIN is a code
 
@@ -94,7 +94,7 @@ module _ (s : State) (r : Reading) (g : Gives r) where
 
     pub known-kept : {a : Acted} → Did s r a → RightKnown (today s) (a .known)
     known-kept (sent (idle n)) = h
-    known-kept (limits k x b l) = h
+    known-kept (sublimits k x b l) = h
     known-kept (letters k x p c m w) = h
     known-kept (sent (alone n y q w)) = noted-right w
     known-kept (sent (repeats p c f i)) = h
@@ -137,7 +137,7 @@ module _ (s : State) (r : Reading) (g : Gives r) where
     pub bins-kept : {a : Acted} → Did s r a → Binned (rem (a .known)) (a .batches .places)
     unfolding ended
     bins-kept (sent (idle n)) = h
-    bins-kept (limits k x b l) = h
+    bins-kept (sublimits k x b l) = h
     bins-kept (letters k x p c m w) = binned-same (rem (s .known)) (s .batches .places) p _ h (letter-bin k x (placeAt (s .batches) p))
     bins-kept (sent (alone n y q w)) = h
     bins-kept (sent (repeats p c f i)) = none-live (rem (s .known)) (s .batches .places) p h

@@ -9,14 +9,14 @@ use lib.Seq.{getD-set-other, drop-set-lt}
 use Rattle.settle.specs.Payments.{Payment, credit, debit}
 use Rattle.settle.specs.Settlement.{Accounts, paid, settled}
 use Rattle.settle.specs.Rules.{Ranged, Books}
-use Rattle.queue.specs.Promise.{All, Trail, halt, pass, Fair, limited}
+use Rattle.queue.specs.Promise.{All, Trail, halt, pass, Fair, sublimited}
 use Rattle.queue.specs.Tests.{Turn, Outcome, stays, leaves, some, turn, walk, test, fuel}
 use Rattle.queue.specs.declared.Step.{Step}
 use Rattle.queue.specs.declared.Step.the-variants.{Omitted, Failed, Passed}
 use Rattle.queue.proofs.MemoryLaws.{byBool}
 use Rattle.queue.proofs.Steps.{test-stop, test-more}
 use Rattle.queue.proofs.Trail.{test-trail, test-each}
-use Rattle.queue.proofs.Balances.{trail-length, trail-limits, trail-total}
+use Rattle.queue.proofs.Balances.{trail-length, trail-sublimits, trail-total}
 use Rattle.book_read.specs.Range.{Each}
 use Rattle.model.specs.State.{House, Message, Place, Batches, placePayments, paymentsAt, paymentsOf}
 use Rattle.model.specs.Rules.{Priced, RightMessage, RightHouse}
@@ -113,14 +113,14 @@ all-fair : (n : ℕ) (batch : ℕ → List Payment) (ps : List ℕ) → All (λ 
 all-fair n batch [] h = tt
 all-fair n batch (p ∷ ps) h = (h .0 .fair, all-fair n batch ps (h .1))
 
-pub house-books : (h : House) (a : Accounts) → RightHouse h (a .balances) (a .limits) → Books (a .balances) (a .limits)
-house-books h a r = record { b-long = r .balances-long; l-long = r .limits-long; bounded = r .total }
+pub house-books : (h : House) (a : Accounts) → RightHouse h (a .balances) (a .sublimits) → Books (a .balances) (a .sublimits)
+house-books h a r = record { b-long = r .balances-long; l-long = r .sublimits-long; bounded = r .total }
 
 -- "total in range", and all that is said of the accounts, after any settled batches
-pub house-after : (h : House) {batch : ℕ → List Payment} {a v : Accounts} {ps : List ℕ} → RightHouse h (a .balances) (a .limits) → All (λ p. Settles (h .banks) (batch p)) ps
-    → Trail batch a ps v → RightHouse h (v .balances) (v .limits)
+pub house-after : (h : House) {batch : ℕ → List Payment} {a v : Accounts} {ps : List ℕ} → RightHouse h (a .balances) (a .sublimits) → All (λ p. Settles (h .banks) (batch p)) ps
+    → Trail batch a ps v → RightHouse h (v .balances) (v .sublimits)
 house-after h {batch = batch} {a = a} {v = v} {ps = ps} r f t =
-    let e : v .limits ≡ a .limits = trail-limits t in
+    let e : v .sublimits ≡ a .sublimits = trail-sublimits t in
     record {
       few-streams = r .few-streams;
       stream-codes = r .stream-codes;
@@ -130,24 +130,24 @@ house-after h {batch = batch} {a = a} {v = v} {ps = ps} r f t =
       codes-long = r .codes-long;
       flags-long = r .flags-long;
       balances-long = trail-length t ∙ r .balances-long;
-      limits-long = ap length e ∙ r .limits-long;
+      sublimits-long = ap length e ∙ r .sublimits-long;
       bank-codes = r .bank-codes;
       banks-rise = r .banks-rise;
       flags-right = r .flags-right;
-      limits-right = rw e (r .limits-right);
+      sublimits-right = rw e (r .sublimits-right);
       total = omega (arith, trail-total (all-fair (h .banks) batch ps f) (house-books h a r) t, r .total);
       codes-past = r .codes-past;
       flags-past = r .flags-past;
       balances-past = at-past (h .banks) (v .balances) (λ k l. trail-past (h .banks) k l f t ∙ past-at (h .banks) k (a .balances) (r .balances-past) l);
-      limits-past = rw e (r .limits-past);
+      sublimits-past = rw e (r .sublimits-past);
     }
 
 -- ---- a sub-limit change
 
-pub house-limited : (h : House) (a : Accounts) (k v : ℕ) → RightHouse h (a .balances) (a .limits) → k < h .banks → v ≤ 6400000000000000
-    → RightHouse h (limited a k v .balances) (limited a k v .limits)
-unfolding limited
-house-limited h a k v r b l = record {
+pub house-sublimited : (h : House) (a : Accounts) (k v : ℕ) → RightHouse h (a .balances) (a .sublimits) → k < h .banks → v ≤ 6400000000000000
+    → RightHouse h (sublimited a k v .balances) (sublimited a k v .sublimits)
+unfolding sublimited
+house-sublimited h a k v r b l = record {
   few-streams = r .few-streams;
   stream-codes = r .stream-codes;
   administrators = r .administrators;
@@ -156,21 +156,21 @@ house-limited h a k v r b l = record {
   codes-long = r .codes-long;
   flags-long = r .flags-long;
   balances-long = r .balances-long;
-  limits-long = length-set (a .limits) k v ∙ r .limits-long;
+  sublimits-long = length-set (a .sublimits) k v ∙ r .sublimits-long;
   bank-codes = r .bank-codes;
   banks-rise = r .banks-rise;
   flags-right = r .flags-right;
-  limits-right = each-set (λ x. x ≤ 6400000000000000) (a .limits) k v (r .limits-right) l;
+  sublimits-right = each-set (λ x. x ≤ 6400000000000000) (a .sublimits) k v (r .sublimits-right) l;
   total = r .total;
   codes-past = r .codes-past;
   flags-past = r .flags-past;
   balances-past = r .balances-past;
-  limits-past = rw (drop-set-lt (h .banks) (a .limits) k v b) (r .limits-past);
+  sublimits-past = rw (drop-set-lt (h .banks) (a .sublimits) k v b) (r .sublimits-past);
 }
 
 -- ---- the whole test
 
-module _ (h : House) (b : Batches) (a : Accounts) (quick : Bool) (m : List ℕ) (r : RightHouse h (a .balances) (a .limits)) (s : Stood (h .banks) b) where
+module _ (h : House) (b : Batches) (a : Accounts) (quick : Bool) (m : List ℕ) (r : RightHouse h (a .balances) (a .sublimits)) (s : Stood (h .banks) b) where
   abbrev out : Outcome
   out = test quick (paymentsAt b) (fuel (b .queue)) a m (b .queue)
 
@@ -180,5 +180,5 @@ module _ (h : House) (b : Batches) (a : Accounts) (quick : Bool) (m : List ℕ) 
   pub gone-fair : All (λ p. Fair (paymentsAt b p)) (out .done)
   gone-fair = all-fair (h .banks) (paymentsAt b) (out .done) gone-settle
 
-  pub house-tested : RightHouse h (out .books .balances) (out .books .limits)
+  pub house-tested : RightHouse h (out .books .balances) (out .books .sublimits)
   house-tested = house-after h r gone-settle (test-trail quick (paymentsAt b) (fuel (b .queue)) a m (b .queue))

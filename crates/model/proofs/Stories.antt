@@ -37,7 +37,7 @@ use Rattle.settle.specs.Settlement.{firstUncovered, paid, settled}
 use Rattle.settle.specs.Rules.{debits, credits}
 use Rattle.queue.specs.Memory.{creditedBy, credited, wake, forgotten}
 use Rattle.queue.specs.Tests.{some, again, omits, remember, tried, turn, walk, test}
-use Rattle.queue.specs.Promise.{Payer, limited}
+use Rattle.queue.specs.Promise.{Payer, sublimited}
 use Rattle.model.specs.State.{seekFrom}
 use Rattle.model.specs.Memory.{isUsed, vacant, note}
 use Rattle.model.specs.Replies.{repliesTo, textOf as engine-textOf, textsFrom}
@@ -73,11 +73,11 @@ abbrev pub longCode : String → Code
 longCode b = longOf (bytes b)
 
 -- a book from its values: a date as a day number, one stream PROP of administrator 5, banks in it
-abbrev pub flagged : (code : String) (flags balance limit : ℕ) → Bank
-flagged c flags balance limit = record { code = code c; flags = flags; balance = balance; limit = limit }
+abbrev pub flagged : (code : String) (flags balance sublimit : ℕ) → Bank
+flagged c flags balance sublimit = record { code = code c; flags = flags; balance = balance; sublimit = sublimit }
 
-abbrev pub bank : (code : String) (balance limit : ℕ) → Bank
-bank c balance limit = flagged c 2 balance limit
+abbrev pub bank : (code : String) (balance sublimit : ℕ) → Bank
+bank c balance sublimit = flagged c 2 balance sublimit
 
 abbrev pub stream : String → ℕ → Stream
 stream c sender = record { code = code c; sender = sender }
@@ -148,7 +148,7 @@ told r = line (answerNumber (r .answer)) (r .out) (r .tries) (take 2 (r .engine 
 
 -- what is told of calls from an engine on, and of a day from a fresh start. To unfold either is to unfold the engine and all below it.
 unfoldable pub goes : Engine → List Call → List Line
-unfolding isDigit isLetter isCode digitValue packOn shortAt longOf longAt unpacked named shortText spelled longText before codeBefore wordOf sumWords blockSum february months daysIn isTrue dayOf monthDay dateOf isRemembered clockOf hasBegun minuteOf hhmmOf secondOf hhmmssOf begins litAt run codesAt codeAt digits digitsAt numberAt lineEnd lineEndAt textOf codeOf forbiddenAt referenceAt numeralAt wordAt binAt numbered numbersAt countIn dateAt timeAt sideAt hundredths amountAt countAt isStatus isFourth judgedAt lettersAt fieldAt activationAt termsAt bankAt creditAt debitAt paymentAt moreAt paymentsOn paymentsAt namedAt addressAt settlementAt recallAt messageAt requestAt digitsOf headText batchText settledText rejectedText settlementText recallText firstBroken little headRight zerosAt unusedRight headerRight checkRight entriesRight dateIn streamRight bitsPast bankRight lengthRight streamsCounted streamRules banksCounted book-codeBefore bankRules bankBlocks bankPlace bankCount totalRight bookRules bookCheck dayIn streamsIn banksIn littleOf streamBytes bankBytes sealed streamBlock bankBlock bankBlocksOf blocksFor bookBytes covered payment settle-paymentAt paymentsFrom needsOf firstUncovered paid settled debits credits creditedBy credited wake some again omits remember tried turn walk test forgotten Payer limited seekFrom isUsed vacant note repliesTo engine-textOf textsFrom keep insert byTime join engine-firstBroken streamPlace engine-bankPlace ended assembling waiting linePayments lineRules messageRules onSender onBin completed admit recalling message subLimit hasDebit withEsa relabel relettered status emptied afterTest settledReplies closeReplies opened openingAnswer closingText judge begun act woken tested replies left lastReplies goesOn closes stepped call engine-run
+unfolding isDigit isLetter isCode digitValue packOn shortAt longOf longAt unpacked named shortText spelled longText before codeBefore wordOf sumWords blockSum february months daysIn isTrue dayOf monthDay dateOf isRemembered clockOf hasBegun minuteOf hhmmOf secondOf hhmmssOf begins litAt run codesAt codeAt digits digitsAt numberAt lineEnd lineEndAt textOf codeOf forbiddenAt referenceAt numeralAt wordAt binAt numbered numbersAt countIn dateAt timeAt sideAt hundredths amountAt countAt isStatus isFourth judgedAt lettersAt fieldAt activationAt termsAt bankAt creditAt debitAt paymentAt moreAt paymentsOn paymentsAt namedAt addressAt settlementAt recallAt messageAt requestAt digitsOf headText batchText settledText rejectedText settlementText recallText firstBroken little headRight zerosAt unusedRight headerRight checkRight entriesRight dateIn streamRight bitsPast bankRight lengthRight streamsCounted streamRules banksCounted book-codeBefore bankRules bankBlocks bankPlace bankCount totalRight bookRules bookCheck dayIn streamsIn banksIn littleOf streamBytes bankBytes sealed streamBlock bankBlock bankBlocksOf blocksFor bookBytes covered payment settle-paymentAt paymentsFrom needsOf firstUncovered paid settled debits credits creditedBy credited wake some again omits remember tried turn walk test forgotten Payer sublimited seekFrom isUsed vacant note repliesTo engine-textOf textsFrom keep insert byTime join engine-firstBroken streamPlace engine-bankPlace ended assembling waiting linePayments lineRules messageRules onSender onBin completed admit recalling message subLimit hasDebit withEsa relabel relettered status emptied afterTest settledReplies closeReplies opened openingAnswer closingText judge begun act woken tested replies left lastReplies goesOn closes stepped call engine-run
 goes e calls = map told (engine-run e calls)
 
 unfoldable pub plays : List Call → List Line

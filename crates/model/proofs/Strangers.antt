@@ -16,7 +16,7 @@ use Rattle.model.specs.declared.Action.{Action}
 use Rattle.model.specs.declared.Action.the-variants.{Opening, Message, SubLimit, Status, Tick, Close, ClosingBook}
 use Rattle.model.specs.declared.Answer.{Answer}
 use Rattle.model.specs.declared.Answer.the-variants.{Done, Refused}
-use Rattle.model.specs.Kinds.{receives, changesLimit, changesStatus, ownOf}
+use Rattle.model.specs.Kinds.{receives, changesSublimit, changesStatus, ownOf}
 use Rattle.model.specs.State.{Found, at, nowhere, onFound, State}
 use Rattle.model.specs.Messages.{SubType, is131, is133, Acted, streamCode, streamPlace, administrator, untouched, leaving, onText, onSender, message}
 use Rattle.model.specs.Calls.{Call, Engine, Result, judge, begun, act, tested, replies, left, goesOn, stepped, judged, call}
@@ -79,7 +79,7 @@ module _ (e : Engine) (c : Call) where
   judged-alike : (j : Answer) (x : Action) → Asks x → Idle s (act s (ownOf x) (c .asked .input)) → Alike (judged j e (asking x c)) (judged j e (asking Tick c))
   unfolding stepped act
   judged-alike Done (Message n) k h = stepped-alike (act s (receives n) (c .asked .input)) h
-  judged-alike Done (SubLimit n v) k h = stepped-alike (act s (changesLimit n v) (c .asked .input)) h
+  judged-alike Done (SubLimit n v) k h = stepped-alike (act s (changesSublimit n v) (c .asked .input)) h
   judged-alike Done (Status n b l) k h = stepped-alike (act s (changesStatus n b l) (c .asked .input)) h
   judged-alike (Refused r) x k h = record { out = refl; tries = refl; engine = refl }
 

@@ -18,7 +18,7 @@ use Rattle.model.specs.declared.Answer.{Answer}
 use Rattle.model.specs.declared.Answer.the-variants.{Done, Refused}
 use Rattle.model.specs.State.{Day, Batches, State, fresh, noMemory, noBatches, paymentsAt, withClock, withTexts, withPhase}
 use Rattle.model.specs.Replies.{Reply, textsFrom}
-use Rattle.model.specs.Kinds.{Kind, kindOf, onKind, isOpening, isClose, Own, receives, changesLimit, changesStatus, nothing, ownOf}
+use Rattle.model.specs.Kinds.{Kind, kindOf, onKind, isOpening, isClose, Own, receives, changesSublimit, changesStatus, nothing, ownOf}
 use Rattle.model.specs.Joining.{join}
 use Rattle.model.specs.Messages.{Acted, Waking, bank, place, message, leaving}
 use Rattle.model.specs.Changes.{subLimit, status}
@@ -111,7 +111,7 @@ begun s clock = record {
 -- (c) the call's own action
 unfoldable pub act : State → Own → List ℕ → Acted
 act s (receives sender) input = message s sender (requestAt input)
-act s (changesLimit code cents) input = subLimit s code cents
+act s (changesSublimit code cents) input = subLimit s code cents
 act s (changesStatus code bin letter) input = status s code bin letter
 act s nothing input = leaving s Done [] [] (s .batches) (s .known)
 

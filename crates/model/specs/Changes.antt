@@ -9,7 +9,7 @@ use Rattle.codes.specs.declared.Code.{Code}
 use Rattle.settle.specs.Payments.{Payment, credit, debit}
 use Rattle.settle.specs.Cover.{firstLetter}
 use Rattle.book_read.specs.Book.{mostMoney}
-use Rattle.queue.specs.Promise.{limited}
+use Rattle.queue.specs.Promise.{sublimited}
 use Rattle.model.specs.declared.Answer.the-variants.{Done}
 use Rattle.model.specs.State.{onFound, Message, Place, free, live, State, placeAt, paymentsAt, withPlace}
 use Rattle.model.specs.Messages.{Acted, bank, place, untouched, leaving, bankPlace, waiting}
@@ -19,7 +19,7 @@ unfoldable pub subLimit : State → (code cents : ℕ) → Acted
 subLimit s code cents =
     onFound (bankPlace (s .house) code) (untouched s UnknownBank) (λ p.
     cond (leb cents mostMoney)
-    (record { answer = Done; replies = []; wakes = bank p ∷ []; books = limited (s .books) p cents; batches = s .batches; known = s .known })
+    (record { answer = Done; replies = []; wakes = bank p ∷ []; books = sublimited (s .books) p cents; batches = s .batches; known = s .known })
     (untouched s OutOfRange))
 
 -- "a debit of that bank"

@@ -15,7 +15,7 @@ use Rattle.book_read.specs.Accounts.{Bank, dayIn, streamsIn, banksIn, column}
 use Rattle.book_read.specs.declared.Answer.{Answer as Check}
 use Rattle.book_read.specs.declared.Answer.the-variants.{Sound, Fault}
 use Rattle.book_read.specs.declared.Field.{Field}
-use Rattle.book_read.specs.declared.Field.the-variants.{Code, Flags, Balance, Limit}
+use Rattle.book_read.specs.declared.Field.the-variants.{Code, Flags, Balance, Sublimit}
 use Rattle.settle.specs.Settlement.{Accounts, accounts}
 use Rattle.model.specs.declared.Phase.{Phase}
 use Rattle.model.specs.declared.Phase.the-variants.{Fresh, Open, Closed}
@@ -42,7 +42,7 @@ opened s clock book = record {
     codes = columnOf Code (banksIn book);
     flags = columnOf Flags (banksIn book);
   };
-  books = accounts (columnOf Balance (banksIn book)) (columnOf Limit (banksIn book));
+  books = accounts (columnOf Balance (banksIn book)) (columnOf Sublimit (banksIn book));
   batches = s .batches;
   known = s .known;
 }
@@ -70,7 +70,7 @@ onDate (Number k) = k
 onDate Untrue = 0
 
 abbrev pub banksOf : House → Accounts → List Bank
-banksOf h a = each (bankOf (h .codes) (h .flags) (a .balances) (a .limits)) 0 (h .banks)
+banksOf h a = each (bankOf (h .codes) (h .flags) (a .balances) (a .sublimits)) 0 (h .banks)
 
 unfoldable pub closingText : State → (date : ℕ) → List ℕ
 closingText s date = bookBytes (onDate (dayOf date)) (s .house .streams) (banksOf (s .house) (s .books))

@@ -3,10 +3,10 @@ use Prim.Native.Nat.{ℕ, zero, suc}
 use mathlib.Core.Path.{_≡_}
 use mathlib.Core.Bool.{Bool, true, false, cond}
 use mathlib.Core.List.{List, [], _∷_, _++_}
-use Rattle.queue.specs.History.{Event, limitChanged, changed, triedEvents, Tries}
+use Rattle.queue.specs.History.{Event, sublimitChanged, changed, triedEvents, Tries}
 use Rattle.model.specs.declared.Answer.{Answer}
 use Rattle.model.specs.declared.Answer.the-variants.{Done, Refused}
-use Rattle.model.specs.Kinds.{Kind, opens, steps, gives, kindOf, onKind, Own, receives, changesLimit, changesStatus, nothing, ownOf}
+use Rattle.model.specs.Kinds.{Kind, opens, steps, gives, kindOf, onKind, Own, receives, changesSublimit, changesStatus, nothing, ownOf}
 use Rattle.model.specs.State.{onFound, Place, free, live, Batches, State, placeAt, paymentsAt}
 use Rattle.model.specs.Messages.{bankPlace, waiting}
 use Rattle.model.specs.Calls.{Call, Engine, Result, judge, begun, call}
@@ -16,7 +16,7 @@ use Rattle.model.specs.Answered.{acted}
 abbrev pub accepted : State → Own → Answer → List Event
 accepted s x (Refused r) = []
 accepted s (receives sender) Done = []
-accepted s (changesLimit code cents) Done = onFound (bankPlace (s .house) code) [] (λ k. limitChanged k ∷ [])
+accepted s (changesSublimit code cents) Done = onFound (bankPlace (s .house) code) [] (λ k. sublimitChanged k ∷ [])
 accepted s (changesStatus code bin letter) Done = onFound (waiting (s .batches) bin) [] (λ p. changed p ∷ [])
 accepted s nothing Done = []
 

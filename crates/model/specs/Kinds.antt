@@ -44,7 +44,7 @@ isClose (ClosingBook date) = false
 -- "(c) the call's own action": a message, a sub-limit change, a status change; a tick and the close do nothing of their own
 pub data Own : Type 0 where
   receives : (sender : ℕ) → Own
-  changesLimit : (code cents : ℕ) → Own
+  changesSublimit : (code cents : ℕ) → Own
   changesStatus : (code : ℕ) (bin : Code) (letter : ℕ) → Own
   nothing : Own
 
@@ -52,7 +52,7 @@ pub data Own : Type 0 where
 abbrev pub ownOf : Action → Own
 ownOf Opening = nothing
 ownOf (Message sender) = receives sender
-ownOf (SubLimit code cents) = changesLimit code cents
+ownOf (SubLimit code cents) = changesSublimit code cents
 ownOf (Status code bin letter) = changesStatus code bin letter
 ownOf Tick = nothing
 ownOf Close = nothing

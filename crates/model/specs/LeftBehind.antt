@@ -16,7 +16,7 @@ use Rattle.request_read.specs.declared.whole.Reading.{Reading}
 use Rattle.response_write.specs.declared.Outcome.the-variants.{Rejected}
 use Rattle.response_write.specs.declared.Answer.the-variants.{Kept}
 use Rattle.model.specs.declared.Answer.the-variants.{Done, Refused}
-use Rattle.model.specs.Kinds.{steps, kindOf, Own, receives, changesLimit, changesStatus, nothing, ownOf}
+use Rattle.model.specs.Kinds.{steps, kindOf, Own, receives, changesSublimit, changesStatus, nothing, ownOf}
 use Rattle.model.specs.State.{onFound, seek, isFree, Message, free, Known, State, placeAt, placeMessages, placeBin}
 use Rattle.model.specs.Replies.{settlement, recall, repliesTo}
 use Rattle.model.specs.Messages.{Acted, place, leaving, untouched, isThere, streamPlace, assembling, reference, bin, streamCode, isKnown, withReference, withBin, arrived}
@@ -69,7 +69,7 @@ module _ (s : State) (r : Reading) where
   -- a change that is refused leaves "clock, queue test"; a tick and the close are not refused
   abbrev pub leftBy : Own → Refusal → Acted
   leftBy (receives sender) q = textLeft (r .outcome) q
-  leftBy (changesLimit code cents) q = untouched s q
+  leftBy (changesSublimit code cents) q = untouched s q
   leftBy (changesStatus code bin letter) q = untouched s q
   leftBy nothing q = untouched s q
 

@@ -43,7 +43,7 @@ Lettered (debit l k c) = (l < shortEnd) × (areLetters (shortText l) ≡ true)
 
 -- ---- the house
 
-pub record RightHouse (h : House) (balances limits : List ℕ) : Type 0 where
+pub record RightHouse (h : House) (balances sublimits : List ℕ) : Type 0 where
   pub few-streams : length (h .streams) ≤ 8
   pub stream-codes : Each (λ x. isShort (x .code) ≡ true) (h .streams)
   pub administrators : Each (λ x. (1 ≤ x .sender) × (x .sender ≤ 255)) (h .streams)
@@ -52,20 +52,20 @@ pub record RightHouse (h : House) (balances limits : List ℕ) : Type 0 where
   pub codes-long : length (h .codes) ≡ 64
   pub flags-long : length (h .flags) ≡ 64
   pub balances-long : length balances ≡ 64
-  pub limits-long : length limits ≡ 64
+  pub sublimits-long : length sublimits ≡ 64
   pub bank-codes : Each (λ x. isShort x ≡ true) (take (h .banks) (h .codes))
   -- "banks ascending by code"
   pub banks-rise : Rising (take (h .banks) (h .codes))
   -- "a stream bit with no stream" is not there
   pub flags-right : Each (λ x. x / 2 < 2 ^ length (h .streams)) (take (h .banks) (h .flags))
-  pub limits-right : Each (λ x. x ≤ mostMoney) limits
+  pub sublimits-right : Each (λ x. x ≤ mostMoney) sublimits
   -- "total in range"
   pub total : sum balances ≤ mostMoney
   -- "account records past it zero"
   pub codes-past : Each (λ x. x ≡ 0) (drop (h .banks) (h .codes))
   pub flags-past : Each (λ x. x ≡ 0) (drop (h .banks) (h .flags))
   pub balances-past : Each (λ x. x ≡ 0) (drop (h .banks) balances)
-  pub limits-past : Each (λ x. x ≡ 0) (drop (h .banks) limits)
+  pub sublimits-past : Each (λ x. x ≡ 0) (drop (h .banks) sublimits)
 
 -- ---- "each batch place zero or one live batch"
 
@@ -181,7 +181,7 @@ pub record Opened (s : State) : Type 0 where
   pub clock : s .day .clock < secondsOfDay
   pub some-streams : 1 ≤ length (s .house .streams)
   pub some-banks : 1 ≤ s .house .banks
-  pub house : RightHouse (s .house) (s .books .balances) (s .books .limits)
+  pub house : RightHouse (s .house) (s .books .balances) (s .books .sublimits)
   pub batches : RightBatches (s .house .banks) (s .batches)
   pub known : RightKnown (s .day .date) (s .known)
   -- "live BINs differ and are remembered"

@@ -15,7 +15,7 @@ use Rattle.settle.specs.Settlement.{Accounts, isCovered, firstUncovered, verdic
 use Rattle.settle.specs.declared.Verdict.the-variants.{Passes, Stops}
 use Rattle.queue.specs.Memory.{creditedBy, credited, wake}
 use Rattle.queue.specs.Tests.{Outcome, Seen, seen, some, omits, remember, turn, settle, walk, test}
-use Rattle.queue.specs.Promise.{Uncovered, here, there, Held, True, limited}
+use Rattle.queue.specs.Promise.{Uncovered, here, there, Held, True, sublimited}
 use Rattle.queue.proofs.MemoryLaws.{byBool, wake-yes, wake-no}
 use Rattle.queue.proofs.Steps.{byVerdict, byTurn, walk-turn, test-stop, test-more}
 
@@ -56,9 +56,9 @@ covered-less l b b′ s c h e = go (member (esa l) (bytes "P")) (member (esa l) 
     go false true f = lt-leb (c + s) b′ (omega (arith, leb-false (c + s) b f))
     go false false f = refl
 
-uncovered-less : {a v : Accounts} {ns : List Need} {k : ℕ} → getD (v .balances) k 0 ≤ getD (a .balances) k 0 → getD (v .limits) k 0 ≡ getD (a .limits) k 0 → Uncovered a ns k → Uncovered v ns k
+uncovered-less : {a v : Accounts} {ns : List Need} {k : ℕ} → getD (v .balances) k 0 ≤ getD (a .balances) k 0 → getD (v .sublimits) k 0 ≡ getD (a .sublimits) k 0 → Uncovered a ns k → Uncovered v ns k
 uncovered-less {a} {v} h e (here {n = n} c) =
-    here {n = n} (rw e (covered-less (n .letters) (getD (a .balances) (n .bank) 0) (getD (v .balances) (n .bank) 0) (getD (a .limits) (n .bank) 0) (n .cents) h c))
+    here {n = n} (rw e (covered-less (n .letters) (getD (a .balances) (n .bank) 0) (getD (v .balances) (n .bank) 0) (getD (a .sublimits) (n .bank) 0) (n .cents) h c))
 uncovered-less h e (there u) = there (uncovered-less h e u)
 
 -- a settled batch that does not credit k leaves k with no more
@@ -118,11 +118,11 @@ module _ (batch : ℕ → List Payment) where
       (λ q. rw q h)
 
   -- a sub-limit change
-  pub true-limit : (a : Accounts) (k v : ℕ) (m : List ℕ) → True batch a m → True batch (limited a k v) (map (wake (eqb k)) m)
-  unfolding limited
-  true-limit a k v m h p =
-      wake-keep (Held a (batch p)) (Held (limited a k v) (batch p)) (eqb k) m p tt
-      (λ j e u. uncovered-less (omega arith) (getD-set-other (a .limits) k j v 0 (λ q. eqb-false k j e (sym q))) u)
+  pub true-sublimit : (a : Accounts) (k v : ℕ) (m : List ℕ) → True batch a m → True batch (sublimited a k v) (map (wake (eqb k)) m)
+  unfolding sublimited
+  true-sublimit a k v m h p =
+      wake-keep (Held a (batch p)) (Held (sublimited a k v) (batch p)) (eqb k) m p tt
+      (λ j e u. uncovered-less (omega arith) (getD-set-other (a .sublimits) k j v 0 (λ q. eqb-false k j e (sym q))) u)
       (h p)
 
   module _ (quick : Bool) where

@@ -26,7 +26,7 @@ covered-fit : (a : Accounts) (ps : List Payment) → AllCovered a (needsOf ps) �
 unfolding Fit needsOf
 covered-fit a [] h = tt
 covered-fit a (credit j c ∷ ps) h = covered-fit a ps h
-covered-fit a (debit t j c ∷ ps) h = (covered-money t (getD (a .balances) j 0) (getD (a .limits) j 0) c (h .0), covered-fit a ps (h .1))
+covered-fit a (debit t j c ∷ ps) h = (covered-money t (getD (a .balances) j 0) (getD (a .sublimits) j 0) c (h .0), covered-fit a ps (h .1))
 
 fit-other : (l : List ℕ) (k v : ℕ) (ps : List Payment) → Apart k ps → Fit l ps → Fit (set l k v) ps
 unfolding Fit Apart
@@ -61,9 +61,9 @@ module _ {batch : ℕ → List Payment} where
   trail-length halt = refl
   trail-length (pass {a = a} {p = p} e t) = trail-length t ∙ settled-length (a .balances) (batch p)
 
-  pub trail-limits : {a v : Accounts} {ps : List ℕ} → Trail batch a ps v → v .limits ≡ a .limits
-  trail-limits halt = refl
-  trail-limits (pass e t) = trail-limits t
+  pub trail-sublimits : {a v : Accounts} {ps : List ℕ} → Trail batch a ps v → v .sublimits ≡ a .sublimits
+  trail-sublimits halt = refl
+  trail-sublimits (pass e t) = trail-sublimits t
 
   pub trail-sum : {a v : Accounts} {ps : List ℕ} → All (λ p. Fair (batch p)) ps → (k : ℕ) → k < length (a .balances) → Trail batch a ps v
       → getD (v .balances) k 0 + takenBy k (map batch ps) ≡ getD (a .balances) k 0 + broughtBy k (map batch ps)
@@ -73,12 +73,12 @@ module _ {batch : ℕ → List Payment} where
       omega (arith, settled-sum (a .balances) (batch p) k h (f .0 .distinct) (covered-fit a (batch p) e), trail-sum (f .1) k (rw settled-length h) t)
 
   -- the total is kept at each settlement, and with it the range of each balance
-  pub trail-total : {a v : Accounts} {ps : List ℕ} → All (λ p. Fair (batch p)) ps → Books (a .balances) (a .limits) → Trail batch a ps v → sum (v .balances) ≡ sum (a .balances)
+  pub trail-total : {a v : Accounts} {ps : List ℕ} → All (λ p. Fair (batch p)) ps → Books (a .balances) (a .sublimits) → Trail batch a ps v → sum (v .balances) ≡ sum (a .balances)
   trail-total f h halt = refl
   trail-total f h (pass {a = a} {p = p} e t) =
       let g : sum (settled (a .balances) (batch p)) ≡ sum (a .balances) =
       total-kept (a .balances) (batch p) (can-settle a (batch p) (h .b-long) (h .bounded) (f .0 .ranged) (f .0 .distinct) (covered-passes a (needsOf (batch p)) e)) (f .0 .even) in
       trail-total (f .1) (record { b-long = settled-length (a .balances) (batch p) ∙ h .b-long; l-long = h .l-long; bounded = omega (arith, h .bounded) }) t ∙ g
 
-  pub trail-books : {a v : Accounts} {ps : List ℕ} → All (λ p. Fair (batch p)) ps → Books (a .balances) (a .limits) → Trail batch a ps v → Books (v .balances) (v .limits)
-  trail-books f h t = record { b-long = trail-length t ∙ h .b-long; l-long = ap length (trail-limits t) ∙ h .l-long; bounded = omega (arith, trail-total f h t, h .bounded) }
+  pub trail-books : {a v : Accounts} {ps : List ℕ} → All (λ p. Fair (batch p)) ps → Books (a .balances) (a .sublimits) → Trail batch a ps v → Books (v .balances) (v .sublimits)
+  trail-books f h t = record { b-long = trail-length t ∙ h .b-long; l-long = ap length (trail-sublimits t) ∙ h .l-long; bounded = omega (arith, trail-total f h t, h .bounded) }

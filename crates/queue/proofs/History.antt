@@ -14,7 +14,7 @@ use Rattle.settle.specs.declared.Verdict.the-variants.{Passes, Stops}
 use Rattle.queue.specs.Memory.{credited, wake, forgotten}
 use Rattle.queue.specs.Tests.{Outcome, noted, some, omits, remember, settle, walk, test}
 use Rattle.queue.specs.Promise.{All}
-use Rattle.queue.specs.History.{Event, failed, settledBatch, limitChanged, changed, Omits, last, past, afterEvent, replay, endedEvents, happened, stepIn, booksAfter, triedEvents, Due, Tries, stops, again, omitted, fails, passes}
+use Rattle.queue.specs.History.{Event, failed, settledBatch, sublimitChanged, changed, Omits, last, past, afterEvent, replay, endedEvents, happened, stepIn, booksAfter, triedEvents, Due, Tries, stops, again, omitted, fails, passes}
 use Rattle.queue.specs.declared.Step.the-variants.{Omitted, Failed, Passed}
 use Rattle.queue.proofs.MemoryLaws.{byBool, wake-yes, wake-no}
 use Rattle.queue.proofs.Steps.{byTurn, walk-turn, test-stop, test-more, shorter}
@@ -29,7 +29,7 @@ unfolding replay afterEvent
 replay-length [] m = refl
 replay-length (failed p k ∷ es) m = length-set (replay es m) p (suc k) ∙ replay-length es m
 replay-length (settledBatch ps ∷ es) m = length-map (replay es m) (wake (credited ps)) ∙ replay-length es m
-replay-length (limitChanged k ∷ es) m = length-map (replay es m) (wake (eqb k)) ∙ replay-length es m
+replay-length (sublimitChanged k ∷ es) m = length-map (replay es m) (wake (eqb k)) ∙ replay-length es m
 replay-length (changed p ∷ es) m = length-set (replay es m) p 0 ∙ replay-length es m
 
 map-wake : (f : ℕ → Bool) (m : List ℕ) (p : ℕ) → getD (map (wake f) m) p 0 ≡ wake f (getD m p 0)
@@ -59,7 +59,7 @@ omits-in {p} {k} (failed x j ∷ es) m z e =
     (λ t. past (λ q. eqb-false p x t (sym q)) (omits-in es m z (sym (getD-set-other (replay es m) x p (suc j) 0 (eqb-false p x t)) ∙ e)))
 omits-in {p} {k} (settledBatch ps ∷ es) m z e =
     let h = wake-held (credited ps) (getD (replay es m) p 0) k (sym (map-wake (credited ps) (replay es m) p) ∙ e) in past (h .1) (omits-in es m z (h .0))
-omits-in {p} {k} (limitChanged j ∷ es) m z e =
+omits-in {p} {k} (sublimitChanged j ∷ es) m z e =
     let h = wake-held (eqb j) (getD (replay es m) p 0) k (sym (map-wake (eqb j) (replay es m) p) ∙ e) in past (eqb-false j k (h .1)) (omits-in es m z (h .0))
 omits-in {p} {k} (changed x ∷ es) m z e =
     byBool (eqb p x)
@@ -71,7 +71,7 @@ unfolding replay afterEvent
 omits-out {p} {k} m l (last {es = es}) = getD-set-same (replay es m) p (suc k) 0 (rw (replay-length es m) l)
 omits-out {p} m l (past {e = failed x j} {es = es} s o) = getD-set-other (replay es m) x p (suc j) 0 (λ q. s (sym q)) ∙ omits-out m l o
 omits-out {p} {k} m l (past {e = settledBatch ps} {es = es} s o) = map-wake (credited ps) (replay es m) p ∙ ap (wake (credited ps)) (omits-out m l o) ∙ wake-no (credited ps) k s
-omits-out {p} {k} m l (past {e = limitChanged j} {es = es} s o) = map-wake (eqb j) (replay es m) p ∙ ap (wake (eqb j)) (omits-out m l o) ∙ wake-no (eqb j) k (ne-eqb j k s)
+omits-out {p} {k} m l (past {e = sublimitChanged j} {es = es} s o) = map-wake (eqb j) (replay es m) p ∙ ap (wake (eqb j)) (omits-out m l o) ∙ wake-no (eqb j) k (ne-eqb j k s)
 omits-out {p} m l (past {e = changed x} {es = es} s o) = getD-set-other (replay es m) x p 0 0 (λ q. s (sym q)) ∙ omits-out m l o
 
 pub replay-append : (es fs : List Event) (m : List ℕ) → replay (es ++ fs) m ≡ replay es (replay fs m)

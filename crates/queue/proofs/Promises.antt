@@ -92,13 +92,13 @@ module _ (quick : Bool) (batch : ℕ → List Payment) (a : Accounts) (m q : Lis
       ≡ getD (a .balances) k 0 + broughtBy k (map batch (test quick batch (fuel q) a m q .done))
   balances-follow k h = trail-sum gone-fair k h (payers-covered quick batch a m q)
 
-  pub total-never-changes : Books (a .balances) (a .limits) → sum (test quick batch (fuel q) a m q .books .balances) ≡ sum (a .balances)
+  pub total-never-changes : Books (a .balances) (a .sublimits) → sum (test quick batch (fuel q) a m q .books .balances) ≡ sum (a .balances)
   total-never-changes b = trail-total gone-fair b (payers-covered quick batch a m q)
 
-  pub books-stay : Books (a .balances) (a .limits) → Books (test quick batch (fuel q) a m q .books .balances) (test quick batch (fuel q) a m q .books .limits)
+  pub books-stay : Books (a .balances) (a .sublimits) → Books (test quick batch (fuel q) a m q .books .balances) (test quick batch (fuel q) a m q .books .sublimits)
   books-stay b = trail-books gone-fair b (payers-covered quick batch a m q)
 
-  pub balances-in-range : Books (a .balances) (a .limits) → (k : ℕ) → getD (test quick batch (fuel q) a m q .books .balances) k 0 ≤ 6400000000000000
+  pub balances-in-range : Books (a .balances) (a .sublimits) → (k : ℕ) → getD (test quick batch (fuel q) a m q .books .balances) k 0 ≤ 6400000000000000
   balances-in-range b k = omega (arith, books-stay b .bounded, at-most-sum (test quick batch (fuel q) a m q .books .balances) k)
 
 -- batches in the table that keep its rules are such

@@ -57,8 +57,8 @@ module _ (quick : Bool) (t : List ℕ) where
       let u : Turn = turn quick (rowPayments t) a m p in
       stays-good t (u .step) p (walk quick (rowPayments t) (u .books) (u .memory) q .queue) (g .0) (walk-good (u .books) (u .memory) q (g .1))
 
-  walk-books : (a : Accounts) (m q : List ℕ) → Books (a .balances) (a .limits) → AllGood t q
-      → Books (walk quick (rowPayments t) a m q .books .balances) (walk quick (rowPayments t) a m q .books .limits)
+  walk-books : (a : Accounts) (m q : List ℕ) → Books (a .balances) (a .sublimits) → AllGood t q
+      → Books (walk quick (rowPayments t) a m q .books .balances) (walk quick (rowPayments t) a m q .books .sublimits)
   unfolding walk AllGood
   walk-books a m [] k g = k
   walk-books a m (p ∷ q) k g =
@@ -172,7 +172,7 @@ module _ (quick : Bool) (l t : List ℕ) (n : ℕ) (o : Outcome) (q₀ r₀ : Li
           m-long = ap length (d .memory) ∙ walk-memory quick (rowPayments t) (accounts b l) m (take left q) ∙ inv .m-long;
           q-long = ap length (d .queue) ∙ length-sets q 0 (w .queue) ∙ inv .q-long;
           r-long = ap length (d .row) ∙ length-sets r k (w .tries) ∙ inv .r-long;
-          books = subst (λ (x : Accounts). Books (x .balances) (x .limits)) (sym (d .books)) (walk-books quick t (accounts b l) m (take left q) (inv .books) (inv .good));
+          books = subst (λ (x : Accounts). Books (x .balances) (x .sublimits)) (sym (d .books)) (walk-books quick t (accounts b l) m (take left q) (inv .books) (inv .good));
           good = rw take-kept (walk-good quick t (accounts b l) m (take left q) (inv .good));
           rest = rest′;
           after = inv .after ∙ ap (λ (x : Outcome). x .books) p;

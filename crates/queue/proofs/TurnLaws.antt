@@ -81,8 +81,8 @@ module _ (quick : Bool) (b l t m : List ℕ) (p : ℕ) (x : Bool) (told : x ≡ 
     is-failed k e q = ap (λ (y : Bool). turned Failed (accounts b l) (cond y (set m p (suc k)) m)) (sym q) ∙ failed k e
 
 -- the books are kept
-pub turn-books : (quick : Bool) (t : List ℕ) (a : Accounts) (m : List ℕ) (p : ℕ) → Books (a .balances) (a .limits) → Good t p
-    → Books (turn quick (rowPayments t) a m p .books .balances) (turn quick (rowPayments t) a m p .books .limits)
+pub turn-books : (quick : Bool) (t : List ℕ) (a : Accounts) (m : List ℕ) (p : ℕ) → Books (a .balances) (a .sublimits) → Good t p
+    → Books (turn quick (rowPayments t) a m p .books .balances) (turn quick (rowPayments t) a m p .books .sublimits)
 turn-books quick t a m p books good =
     byTurn quick (rowPayments t) a m p
     (λ e u. rw u books)
@@ -90,7 +90,7 @@ turn-books quick t a m p books good =
     (record {
       b-long = settled-length (a .balances) (rowPayments t p) ∙ books .b-long;
       l-long = books .l-long;
-      bounded = omega (arith, total-kept (a .balances) (rowPayments t p) (ready (a .balances) (a .limits) t p books good Passes (sym v) refl .payable) (good .even), books .bounded);
+      bounded = omega (arith, total-kept (a .balances) (rowPayments t p) (ready (a .balances) (a .sublimits) t p books good Passes (sym v) refl .payable) (good .even), books .bounded);
     }))
     (λ e k v u. rw u books)
 

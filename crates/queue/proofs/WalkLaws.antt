@@ -99,7 +99,7 @@ module _ (quick : Bool) (l t : List ℕ) (n : ℕ) (o : Outcome) (q₀ r₀ : Li
     one = ap (walk quick (rowPayments t) (accounts b l) m) cut-here ∙ walk-turn quick (rowPayments t) (accounts b l) m (getD q i 0) (slice (i + 1) n q) (sym told)
 
     books′ : Books b′ l
-    books′ = subst (λ (x : Turn). Books (x .books .balances) (x .books .limits)) (sym told) (turn-books quick t (accounts b l) m (getD q i 0) (inv .books) head-good)
+    books′ = subst (λ (x : Turn). Books (x .books .balances) (x .books .sublimits)) (sym told) (turn-books quick t (accounts b l) m (getD q i 0) (inv .books) head-good)
 
     m-long′ : length m′ ≡ 32
     m-long′ = ap (λ (x : Turn). length (x .memory)) told ∙ turn-memory quick (rowPayments t) (accounts b l) m (getD q i 0) ∙ inv .m-long

@@ -19,14 +19,14 @@ use Rattle.queue.specs.declared.Step.the-variants.{Omitted, Failed, Pass
 pub data Event : Type 0 where
   failed : (place bank : ℕ) → Event
   settledBatch : List Payment → Event
-  limitChanged : (bank : ℕ) → Event
+  sublimitChanged : (bank : ℕ) → Event
   changed : (place : ℕ) → Event
 
 -- an event that leaves the batch at place p, held at bank k, held
 abbrev pub Spares : (place bank : ℕ) → Event → Type 0
 Spares p k (failed x j) = x ≡ p → ⊥
 Spares p k (settledBatch ps) = credited ps k ≡ false
-Spares p k (limitChanged j) = j ≡ k → ⊥
+Spares p k (sublimitChanged j) = j ≡ k → ⊥
 Spares p k (changed x) = x ≡ p → ⊥
 
 -- "A later try is omitted exactly if, since that batch's last try in the quick list, the remembered bank has had no credit settled (of any amount),
@@ -39,7 +39,7 @@ pub data Omits (p k : ℕ) : List Event → Type 0 where
 unfoldable pub afterEvent : Event → List ℕ → List ℕ
 afterEvent (failed p k) m = set m p (suc k)
 afterEvent (settledBatch ps) m = map (wake (credited ps)) m
-afterEvent (limitChanged k) m = map (wake (eqb k)) m
+afterEvent (sublimitChanged k) m = map (wake (eqb k)) m
 afterEvent (changed p) m = set m p 0
 
 unfoldable pub replay : List Event → List ℕ → List ℕ

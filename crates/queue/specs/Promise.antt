@@ -39,8 +39,8 @@ abbrev pub Named : (ℕ → List Payment) → List ℕ → Type 0
 Named batch m = (p : ℕ) → Names (batch p) (getD m p 0)
 
 -- a sub-limit change
-unfoldable pub limited : Accounts → ℕ → ℕ → Accounts
-limited a k v = accounts (a .balances) (set (a .limits) k v)
+unfoldable pub sublimited : Accounts → ℕ → ℕ → Accounts
+sublimited a k v = accounts (a .balances) (set (a .sublimits) k v)
 
 -- every need covered by its own bank
 abbrev pub AllCovered : Accounts → List Need → Type 0

@@ -84,7 +84,7 @@ again true r s = joined r s
 
 -- "It then settles at once, all payments."
 abbrev pub settle : Accounts → List Payment → Accounts
-settle a ps = accounts (settled (a .balances) ps) (a .limits)
+settle a ps = accounts (settled (a .balances) ps) (a .sublimits)
 
 module _ (quick : Bool) where
   -- "A later try is omitted": the quick test omits a batch that it remembers (History says when that is)

@@ -123,20 +123,20 @@ fn omits(quick: bool, memory: &[u64], place: usize) -> bool
 fn attempt(
     quick: bool,
     balances: &mut [u64],
-    limits: &[u64],
+    sublimits: &[u64],
     batches: &[u64],
     memory: &mut [u64],
     place: usize,
 ) -> Step
-    requires { ⌜ Books (now balances) (now limits) ⌝ }
+    requires { ⌜ Books (now balances) (now sublimits) ⌝ }
     requires { ⌜ Good (now batches) place ⌝ }
     requires { ⌜ length (now memory) ≡ 32 ⌝ }
-    ensures { λ r. ⌜ turned r (accounts (now (balances .exit)) (now (limits .entry))) (now (memory .exit)) ≡ turn quick (rowPayments (now (batches .entry))) (accounts (now (balances .entry)) (now (limits .entry))) (now (memory .entry)) place ⌝ }
+    ensures { λ r. ⌜ turned r (accounts (now (balances .exit)) (now (sublimits .entry))) (now (memory .exit)) ≡ turn quick (rowPayments (now (batches .entry))) (accounts (now (balances .entry)) (now (sublimits .entry))) (now (memory .entry)) place ⌝ }
 {
     if omits(quick, memory, place) {
         return Step::Omitted;
     }
-    let verdict = settle::first_uncovered(balances, limits, batches, place);
+    let verdict = settle::first_uncovered(balances, sublimits, batches, place);
     match verdict {
         settle::Verdict::Passes => {
             settle::settle(balances, batches, place);
@@ -202,7 +202,7 @@ fn note(
 fn walk(
     quick: bool,
     balances: &mut [u64],
-    limits: &[u64],
+    sublimits: &[u64],
     batches: &[u64],
     memory: &mut [u64],
     queue: &mut [u64],
@@ -210,17 +210,17 @@ fn walk(
     tries: &mut [u64],
     tried: usize,
 ) -> Reached
-    requires { ⌜ Books (now balances) (now limits) ⌝ }
+    requires { ⌜ Books (now balances) (now sublimits) ⌝ }
     requires { ⌜ AllGood (now batches) (take waiting (now queue)) ⌝ }
     requires { ⌜ (length (now memory) ≡ 32) × (waiting ≤ length (now queue)) × (tried + waiting ≤ length (now tries)) ⌝ }
-    ensures { λ r. ⌜ Walked (walk quick (rowPayments (now (batches .entry))) (accounts (now (balances .entry)) (now (limits .entry))) (now (memory .entry)) (take waiting (now (queue .entry)))) (now (limits .entry)) (now (queue .entry)) (now (tries .entry)) tried (now (balances .exit)) (now (memory .exit)) (now (queue .exit)) (r .waiting) (now (tries .exit)) (r .tried) ⌝ }
+    ensures { λ r. ⌜ Walked (walk quick (rowPayments (now (batches .entry))) (accounts (now (balances .entry)) (now (sublimits .entry))) (now (memory .entry)) (take waiting (now (queue .entry)))) (now (sublimits .entry)) (now (queue .entry)) (now (tries .entry)) tried (now (balances .exit)) (now (memory .exit)) (now (queue .exit)) (r .waiting) (now (tries .exit)) (r .tried) ⌝ }
 {
     let mut i = 0;
     let mut kept = 0;
     let mut at = tried;
     while i < waiting {
         let place = queue[i];
-        let step = attempt(quick, balances, limits, batches, memory, place as usize);
+        let step = attempt(quick, balances, sublimits, batches, memory, place as usize);
         let reached = note(step, place, queue, kept, tries, at);
         kept = reached.waiting;
         at = reached.tried;
@@ -236,7 +236,7 @@ fn walk(
 pub fn run(
     quick: bool,
     balances: &mut [u64],
-    limits: &[u64],
+    sublimits: &[u64],
     batches: &[u64],
     memory: &mut [u64],
     queue: &mut [u64],
@@ -244,10 +244,10 @@ pub fn run(
     tries: &mut [u64],
     tried: usize,
 ) -> Reached
-    requires { ⌜ Books (now balances) (now limits) ⌝ }
+    requires { ⌜ Books (now balances) (now sublimits) ⌝ }
     requires { ⌜ AllGood (now batches) (take waiting (now queue)) ⌝ }
     requires { ⌜ (length (now memory) ≡ 32) × (waiting ≤ length (now queue)) × (tried + most waiting ≤ length (now tries)) ⌝ }
-    ensures { λ r. ⌜ Tested (test quick (rowPayments (now (batches .entry))) (fuel (take waiting (now (queue .entry)))) (accounts (now (balances .entry)) (now (limits .entry))) (now (memory .entry)) (take waiting (now (queue .entry)))) (now (limits .entry)) (now (queue .entry)) waiting (now (tries .entry)) tried (now (balances .exit)) (now (memory .exit)) (now (queue .exit)) (r .waiting) (now (tries .exit)) (r .tried) ⌝ }
+    ensures { λ r. ⌜ Tested (test quick (rowPayments (now (batches .entry))) (fuel (take waiting (now (queue .entry)))) (accounts (now (balances .entry)) (now (sublimits .entry))) (now (memory .entry)) (take waiting (now (queue .entry)))) (now (sublimits .entry)) (now (queue .entry)) waiting (now (tries .entry)) tried (now (balances .exit)) (now (memory .exit)) (now (queue .exit)) (r .waiting) (now (tries .exit)) (r .tried) ⌝ }
 {
     let mut left = waiting;
     let mut at = tried;
@@ -255,7 +255,7 @@ pub fn run(
         let reached = walk(
             quick,
             balances,
-            limits,
+            sublimits,
             batches,
             memory,
             queue,
@@ -278,7 +278,7 @@ pub fn run(
 // The plain test.
 pub fn plain_test(
     balances: &mut [u64],
-    limits: &[u64],
+    sublimits: &[u64],
     batches: &[u64],
     memory: &mut [u64],
     queue: &mut [u64],
@@ -286,15 +286,15 @@ pub fn plain_test(
     tries: &mut [u64],
     tried: usize,
 ) -> Reached
-    requires { ⌜ Books (now balances) (now limits) ⌝ }
+    requires { ⌜ Books (now balances) (now sublimits) ⌝ }
     requires { ⌜ AllGood (now batches) (take waiting (now queue)) ⌝ }
     requires { ⌜ (length (now memory) ≡ 32) × (waiting ≤ length (now queue)) × (tried + most waiting ≤ length (now tries)) ⌝ }
-    ensures { λ r. ⌜ Tested (plainTest (rowPayments (now (batches .entry))) (accounts (now (balances .entry)) (now (limits .entry))) (now (memory .entry)) (take waiting (now (queue .entry)))) (now (limits .entry)) (now (queue .entry)) waiting (now (tries .entry)) tried (now (balances .exit)) (now (memory .exit)) (now (queue .exit)) (r .waiting) (now (tries .exit)) (r .tried) ⌝ }
+    ensures { λ r. ⌜ Tested (plainTest (rowPayments (now (batches .entry))) (accounts (now (balances .entry)) (now (sublimits .entry))) (now (memory .entry)) (take waiting (now (queue .entry)))) (now (sublimits .entry)) (now (queue .entry)) waiting (now (tries .entry)) tried (now (balances .exit)) (now (memory .exit)) (now (queue .exit)) (r .waiting) (now (tries .exit)) (r .tried) ⌝ }
 {
     run(
         false,
         balances,
-        limits,
+        sublimits,
         batches,
         memory,
         queue,
@@ -307,7 +307,7 @@ pub fn plain_test(
 // The quick test.
 pub fn quick_test(
     balances: &mut [u64],
-    limits: &[u64],
+    sublimits: &[u64],
     batches: &[u64],
     memory: &mut [u64],
     queue: &mut [u64],
@@ -315,15 +315,15 @@ pub fn quick_test(
     tries: &mut [u64],
     tried: usize,
 ) -> Reached
-    requires { ⌜ Books (now balances) (now limits) ⌝ }
+    requires { ⌜ Books (now balances) (now sublimits) ⌝ }
     requires { ⌜ AllGood (now batches) (take waiting (now queue)) ⌝ }
     requires { ⌜ (length (now memory) ≡ 32) × (waiting ≤ length (now queue)) × (tried + most waiting ≤ length (now tries)) ⌝ }
-    ensures { λ r. ⌜ Tested (quickTest (rowPayments (now (batches .entry))) (accounts (now (balances .entry)) (now (limits .entry))) (now (memory .entry)) (take waiting (now (queue .entry)))) (now (limits .entry)) (now (queue .entry)) waiting (now (tries .entry)) tried (now (balances .exit)) (now (memory .exit)) (now (queue .exit)) (r .waiting) (now (tries .exit)) (r .tried) ⌝ }
+    ensures { λ r. ⌜ Tested (quickTest (rowPayments (now (batches .entry))) (accounts (now (balances .entry)) (now (sublimits .entry))) (now (memory .entry)) (take waiting (now (queue .entry)))) (now (sublimits .entry)) (now (queue .entry)) waiting (now (tries .entry)) tried (now (balances .exit)) (now (memory .exit)) (now (queue .exit)) (r .waiting) (now (tries .exit)) (r .tried) ⌝ }
 {
     run(
         true,
         balances,
-        limits,
+        sublimits,
         batches,
         memory,
         queue,

@@ -29,7 +29,7 @@ module _ (a : Accounts) (n : Need) where
   unfolding holds
   holds-P x e h = rw (h, e)
 
-  pub holds-A : (x : ℕ) → OneOf (bytes " A") (esa (n .letters)) → x ≡ shortOf (n .cents) (getD (a .limits) (n .bank) 0) (getD (a .balances) (n .bank) 0) → Short (debitOf n) x ≡ holds a n
+  pub holds-A : (x : ℕ) → OneOf (bytes " A") (esa (n .letters)) → x ≡ shortOf (n .cents) (getD (a .sublimits) (n .bank) 0) (getD (a .balances) (n .bank) 0) → Short (debitOf n) x ≡ holds a n
   unfolding holds
   holds-A x (inl e) h = rw (h, e)
   holds-A x (inr e) h = rw (h, e)

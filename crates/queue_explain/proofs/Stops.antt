@@ -33,23 +33,23 @@ held-stops a (n ∷ ns) = go (isCovered a n) refl (held-stops a ns)
     go false e h = rw e (holds-bank a n)
 
 -- with so much more on the balance the debit is covered, and with no less
-module _ (cents limit balance more : ℕ) (told : shortOf cents limit balance < wordMost) where
-  just : leb (cents + limit) (balance + more) ≡ leb (shortOf cents limit balance) more
+module _ (cents sublimit balance more : ℕ) (told : shortOf cents sublimit balance < wordMost) where
+  just : leb (cents + sublimit) (balance + more) ≡ leb (shortOf cents sublimit balance) more
   unfolding shortOf
-  just = go (leb (shortOf cents limit balance) more) refl
+  just = go (leb (shortOf cents sublimit balance) more) refl
     where
-      go : (r : Bool) → leb (shortOf cents limit balance) more ≡ r → leb (cents + limit) (balance + more) ≡ leb (shortOf cents limit balance) more
-      go true e = le-leb (cents + limit) (balance + more) (omega (arith, leb-true (shortOf cents limit balance) more e)) ∙ sym e
-      go false e = lt-leb (cents + limit) (balance + more) (omega (arith, leb-false (shortOf cents limit balance) more e)) ∙ sym e
+      go : (r : Bool) → leb (shortOf cents sublimit balance) more ≡ r → leb (cents + sublimit) (balance + more) ≡ leb (shortOf cents sublimit balance) more
+      go true e = le-leb (cents + sublimit) (balance + more) (omega (arith, leb-true (shortOf cents sublimit balance) more e)) ∙ sym e
+      go false e = lt-leb (cents + sublimit) (balance + more) (omega (arith, leb-false (shortOf cents sublimit balance) more e)) ∙ sym e
 
-  pub short-A : (letters : ℕ) → esa letters ≡ 65 → covered letters (balance + more) limit cents ≡ leb (shortOf cents limit balance) more
+  pub short-A : (letters : ℕ) → esa letters ≡ 65 → covered letters (balance + more) sublimit cents ≡ leb (shortOf cents sublimit balance) more
   unfolding covered
   short-A letters e = rw e just
 
-  pub short-space : (letters : ℕ) → esa letters ≡ 32 → covered letters (balance + more) limit cents ≡ leb (shortOf cents limit balance) more
+  pub short-space : (letters : ℕ) → esa letters ≡ 32 → covered letters (balance + more) sublimit cents ≡ leb (shortOf cents sublimit balance) more
   unfolding covered
   short-space letters e = rw e just
 
-pub short-P : (cents balance more : ℕ) → shortOf cents 0 balance < wordMost → (letters limit : ℕ) → esa letters ≡ 80 → covered letters (balance + more) limit cents ≡ leb (shortOf cents 0 balance) more
+pub short-P : (cents balance more : ℕ) → shortOf cents 0 balance < wordMost → (letters sublimit : ℕ) → esa letters ≡ 80 → covered letters (balance + more) sublimit cents ≡ leb (shortOf cents 0 balance) more
 unfolding covered
-short-P cents balance more told letters limit e = rw e (let z : cents + 0 ≡ cents = omega arith in rw z at (just cents 0 balance more told))
+short-P cents balance more told letters sublimit e = rw e (let z : cents + 0 ≡ cents = omega arith in rw z at (just cents 0 balance more told))

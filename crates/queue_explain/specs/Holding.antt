@@ -19,8 +19,8 @@ abbrev pub wordMost : ℕ
 wordMost = 18446744073709551615
 
 -- "what the balance lacks for this debit to be covered", as far as a word can tell it
-unfoldable pub shortOf : (cents limit balance : ℕ) → ℕ
-shortOf cents limit balance = min (cents + limit - balance) wordMost
+unfoldable pub shortOf : (cents sublimit balance : ℕ) → ℕ
+shortOf cents sublimit balance = min (cents + sublimit - balance) wordMost
 
 -- the three words of a payment as a debit
 abbrev pub needAt : List ℕ → ℕ → Need
@@ -32,14 +32,14 @@ debitOf n = record { bank = n .bank; letter = esa (n .letters); cents = n .cents
 abbrev pub balanceOf : Accounts → Need → ℕ
 balanceOf a n = getD (a .balances) (n .bank) 0
 
-abbrev pub limitOf : Accounts → Need → ℕ
-limitOf a n = getD (a .limits) (n .bank) 0
+abbrev pub sublimitOf : Accounts → Need → ℕ
+sublimitOf a n = getD (a .sublimits) (n .bank) 0
 
 -- how an uncovered debit holds its batch: P wants its cents, A and a space the sub-limit besides, D is never covered
 unfoldable pub holds : Accounts → Need → Held
 holds a n =
     cond (member (esa (n .letters)) (bytes "P")) (Short (debitOf n) (shortOf (n .cents) 0 (balanceOf a n)))
-    (cond (member (esa (n .letters)) (bytes " A")) (Short (debitOf n) (shortOf (n .cents) (limitOf a n) (balanceOf a n)))
+    (cond (member (esa (n .letters)) (bytes " A")) (Short (debitOf n) (shortOf (n .cents) (sublimitOf a n) (balanceOf a n)))
     (Deferred (debitOf n)))
 
 -- "the first uncovered debit"

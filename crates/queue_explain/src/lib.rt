@@ -49,27 +49,27 @@ fn index(x: u64) -> usize
 }
 
 // What a balance lacks for so many cents and a sub-limit.
-fn short_of(cents: u64, limit: u64, balance: u64) -> u64
-    ensures { λ r. ⌜ r ≡ shortOf cents limit balance ⌝ }
+fn short_of(cents: u64, sublimit: u64, balance: u64) -> u64
+    ensures { λ r. ⌜ r ≡ shortOf cents sublimit balance ⌝ }
 {
     if cents <= balance {
         let left = balance - cents;
-        if limit <= left {
+        if sublimit <= left {
             return 0;
         }
-        return limit - left;
+        return sublimit - left;
     }
     let lack = cents - balance;
-    if WORD_MOST - lack < limit {
+    if WORD_MOST - lack < sublimit {
         return WORD_MOST;
     }
-    lack + limit
+    lack + sublimit
 }
 
 // Whether the payment at a word of the table is a debit that its own bank does not cover.
-fn uncovered_at(balances: &[u64], limits: &[u64], batches: &[u64], at: usize) -> bool
+fn uncovered_at(balances: &[u64], sublimits: &[u64], batches: &[u64], at: usize) -> bool
     requires { ⌜ at + 3 ≤ tableLength ⌝ }
-    ensures { λ r. ⌜ r ≡ uncovered (accounts (now (balances .entry)) (now (limits .entry))) (paymentAt (now (batches .entry)) at) ⌝ }
+    ensures { λ r. ⌜ r ≡ uncovered (accounts (now (balances .entry)) (now (sublimits .entry))) (paymentAt (now (batches .entry)) at) ⌝ }
 {
     let letters = word(batches, at + 2);
     if letters == 0 {
@@ -79,23 +79,23 @@ fn uncovered_at(balances: &[u64], limits: &[u64], batches: &[u64], at: usize) ->
     let yes = settle::covered(
         letters,
         word(balances, bank),
-        word(limits, bank),
+        word(sublimits, bank),
         word(batches, at + 1),
     );
     !yes
 }
 
 // How the uncovered debit at a word of the table holds its batch.
-fn holds_at(balances: &[u64], limits: &[u64], batches: &[u64], at: usize) -> Held
+fn holds_at(balances: &[u64], sublimits: &[u64], batches: &[u64], at: usize) -> Held
     requires { ⌜ at + 3 ≤ tableLength ⌝ }
-    ensures { λ r. ⌜ r ≡ holds (accounts (now (balances .entry)) (now (limits .entry))) (needAt (now (batches .entry)) at) ⌝ }
+    ensures { λ r. ⌜ r ≡ holds (accounts (now (balances .entry)) (now (sublimits .entry))) (needAt (now (batches .entry)) at) ⌝ }
 {
     let place = word(batches, at);
     let cents = word(batches, at + 1);
     let letter = word(batches, at + 2) / FIRST_LETTER;
     let bank = index(place);
     let balance = word(balances, bank);
-    let limit = word(limits, bank);
+    let sublimit = word(sublimits, bank);
     let debit = Debit {
         bank: place,
         letter,
@@ -103,21 +103,21 @@ fn holds_at(balances: &[u64], limits: &[u64], batches: &[u64], at: usize) -> Hel
     };
     match letter {
         80 => Held::Short(debit, short_of(cents, 0, balance)),
-        32 | 65 => Held::Short(debit, short_of(cents, limit, balance)),
+        32 | 65 => Held::Short(debit, short_of(cents, sublimit, balance)),
         _ => Held::Deferred(debit),
     }
 }
 
 // What holds a batch of which so many payments are left, from a word of the table on.
-fn held_by(balances: &[u64], limits: &[u64], batches: &[u64], first: usize, count: u64) -> Held
+fn held_by(balances: &[u64], sublimits: &[u64], batches: &[u64], first: usize, count: u64) -> Held
     requires { ⌜ first + 3 * count ≤ tableLength ⌝ }
-    ensures { λ r. ⌜ r ≡ heldBy (accounts (now (balances .entry)) (now (limits .entry))) (needsOf (paymentsFrom (now (batches .entry)) first count)) ⌝ }
+    ensures { λ r. ⌜ r ≡ heldBy (accounts (now (balances .entry)) (now (sublimits .entry))) (needsOf (paymentsFrom (now (batches .entry)) first count)) ⌝ }
 {
     let mut at = first;
     let mut left = count;
     while 0 < left {
-        if uncovered_at(balances, limits, batches, at) {
-            return holds_at(balances, limits, batches, at);
+        if uncovered_at(balances, sublimits, batches, at) {
+            return holds_at(balances, sublimits, batches, at);
         }
         at += Batch::PAYMENT_WIDTH;
         left -= 1;
@@ -126,8 +126,8 @@ fn held_by(balances: &[u64], limits: &[u64], batches: &[u64], first: usize, coun
 }
 
 // What holds the batch at a place.
-pub fn held_at(balances: &[u64], limits: &[u64], batches: &[u64], place: usize) -> Held
-    ensures { λ r. ⌜ r ≡ heldAt (accounts (now (balances .entry)) (now (limits .entry))) (now (batches .entry)) place ⌝ }
+pub fn held_at(balances: &[u64], sublimits: &[u64], batches: &[u64], place: usize) -> Held
+    ensures { λ r. ⌜ r ≡ heldAt (accounts (now (balances .entry)) (now (sublimits .entry))) (now (batches .entry)) place ⌝ }
 {
     let BatchOr::Stands(batch) = Batch::at(place) else {
         return Held::Unqueued;
@@ -140,5 +140,5 @@ pub fn held_at(balances: &[u64], limits: &[u64], batches: &[u64], place: usize) 
     if (Batch::PAYMENTS as u64) < count {
         return Held::Unqueued;
     }
-    held_by(balances, limits, batches, start + Batch::PAYMENT, count)
+    held_by(balances, sublimits, batches, start + Batch::PAYMENT, count)
 }

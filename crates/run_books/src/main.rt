@@ -31,14 +31,14 @@ fn tell_sound(line: &mut [u8], text: &[u8]) {
     let mut codes = [0u64; 64];
     let mut flags = [0u64; 64];
     let mut balances = [0u64; 64];
-    let mut limits = [0u64; 64];
+    let mut sublimits = [0u64; 64];
     let Reading::Held(b) = book_read::read(
         text,
         &mut streams,
         &mut codes,
         &mut flags,
         &mut balances,
-        &mut limits,
+        &mut sublimits,
     ) else {
         return;
     };
@@ -53,7 +53,7 @@ fn tell_sound(line: &mut [u8], text: &[u8]) {
         &codes,
         &flags,
         &balances,
-        &limits,
+        &sublimits,
     ) else {
         return;
     };

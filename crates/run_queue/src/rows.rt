@@ -119,7 +119,7 @@ fn status(batches: &mut [u64], place: usize, bank: u64, letter: u64) {
 fn test(
     quick: bool,
     balances: &mut [u64; 64],
-    limits: &[u64; 64],
+    sublimits: &[u64; 64],
     batches: &[u64; 11168],
     memory: &mut [u64; 32],
     queue: &mut [u64; 32],
@@ -139,7 +139,7 @@ fn test(
     queue::run(
         quick,
         balances,
-        limits,
+        sublimits,
         batches,
         memory,
         queue,
@@ -154,7 +154,7 @@ fn tell(
     quick: bool,
     standing: Standing,
     balances: &mut [u64; 64],
-    limits: &[u64; 64],
+    sublimits: &[u64; 64],
     batches: &[u64; 11168],
     memory: &mut [u64; 32],
     queue: &mut [u64; 32],
@@ -164,7 +164,7 @@ fn tell(
     let reached = test(
         quick,
         balances,
-        limits,
+        sublimits,
         batches,
         memory,
         queue,
@@ -237,7 +237,7 @@ fn step(
     line: Line,
     standing: Standing,
     balances: &mut [u64; 64],
-    limits: &mut [u64; 64],
+    sublimits: &mut [u64; 64],
     batches: &mut [u64; 11168],
     memory: &mut [u64; 32],
     queue: &mut [u64; 32],
@@ -247,7 +247,7 @@ fn step(
     match op {
         1 => {
             zero(balances);
-            zero(limits);
+            zero(sublimits);
             zero(memory);
             Standing {
                 waiting: 0,
@@ -259,7 +259,7 @@ fn step(
             standing
         }
         3 => {
-            put(limits, index(line.a), line.b);
+            put(sublimits, index(line.a), line.b);
             queue::wake_bank(memory, line.a);
             standing
         }
@@ -267,7 +267,7 @@ fn step(
             false,
             standing,
             balances,
-            limits,
+            sublimits,
             batches,
             memory,
             queue,
@@ -277,7 +277,7 @@ fn step(
             true,
             standing,
             balances,
-            limits,
+            sublimits,
             batches,
             memory,
             queue,
@@ -290,7 +290,7 @@ fn step(
 // The whole script.
 pub fn run(numbers: &[u64], count: usize) {
     let mut balances = [0u64; 64];
-    let mut limits = [0u64; 64];
+    let mut sublimits = [0u64; 64];
     let mut batches = [0u64; 11168];
     let mut memory = [0u64; 32];
     let mut queue = [0u64; 32];
@@ -307,7 +307,7 @@ pub fn run(numbers: &[u64], count: usize) {
             line,
             standing,
             &mut balances,
-            &mut limits,
+            &mut sublimits,
             &mut batches,
             &mut memory,
             &mut queue,

@@ -50,23 +50,23 @@ leb-same a b c d f g = go (leb a b) refl
     go true e = e ∙ sym (le-leb c d (f (leb-true a b e)))
     go false e = e ∙ sym (lt-leb c d (g (leb-false a b e)))
 
-module _ (letters balance limit cents : ℕ) where
-  pub with-P : esa letters ≡ 80 → leb cents balance ≡ covered letters balance limit cents
+module _ (letters balance sublimit cents : ℕ) where
+  pub with-P : esa letters ≡ 80 → leb cents balance ≡ covered letters balance sublimit cents
   unfolding covered
   with-P e = rw e
 
-  with-A : OneOf (bytes " A") (esa letters) → covered letters balance limit cents ≡ leb (cents + limit) balance
+  with-A : OneOf (bytes " A") (esa letters) → covered letters balance sublimit cents ≡ leb (cents + sublimit) balance
   unfolding covered
   with-A (inl e) = rw e
   with-A (inr e) = rw e
 
-  pub with-A-room : OneOf (bytes " A") (esa letters) → limit ≤ balance → leb cents (balance - limit) ≡ covered letters balance limit cents
-  with-A-room e h = leb-same cents (balance - limit) (cents + limit) balance (λ k. omega arith) (λ k. omega arith) ∙ sym (with-A e)
+  pub with-A-room : OneOf (bytes " A") (esa letters) → sublimit ≤ balance → leb cents (balance - sublimit) ≡ covered letters balance sublimit cents
+  with-A-room e h = leb-same cents (balance - sublimit) (cents + sublimit) balance (λ k. omega arith) (λ k. omega arith) ∙ sym (with-A e)
 
-  pub with-A-none : OneOf (bytes " A") (esa letters) → balance < limit → false ≡ covered letters balance limit cents
-  with-A-none e h = sym (with-A e ∙ lt-leb (cents + limit) balance (omega arith))
+  pub with-A-none : OneOf (bytes " A") (esa letters) → balance < sublimit → false ≡ covered letters balance sublimit cents
+  with-A-none e h = sym (with-A e ∙ lt-leb (cents + sublimit) balance (omega arith))
 
-  pub with-other : (esa letters ≡ 80 → ⊥) → (OneOf (bytes " A") (esa letters) → ⊥) → false ≡ covered letters balance limit cents
+  pub with-other : (esa letters ≡ 80 → ⊥) → (OneOf (bytes " A") (esa letters) → ⊥) → false ≡ covered letters balance sublimit cents
   unfolding covered
   with-other n e = sym (simp (not-member (bytes " A") (esa letters) e, not-member (bytes "P") (esa letters) n))
 

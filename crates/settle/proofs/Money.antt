@@ -58,13 +58,13 @@ in-turn b [] d h = tt
 in-turn b (p ∷ ps) d h = (h .0, in-turn (paid b p) ps (d .1) (each-paid b p ps (d .0) (h .1)))
 
 -- a covered debit is no more than the balance
-pub covered-money : (letters balance limit cents : ℕ) → covered letters balance limit cents ≡ true → cents ≤ balance
+pub covered-money : (letters balance sublimit cents : ℕ) → covered letters balance sublimit cents ≡ true → cents ≤ balance
 unfolding covered
-covered-money letters balance limit cents h = go (member (esa letters) (bytes "P")) (member (esa letters) (bytes " A")) h
+covered-money letters balance sublimit cents h = go (member (esa letters) (bytes "P")) (member (esa letters) (bytes " A")) h
   where
-    go : (t u : Bool) → cond t (leb cents balance) (cond u (leb (cents + limit) balance) false) ≡ true → cents ≤ balance
+    go : (t u : Bool) → cond t (leb cents balance) (cond u (leb (cents + sublimit) balance) false) ≡ true → cents ≤ balance
     go true u e = leb-true cents balance e
-    go false true e = omega (arith, leb-true (cents + limit) balance e)
+    go false true e = omega (arith, leb-true (cents + sublimit) balance e)
     go false false e = let z : _≡_ {A = ℕ} 0 1 = cc in omega arith
 
 -- what a verdict of Passes says of the first need and of the others
@@ -82,7 +82,7 @@ passed a [] n m r h = tt
 passed a (credit k c ∷ ps) n m r h = (record { inside = rw n (r .0 .0); fits = omega (arith, m k, r .0 .1) }, passed a ps n m (r .1) h)
 passed a (debit l k c ∷ ps) n m r h =
     let w = passes-cons a (record { letters = l; bank = k; cents = c }) (needsOf ps) h in
-    (record { inside = rw n (r .0 .0); fits = covered-money l (getD (a .balances) k 0) (getD (a .limits) k 0) c (w .0) }, passed a ps n m (r .1) (w .1))
+    (record { inside = rw n (r .0 .0); fits = covered-money l (getD (a .balances) k 0) (getD (a .sublimits) k 0) c (w .0) }, passed a ps n m (r .1) (w .1))
 
 pub at-most-sum : (b : List ℕ) (k : ℕ) → getD b k 0 ≤ sum b
 at-most-sum [] k = omega arith

@@ -13,7 +13,7 @@ esa letters = letters / firstLetter
 
 -- "A debit with ESA status P is covered when amount ≤ balance; A when amount ≤ balance less sub-limit; D never."
 -- A space means A. A sub-limit above the balance leaves nothing, not even for an amount of 0.
-unfoldable pub covered : (letters balance limit cents : ℕ) → Bool
-covered letters balance limit cents =
+unfoldable pub covered : (letters balance sublimit cents : ℕ) → Bool
+covered letters balance sublimit cents =
     cond (member (esa letters) (bytes "P")) (leb cents balance)
-    (cond (member (esa letters) (bytes " A")) (leb (cents + limit) balance) false)
+    (cond (member (esa letters) (bytes " A")) (leb (cents + sublimit) balance) false)

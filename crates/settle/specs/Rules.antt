@@ -45,9 +45,9 @@ Ranged [] = Unit {0}
 Ranged (p ∷ ps) = ((bankOf p < 64) × (centsOf p ≤ mostCents)) × Ranged ps
 
 -- "Balances, their total and sub-limits run from 0 to 6,400,000,000,000,000."
-pub record Books (balances limits : List ℕ) : Type 0 where
+pub record Books (balances sublimits : List ℕ) : Type 0 where
   pub b-long : length balances ≡ 64
-  pub l-long : length limits ≡ 64
+  pub l-long : length sublimits ≡ 64
   pub bounded : sum balances ≤ mostMoney
 
 -- a batch that keeps the table rules stands at the place

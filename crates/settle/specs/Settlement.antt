@@ -11,14 +11,14 @@ use Rattle.settle.specs.declared.Verdict.the-variants.{Passes, Stops}
 -- the banks' balances and sub-limits, by bank place
 pub record Accounts : Type 0 where
   pub balances : List ℕ
-  pub limits : List ℕ
+  pub sublimits : List ℕ
 
 abbrev pub accounts : List ℕ → List ℕ → Accounts
-accounts b l = record { balances = b; limits = l }
+accounts b l = record { balances = b; sublimits = l }
 
 -- each account is judged on its own
 abbrev pub isCovered : Accounts → Need → Bool
-isCovered a n = covered (n .letters) (getD (a .balances) (n .bank) 0) (getD (a .limits) (n .bank) 0) (n .cents)
+isCovered a n = covered (n .letters) (getD (a .balances) (n .bank) 0) (getD (a .sublimits) (n .bank) 0) (n .cents)
 
 -- "A batch passes exactly when each debit is covered by its own bank"; else "the bank of the first uncovered debit"
 unfoldable pub firstUncovered : Accounts → List Need → Verdict

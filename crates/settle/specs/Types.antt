@@ -10,10 +10,10 @@ use Rattle.settle.specs.declared.BatchOr.{BatchOr}
 use Rattle.settle.specs.declared.BatchOr.the-variants.{Stands, Nowhere}
 
 -- "Balances, their total and sub-limits run from 0 to 6,400,000,000,000,000"; 14 where one is out of range
-abbrev pub bankOr : (balance limit : ℕ) → BankOr
-bankOr balance limit =
-    cond (leb balance mostMoney && leb limit mostMoney)
-    (Is (record { balance = balance; limit = limit }))
+abbrev pub bankOr : (balance sublimit : ℕ) → BankOr
+bankOr balance sublimit =
+    cond (leb balance mostMoney && leb sublimit mostMoney)
+    (Is (record { balance = balance; sublimit = sublimit }))
     (Not OutOfRange)
 
 -- "32 live batches", in rows of 349 words; 06 for another place

@@ -11,7 +11,7 @@ ghost use Rattle.settle.specs.Types.{bankOr, batchOr};
 // A bank's two amounts of money, in cents.
 pub struct Bank {
     pub balance: u64,
-    pub limit: u64,
+    pub sublimit: u64,
 }
 
 pub enum BankOr {
@@ -24,12 +24,12 @@ impl Bank {
     // Balances, their total and sub-limits run from 0 to this many cents.
     pub const RICHEST: u64 = 6_400_000_000_000_000;
 
-    pub fn new(balance: u64, limit: u64) -> BankOr
-        ensures { λ r. ⌜ r ≡ bankOr balance limit ⌝ }
+    pub fn new(balance: u64, sublimit: u64) -> BankOr
+        ensures { λ r. ⌜ r ≡ bankOr balance sublimit ⌝ }
     {
         if balance <= Bank::RICHEST {
-            if limit <= Bank::RICHEST {
-                return BankOr::Is(Bank { balance, limit });
+            if sublimit <= Bank::RICHEST {
+                return BankOr::Is(Bank { balance, sublimit });
             }
         }
         BankOr::Not(chars::Refusal::OutOfRange)
@@ -99,14 +99,14 @@ impl Batch {
 const FIRST_LETTER: u64 = 16_777_216;
 
 // Whether an account covers a debit, by the debit's ESA letter: P is 80, A 65, a space 32.
-pub fn covered(letters: u64, balance: u64, limit: u64, cents: u64) -> bool
-    ensures { λ r. ⌜ r ≡ covered letters balance limit cents ⌝ }
+pub fn covered(letters: u64, balance: u64, sublimit: u64, cents: u64) -> bool
+    ensures { λ r. ⌜ r ≡ covered letters balance sublimit cents ⌝ }
 {
     match letters / FIRST_LETTER {
         80 => cents <= balance,
         32 | 65 => {
-            if limit <= balance {
-                cents <= balance - limit
+            if sublimit <= balance {
+                cents <= balance - sublimit
             } else {
                 false
             }
@@ -128,31 +128,36 @@ fn index(x: u64) -> usize
 }
 
 // Whether the payment at a word of the table is a debit that its own bank does not cover.
-fn uncovered_at(balances: &[u64], limits: &[u64], batches: &[u64], at: usize) -> bool
+fn uncovered_at(balances: &[u64], sublimits: &[u64], batches: &[u64], at: usize) -> bool
     requires { ⌜ at + 3 ≤ length (now batches) ⌝ }
     requires { ⌜ getD (now batches) at 0 < length (now balances) ⌝ }
-    requires { ⌜ getD (now batches) at 0 < length (now limits) ⌝ }
-    ensures { λ r. ⌜ r ≡ uncovered (accounts (now (balances .entry)) (now (limits .entry))) (paymentAt (now (batches .entry)) at) ⌝ }
+    requires { ⌜ getD (now batches) at 0 < length (now sublimits) ⌝ }
+    ensures { λ r. ⌜ r ≡ uncovered (accounts (now (balances .entry)) (now (sublimits .entry))) (paymentAt (now (batches .entry)) at) ⌝ }
 {
     let letters = batches[at + 2];
     if letters == 0 {
         return false;
     }
     let bank = index(batches[at]);
-    let yes = covered(letters, balances[bank], limits[bank], batches[at + 1]);
+    let yes = covered(letters, balances[bank], sublimits[bank], batches[at + 1]);
     !yes
 }
 
 // The first uncovered debit of the batch at a place: by its messages' arrival, in a message by the text.
-pub fn first_uncovered(balances: &[u64], limits: &[u64], batches: &[u64], place: usize) -> Verdict
-    requires { ⌜ Laid (now balances) (now limits) (now batches) place ⌝ }
-    ensures { λ r. ⌜ r ≡ firstUncovered (accounts (now (balances .entry)) (now (limits .entry))) (needsOf (rowPayments (now (batches .entry)) place)) ⌝ }
+pub fn first_uncovered(
+    balances: &[u64],
+    sublimits: &[u64],
+    batches: &[u64],
+    place: usize,
+) -> Verdict
+    requires { ⌜ Laid (now balances) (now sublimits) (now batches) place ⌝ }
+    ensures { λ r. ⌜ r ≡ firstUncovered (accounts (now (balances .entry)) (now (sublimits .entry))) (needsOf (rowPayments (now (batches .entry)) place)) ⌝ }
 {
     let first = place * Batch::WIDTH + Batch::PAYMENT;
     let mut at = first;
     let mut left = batches[place * Batch::WIDTH + Batch::PAYMENTS_THERE];
     while 0 < left {
-        if uncovered_at(balances, limits, batches, at) {
+        if uncovered_at(balances, sublimits, batches, at) {
             let bank = batches[at];
             return Verdict::Stops(bank);
         }

@@ -89,7 +89,7 @@ module _ (k : Lending) (r x : Result) (h : view r ≡ view x) (v : Valid (r .eng
         codes = ap (λ (z : State). z .house .codes) e;
         flags = ap (λ (z : State). z .house .flags) e;
         balances = ap (λ (z : State). z .books .balances) e;
-        limits = ap (λ (z : State). z .books .limits) e;
+        sublimits = ap (λ (z : State). z .books .sublimits) e;
         batches = λ i w.
             ap (λ (z : State). getD (placesWords (z .batches) (r .engine .memory) 0 (z .batches .places)) i 0) e
             ∙ same-words (t .batches) (r .engine .memory) (x .engine .memory) 0 (t .batches .places)

@@ -26,7 +26,7 @@ use Rattle.book_read.specs.Range.{Each, Rising, allAre, isShort, streamCodes}
 use Rattle.model.specs.Rules.{RightHouse}
 use Rattle.tables.specs.declared.Desk.{Desk}
 use Rattle.tables.specs.Rows.{streamsOn}
-use Rattle.tables.specs.House.{houseOn, AllShort, AllZero, Limits, Flagged, Lengths, RightStreams, RightBanks, ZeroPast, RightMoney}
+use Rattle.tables.specs.House.{houseOn, AllShort, AllZero, Sublimits, Flagged, Lengths, RightStreams, RightBanks, ZeroPast, RightMoney}
 use Rattle.tables.proofs.TestLaws.{Both, both-same, says-no, says-yes, says-map, row-cut, row-end, row-not, row-on, each-end, each-not, each-on, rising-end, rising-not, rising-on}
 
 -- ---- four characters
@@ -122,15 +122,15 @@ module _ {Q : Type 0} (l : List ℕ) (i : ℕ) where
     pub short-on : i < length l → {r : Bool} → r ≡ isShort (getD l i 0) → not r ≡ false → Both Q (AllShort (drop (i + 1) l))
     short-on h {r} e n = row-on (λ x. isShort x ≡ true) l i b h (sym e ∙ not-false r n)
 
-  module _ (b : Both Q (Limits (drop i l))) where
-    pub limit-end : length l ≤ i → Q
-    limit-end h = row-end (λ x. x ≤ 6400000000000000) l i b h
+  module _ (b : Both Q (Sublimits (drop i l))) where
+    pub sublimit-end : length l ≤ i → Q
+    sublimit-end h = row-end (λ x. x ≤ 6400000000000000) l i b h
 
-    pub limit-not : i < length l → 6400000000000000 < getD l i 0 → Q → ⊥
-    limit-not h n = row-not (λ x. x ≤ 6400000000000000) l i b h (λ y. omega arith)
+    pub sublimit-not : i < length l → 6400000000000000 < getD l i 0 → Q → ⊥
+    sublimit-not h n = row-not (λ x. x ≤ 6400000000000000) l i b h (λ y. omega arith)
 
-    pub limit-on : i < length l → getD l i 0 ≤ 6400000000000000 → Both Q (Limits (drop (i + 1) l))
-    limit-on h e = row-on (λ x. x ≤ 6400000000000000) l i b h e
+    pub sublimit-on : i < length l → getD l i 0 ≤ 6400000000000000 → Both Q (Sublimits (drop (i + 1) l))
+    sublimit-on h e = row-on (λ x. x ≤ 6400000000000000) l i b h e
 
   module _ (streams : ℕ) (b : Both Q (Flagged streams (drop i l))) where
     pub flag-end : length l ≤ i → Q
@@ -284,13 +284,13 @@ bits-end {i = i} {streams = streams} e h k = let f : i ≡ streams = omega arith
 
 -- ---- the groups of rules
 
-pub lengths-last : (codes flags balances limits : List ℕ) → length codes ≡ 64 → length flags ≡ 64 → length balances ≡ 64
-    → Says (Lengths codes flags balances limits) (eqb (length limits) 64)
-lengths-last codes flags balances limits a b e = go (eqb (length limits) 64) refl
+pub lengths-last : (codes flags balances sublimits : List ℕ) → length codes ≡ 64 → length flags ≡ 64 → length balances ≡ 64
+    → Says (Lengths codes flags balances sublimits) (eqb (length sublimits) 64)
+lengths-last codes flags balances sublimits a b e = go (eqb (length sublimits) 64) refl
   where
-    go : (r : Bool) → eqb (length limits) 64 ≡ r → Says (Lengths codes flags balances limits) r
-    go true f = record { codes-long = a; flags-long = b; balances-long = e; limits-long = eqb-true (length limits) 64 f }
-    go false f = λ w. eqb-false (length limits) 64 f (w .limits-long)
+    go : (r : Bool) → eqb (length sublimits) 64 ≡ r → Says (Lengths codes flags balances sublimits) r
+    go true f = record { codes-long = a; flags-long = b; balances-long = e; sublimits-long = eqb-true (length sublimits) 64 f }
+    go false f = λ w. eqb-false (length sublimits) 64 f (w .sublimits-long)
 
 module _ (xs : List Stream) where
   pub streams-unnamed : (r : Bool) → Says (Each Named xs) r → not r ≡ true → RightStreams xs → ⊥
@@ -342,9 +342,9 @@ module _ (streams banks : ℕ) (codes flags : List ℕ) where
 rest-is : (l : List ℕ) (banks : ℕ) → length l ≡ 64 → take (64 - banks) (drop banks l) ≡ drop banks l
 rest-is l banks e = take-all (64 - banks) (drop banks l) (rw (length-drop, e) (le-refl (64 - banks)))
 
-module _ (banks : ℕ) (codes flags balances limits : List ℕ) (long : Lengths codes flags balances limits) where
+module _ (banks : ℕ) (codes flags balances sublimits : List ℕ) (long : Lengths codes flags balances sublimits) where
   abbrev Past : Type 0
-  Past = ZeroPast banks codes flags balances limits
+  Past = ZeroPast banks codes flags balances sublimits
 
   abbrev Rest : List ℕ → Type 0
   Rest l = AllZero (take (64 - banks) (drop banks l))
@@ -359,33 +359,33 @@ module _ (banks : ℕ) (codes flags balances limits : List ℕ) (long : Lengths 
   past-balances r s e w = says-no {P = Rest balances} r s e (rw (rest-is balances banks (long .balances-long)) (w .balances-past))
 
   pub past-last : (x y z r : Bool) → Says (Rest codes) x → not x ≡ false → Says (Rest flags) y → not y ≡ false
-      → Says (Rest balances) z → not z ≡ false → Says (Rest limits) r → Says Past r
+      → Says (Rest balances) z → not z ≡ false → Says (Rest sublimits) r → Says Past r
   past-last x y z r sx ex sy ey sz ez sr =
       says-map r
       (λ h. record {
         codes-past = (rw (rest-is codes banks (long .codes-long)) at (says-yes {P = Rest codes} x sx ex));
         flags-past = (rw (rest-is flags banks (long .flags-long)) at (says-yes {P = Rest flags} y sy ey));
         balances-past = (rw (rest-is balances banks (long .balances-long)) at (says-yes {P = Rest balances} z sz ez));
-        limits-past = (rw (rest-is limits banks (long .limits-long)) at h);
+        sublimits-past = (rw (rest-is sublimits banks (long .sublimits-long)) at h);
       })
-      (λ w. rw (rest-is limits banks (long .limits-long)) (w .limits-past))
+      (λ w. rw (rest-is sublimits banks (long .sublimits-long)) (w .sublimits-past))
       sr
 
-module _ (balances limits : List ℕ) where
-  pub money-limits : (r : Bool) → Says (Limits limits) r → not r ≡ true → RightMoney balances limits → ⊥
-  money-limits r s e w = says-no r s e (w .limits-right)
+module _ (balances sublimits : List ℕ) where
+  pub money-sublimits : (r : Bool) → Says (Sublimits sublimits) r → not r ≡ true → RightMoney balances sublimits → ⊥
+  money-sublimits r s e w = says-no r s e (w .sublimits-right)
 
-  pub money-last : (x r : Bool) → Says (Limits limits) x → not x ≡ false → Says (sum balances ≤ 6400000000000000) r → Says (RightMoney balances limits) r
-  money-last x r s e t = says-map r (λ h. record { limits-right = says-yes x s e; total = h }) (λ w. w .total) t
+  pub money-last : (x r : Bool) → Says (Sublimits sublimits) x → not x ≡ false → Says (sum balances ≤ 6400000000000000) r → Says (RightMoney balances sublimits) r
+  money-last x r s e t = says-map r (λ h. record { sublimits-right = says-yes x s e; total = h }) (λ w. w .total) t
 
 -- ---- the house
 
-module _ (d : Desk) (codes flags balances limits : List ℕ) where
+module _ (d : Desk) (codes flags balances sublimits : List ℕ) where
   abbrev pub Right : Type 0
-  Right = RightHouse (houseOn d codes flags) balances limits
+  Right = RightHouse (houseOn d codes flags) balances sublimits
 
-  pub no-lengths : (r : Bool) → Says (Lengths codes flags balances limits) r → not r ≡ true → Right → ⊥
-  no-lengths r s e w = says-no r s e (record { codes-long = w .codes-long; flags-long = w .flags-long; balances-long = w .balances-long; limits-long = w .limits-long })
+  pub no-lengths : (r : Bool) → Says (Lengths codes flags balances sublimits) r → not r ≡ true → Right → ⊥
+  no-lengths r s e w = says-no r s e (record { codes-long = w .codes-long; flags-long = w .flags-long; balances-long = w .balances-long; sublimits-long = w .sublimits-long })
 
   pub no-streams : (r : Bool) → Says (RightStreams (streamsOn d)) r → not r ≡ true → Right → ⊥
   no-streams r s e w = says-no r s e (record { few = w .few-streams; codes = w .stream-codes; administrators = w .administrators; rise = w .streams-rise })
@@ -396,11 +396,11 @@ module _ (d : Desk) (codes flags balances limits : List ℕ) where
   pub no-banks : (r : Bool) → Says (RightBanks (d .n) (d .banks) codes flags) r → not r ≡ true → Right → ⊥
   no-banks r s e w = says-no r s e (record { codes-right = w .bank-codes; rise = w .banks-rise; flags-right = (rw in-use at (w .flags-right)) })
 
-  pub no-past : (r : Bool) → Says (ZeroPast (d .banks) codes flags balances limits) r → not r ≡ true → Right → ⊥
-  no-past r s e w = says-no r s e (record { codes-past = w .codes-past; flags-past = w .flags-past; balances-past = w .balances-past; limits-past = w .limits-past })
+  pub no-past : (r : Bool) → Says (ZeroPast (d .banks) codes flags balances sublimits) r → not r ≡ true → Right → ⊥
+  no-past r s e w = says-no r s e (record { codes-past = w .codes-past; flags-past = w .flags-past; balances-past = w .balances-past; sublimits-past = w .sublimits-past })
 
-  module _ (a : Bool) (sa : Says (Lengths codes flags balances limits) a) (ea : not a ≡ false) where
-    pub now-long : Lengths codes flags balances limits
+  module _ (a : Bool) (sa : Says (Lengths codes flags balances sublimits) a) (ea : not a ≡ false) where
+    pub now-long : Lengths codes flags balances sublimits
     now-long = says-yes a sa ea
 
     module _ (b : Bool) (sb : Says (RightStreams (streamsOn d)) b) (eb : not b ≡ false) (few : d .banks ≤ 64) where
@@ -412,10 +412,10 @@ module _ (d : Desk) (codes flags balances limits : List ℕ) where
           (omega (arith, named .few, in-use), omega (arith, few, now-long .codes-long), omega (arith, few, now-long .flags-long))
 
       pub house-last : (x y r : Bool) → Says (RightBanks (d .n) (d .banks) codes flags) x → not x ≡ false
-          → Says (ZeroPast (d .banks) codes flags balances limits) y → not y ≡ false → Says (RightMoney balances limits) r → Says Right r
+          → Says (ZeroPast (d .banks) codes flags balances sublimits) y → not y ≡ false → Says (RightMoney balances sublimits) r → Says Right r
       house-last x y r sx ex sy ey sr =
           let k : RightBanks (d .n) (d .banks) codes flags = says-yes x sx ex in
-          let p : ZeroPast (d .banks) codes flags balances limits = says-yes y sy ey in
+          let p : ZeroPast (d .banks) codes flags balances sublimits = says-yes y sy ey in
           says-map r
           (λ m. record {
             few-streams = named .few;
@@ -426,16 +426,16 @@ module _ (d : Desk) (codes flags balances limits : List ℕ) where
             codes-long = now-long .codes-long;
             flags-long = now-long .flags-long;
             balances-long = now-long .balances-long;
-            limits-long = now-long .limits-long;
+            sublimits-long = now-long .sublimits-long;
             bank-codes = k .codes-right;
             banks-rise = k .rise;
             flags-right = rw in-use (k .flags-right);
-            limits-right = m .limits-right;
+            sublimits-right = m .sublimits-right;
             total = m .total;
             codes-past = p .codes-past;
             flags-past = p .flags-past;
             balances-past = p .balances-past;
-            limits-past = p .limits-past;
+            sublimits-past = p .sublimits-past;
           })
-          (λ w. record { limits-right = w .limits-right; total = w .total })
+          (λ w. record { sublimits-right = w .sublimits-right; total = w .total })
           sr

@@ -71,7 +71,7 @@ pub closing-length : (d : Desk) (t : Tables) (date : ℕ) → d .n ≤ 8 → len
 unfolding closingText stateIn bookBytes blocksFor
 closing-length d t date few =
     let bs : List Bank = banksOf (stateIn d t .house) (stateIn d t .books) in
-    let m : length bs ≡ d .banks = each-length (bankOf (t .codes) (t .flags) (t .balances) (t .limits)) 0 (d .banks) in
+    let m : length bs ≡ d .banks = each-length (bankOf (t .codes) (t .flags) (t .balances) (t .sublimits)) 0 (d .banks) in
     let k : length (streamsOn d) ≡ d .n = each-length (streamOf (d .streams)) 0 (d .n) in
     rw (length-append, stream-long _ (streamsOn d) (blocksFor (length bs)) (omega (arith, k, few)), banks-long (blocksFor (length bs)) (blocksFor (length bs) - 1) 1 bs, m)
     (omega arith)

@@ -24,7 +24,7 @@ use Rattle.model.specs.declared.Answer.the-variants.{Done, Refused}
 use Rattle.model.specs.State.{Found, at, nowhere, onFound, seek, Day, Batch, Place, free, live, Batches, Known, State, isFree, onLive, placeAt, paymentsAt}
 use Rattle.model.specs.Memory.{isUsed}
 use Rattle.model.specs.Messages.{SubType, is131, is133, bySubType, Acted, Rule, firstBroken, streamPlace, administrator, bankPlace, assembling, waiting, today, reference, bin, streamCode, lineRules, messageRules, isComplete, isEven, completed, onText, onSender, repeated, fits, withReference, onBin, onRules, admit, isKnown, recalling, message}
-use Rattle.model.specs.Kinds.{Kind, opens, steps, gives, kindOf, Own, receives, changesLimit, changesStatus, nothing, ownOf}
+use Rattle.model.specs.Kinds.{Kind, opens, steps, gives, kindOf, Own, receives, changesSublimit, changesStatus, nothing, ownOf}
 use Rattle.model.specs.Changes.{subLimit, hasDebit, status}
 use Rattle.model.specs.Days.{isLater, checked, openingAnswer}
 use Rattle.model.specs.Calls.{Call, Engine, rightClock, rightDay, roomNeeded, rowsNeeded, judge, begun, act, call}
@@ -170,7 +170,7 @@ status-other s code b letter =
 act-other : (s : State) (z : Own) (input : List ℕ) → OtherActed (act s z input)
 unfolding act
 act-other s (receives sender) input = message-other s (requestAt input) sender (request-other input)
-act-other s (changesLimit code cents) input = sub-limit-other s code cents
+act-other s (changesSublimit code cents) input = sub-limit-other s code cents
 act-other s (changesStatus code b letter) input = status-other s code b letter
 act-other s nothing input = tt
 

@@ -31,7 +31,7 @@ pub record SameBut (y z : Left) : Type 0 where
   pub codes : y .lent .tables .codes ≡ z .lent .tables .codes
   pub flags : y .lent .tables .flags ≡ z .lent .tables .flags
   pub balances : y .lent .tables .balances ≡ z .lent .tables .balances
-  pub limits : y .lent .tables .limits ≡ z .lent .tables .limits
+  pub sublimits : y .lent .tables .sublimits ≡ z .lent .tables .sublimits
   pub batches : (i : ℕ) → (isMemory i → ⊥) → getD (y .lent .tables .batches) i 0 ≡ getD (z .lent .tables .batches) i 0
   pub references : y .lent .tables .references ≡ z .lent .tables .references
   pub bins : y .lent .tables .bins ≡ z .lent .tables .bins

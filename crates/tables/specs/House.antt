@@ -22,18 +22,18 @@ AllShort l = Each (λ x. isShort x ≡ true) l
 abbrev pub AllZero : List ℕ → Type 0
 AllZero l = Each (λ x. x ≡ 0) l
 
-abbrev pub Limits : List ℕ → Type 0
-Limits l = Each (λ x. x ≤ mostMoney) l
+abbrev pub Sublimits : List ℕ → Type 0
+Sublimits l = Each (λ x. x ≤ mostMoney) l
 
 -- "a stream bit with no stream" is not there
 abbrev pub Flagged : (streams : ℕ) → List ℕ → Type 0
 Flagged streams l = Each (λ x. x / 2 < 2 ^ streams) l
 
-pub record Lengths (codes flags balances limits : List ℕ) : Type 0 where
+pub record Lengths (codes flags balances sublimits : List ℕ) : Type 0 where
   pub codes-long : length codes ≡ 64
   pub flags-long : length flags ≡ 64
   pub balances-long : length balances ≡ 64
-  pub limits-long : length limits ≡ 64
+  pub sublimits-long : length sublimits ≡ 64
 
 pub record RightStreams (xs : List Stream) : Type 0 where
   pub few : length xs ≤ 8
@@ -48,13 +48,13 @@ pub record RightBanks (streams banks : ℕ) (codes flags : List ℕ) : Type 0 wh
   pub flags-right : Flagged streams (take banks flags)
 
 -- "account records past it zero"
-pub record ZeroPast (banks : ℕ) (codes flags balances limits : List ℕ) : Type 0 where
+pub record ZeroPast (banks : ℕ) (codes flags balances sublimits : List ℕ) : Type 0 where
   pub codes-past : AllZero (drop banks codes)
   pub flags-past : AllZero (drop banks flags)
   pub balances-past : AllZero (drop banks balances)
-  pub limits-past : AllZero (drop banks limits)
+  pub sublimits-past : AllZero (drop banks sublimits)
 
 -- "Balances, their total and sub-limits"
-pub record RightMoney (balances limits : List ℕ) : Type 0 where
-  pub limits-right : Limits limits
+pub record RightMoney (balances sublimits : List ℕ) : Type 0 where
+  pub sublimits-right : Sublimits sublimits
   pub total : sum balances ≤ mostMoney

@@ -71,7 +71,7 @@ pub record Long (t : Tables) : Type 0 where
   pub codes : length (t .codes) ≡ 64
   pub flags : length (t .flags) ≡ 64
   pub balances : length (t .balances) ≡ 64
-  pub limits : length (t .limits) ≡ 64
+  pub sublimits : length (t .sublimits) ≡ 64
   pub batches : length (t .batches) ≡ tableLength
   pub references : length (t .references) ≡ 6144
   pub bins : length (t .bins) ≡ 1536

@@ -45,12 +45,12 @@ pub record Judged (d : Desk) (clock : ℕ) (a : Action) (room rows : ℕ) (r : A
   pub is : (t : Tables) (quick : Bool) (input : List ℕ) → r ≡ judge (stateIn d t) (callFor quick clock a input room rows)
 
 -- tables of given accounts
-abbrev pub lentWith : (codes flags balances limits batches references bins : List ℕ) → Tables
-lentWith codes flags balances limits batches references bins = record {
+abbrev pub lentWith : (codes flags balances sublimits batches references bins : List ℕ) → Tables
+lentWith codes flags balances sublimits batches references bins = record {
   codes = codes;
   flags = flags;
   balances = balances;
-  limits = limits;
+  sublimits = sublimits;
   batches = batches;
   references = references;
   bins = bins;

@@ -108,7 +108,7 @@ pub record Tables : Type 0 where
   pub codes : List ℕ
   pub flags : List ℕ
   pub balances : List ℕ
-  pub limits : List ℕ
+  pub sublimits : List ℕ
   pub batches : List ℕ
   pub references : List ℕ
   pub bins : List ℕ
@@ -120,7 +120,7 @@ unfoldable pub stateIn : Desk → Tables → State
 stateIn d t = record {
   day = record { phase = d .phase; date = d .date; clock = d .clock; texts = d .texts };
   house = record { streams = streamsOn d; banks = d .banks; codes = t .codes; flags = t .flags };
-  books = accounts (t .balances) (t .limits);
+  books = accounts (t .balances) (t .sublimits);
   batches = batchesIn (t .batches);
   known = record { references = entriesIn mostReferences (t .references); bins = entriesIn mostBins (t .bins) };
 }

@@ -12,7 +12,7 @@ ghost use Rattle.book_write.specs.Closing.{streamOf};
 ghost use Rattle.settle.specs.Rules.{sum};
 ghost use Rattle.book_read.specs.Range.{Each, isShort, Rising, streamCodes};
 ghost use Rattle.model.specs.Rules.{RightHouse};
-ghost use Rattle.tables.specs.House.{houseOn, AllShort, AllZero, Limits, Flagged, Lengths, RightStreams, RightBanks, ZeroPast, RightMoney};
+ghost use Rattle.tables.specs.House.{houseOn, AllShort, AllZero, Sublimits, Flagged, Lengths, RightStreams, RightBanks, ZeroPast, RightMoney};
 
 // The number after the last of four characters.
 const SHORT_END: u64 = 4_294_967_296;
@@ -97,8 +97,8 @@ fn bits_end(streams: usize) -> u64
     end
 }
 
-pub fn limits_right(row: &[u64]) -> bool
-    ensures { λ r. ⌜ Says (Limits (now (row .entry))) r ⌝ }
+pub fn sublimits_right(row: &[u64]) -> bool
+    ensures { λ r. ⌜ Says (Sublimits (now (row .entry))) r ⌝ }
 {
     let mut i = 0;
     while i < row.len() {
@@ -208,8 +208,8 @@ fn streams_right(row: &[u64], n: usize) -> bool
     streams_rise(row, n)
 }
 
-pub fn lengths_right(codes: &[u64], flags: &[u64], balances: &[u64], limits: &[u64]) -> bool
-    ensures { λ r. ⌜ Says (Lengths (now (codes .entry)) (now (flags .entry)) (now (balances .entry)) (now (limits .entry))) r ⌝ }
+pub fn lengths_right(codes: &[u64], flags: &[u64], balances: &[u64], sublimits: &[u64]) -> bool
+    ensures { λ r. ⌜ Says (Lengths (now (codes .entry)) (now (flags .entry)) (now (balances .entry)) (now (sublimits .entry))) r ⌝ }
 {
     if codes.len() != Bank::MOST {
         return false;
@@ -220,7 +220,7 @@ pub fn lengths_right(codes: &[u64], flags: &[u64], balances: &[u64], limits: &[u
     if balances.len() != Bank::MOST {
         return false;
     }
-    limits.len() == Bank::MOST
+    sublimits.len() == Bank::MOST
 }
 
 // Of the banks in use: "banks ascending by code".
@@ -239,10 +239,16 @@ fn banks_right(codes: &[u64], flags: &[u64], streams: usize, banks: usize) -> bo
 }
 
 // "account records past it zero"
-fn zero_past(codes: &[u64], flags: &[u64], balances: &[u64], limits: &[u64], banks: usize) -> bool
-    requires { ⌜ Lengths (now codes) (now flags) (now balances) (now limits) ⌝ }
+fn zero_past(
+    codes: &[u64],
+    flags: &[u64],
+    balances: &[u64],
+    sublimits: &[u64],
+    banks: usize,
+) -> bool
+    requires { ⌜ Lengths (now codes) (now flags) (now balances) (now sublimits) ⌝ }
     requires { ⌜ banks ≤ 64 ⌝ }
-    ensures { λ r. ⌜ Says (ZeroPast banks (now (codes .entry)) (now (flags .entry)) (now (balances .entry)) (now (limits .entry))) r ⌝ }
+    ensures { λ r. ⌜ Says (ZeroPast banks (now (codes .entry)) (now (flags .entry)) (now (balances .entry)) (now (sublimits .entry))) r ⌝ }
 {
     let e = Bank::MOST;
     if !zero(&codes[banks..e]) {
@@ -254,13 +260,13 @@ fn zero_past(codes: &[u64], flags: &[u64], balances: &[u64], limits: &[u64], ban
     if !zero(&balances[banks..e]) {
         return false;
     }
-    zero(&limits[banks..e])
+    zero(&sublimits[banks..e])
 }
 
-fn money_right(balances: &[u64], limits: &[u64]) -> bool
-    ensures { λ r. ⌜ Says (RightMoney (now (balances .entry)) (now (limits .entry))) r ⌝ }
+fn money_right(balances: &[u64], sublimits: &[u64]) -> bool
+    ensures { λ r. ⌜ Says (RightMoney (now (balances .entry)) (now (sublimits .entry))) r ⌝ }
 {
-    if !limits_right(limits) {
+    if !sublimits_right(sublimits) {
         return false;
     }
     total_right(balances)
@@ -272,11 +278,11 @@ pub fn house_right(
     codes: &[u64],
     flags: &[u64],
     balances: &[u64],
-    limits: &[u64],
+    sublimits: &[u64],
 ) -> bool
-    ensures { λ r. ⌜ Says (RightHouse (houseOn desk (now (codes .entry)) (now (flags .entry))) (now (balances .entry)) (now (limits .entry))) r ⌝ }
+    ensures { λ r. ⌜ Says (RightHouse (houseOn desk (now (codes .entry)) (now (flags .entry))) (now (balances .entry)) (now (sublimits .entry))) r ⌝ }
 {
-    if !lengths_right(codes, flags, balances, limits) {
+    if !lengths_right(codes, flags, balances, sublimits) {
         return false;
     }
     let streams = desk.streams;
@@ -289,8 +295,8 @@ pub fn house_right(
     if !banks_right(codes, flags, desk.n, desk.banks) {
         return false;
     }
-    if !zero_past(codes, flags, balances, limits, desk.banks) {
+    if !zero_past(codes, flags, balances, sublimits, desk.banks) {
         return false;
     }
-    money_right(balances, limits)
+    money_right(balances, sublimits)
 }

@@ -66,7 +66,7 @@ pub fn right(words: &[u64]) -> bool
     let codes = 32 + lent(words, 0, 65);
     let flags = 128 + lent(words, 1, 65);
     let balances = 224 + lent(words, 2, 65);
-    let limits = 320 + lent(words, 3, 65);
+    let sublimits = 320 + lent(words, 3, 65);
     let batches = 512 + lent(words, 4, 11_169);
     let references = 11_776 + lent(words, 5, 6_145);
     let bins = 17_984 + lent(words, 6, 1_537);
@@ -76,7 +76,7 @@ pub fn right(words: &[u64]) -> bool
         &words[32..codes],
         &words[128..flags],
         &words[224..balances],
-        &words[320..limits],
+        &words[320..sublimits],
         &words[512..batches],
         &words[11_776..references],
         &words[17_984..bins],

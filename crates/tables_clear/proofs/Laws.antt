@@ -35,42 +35,42 @@ rows-last batches references bins k l =
 zeroed : (n : ℕ) (l m : List ℕ) → length l ≡ n → m ≡ replicate (length l) 0 → m ≡ replicate n 0
 zeroed n l m e f = f ∙ ap (λ (k : ℕ). replicate k 0) e
 
-pub clear-uneven : (d : Desk) (codes flags balances limits batches references bins : List ℕ) (b : Bool) → Says (LongRows batches references bins) b → not b ≡ true
-    → Cleared d (lentWith codes flags balances limits batches references bins) (record { answer = Refused BrokenTables; desk = d; tables = lentWith codes flags balances limits batches references bins })
+pub clear-uneven : (d : Desk) (codes flags balances sublimits batches references bins : List ℕ) (b : Bool) → Says (LongRows batches references bins) b → not b ≡ true
+    → Cleared d (lentWith codes flags balances sublimits batches references bins) (record { answer = Refused BrokenTables; desk = d; tables = lentWith codes flags balances sublimits batches references bins })
 unfolding clearLent
-clear-uneven d codes flags balances limits batches references bins b u e = record {
+clear-uneven d codes flags balances sublimits batches references bins b u e = record {
   long = false;
   says = λ l. says-no b u e (record { batches-long = l .batches; references-long = l .references; bins-long = l .bins });
   is = refl;
 }
 
-module _ (d : Desk) (codes flags balances limits batches references bins : List ℕ) (a : Bool) (s : Says (Lengths codes flags balances limits) a) where
+module _ (d : Desk) (codes flags balances sublimits batches references bins : List ℕ) (a : Bool) (s : Says (Lengths codes flags balances sublimits) a) where
   abbrev t : Tables
-  t = lentWith codes flags balances limits batches references bins
+  t = lentWith codes flags balances sublimits batches references bins
 
   pub clear-short : not a ≡ true → Cleared d t (record { answer = Refused BrokenTables; desk = d; tables = t })
   unfolding clearLent
   clear-short e = record {
     long = false;
-    says = λ l. says-no a s e (record { codes-long = l .codes; flags-long = l .flags; balances-long = l .balances; limits-long = l .limits });
+    says = λ l. says-no a s e (record { codes-long = l .codes; flags-long = l .flags; balances-long = l .balances; sublimits-long = l .sublimits });
     is = refl;
   }
 
   module _ (b : Bool) (u : Says (LongRows batches references bins) b) where
-    pub clear-done : not a ≡ false → not b ≡ false → (codes′ flags′ balances′ limits′ batches′ references′ bins′ : List ℕ) (d′ : Desk)
-        → WipedAccounts codes flags balances limits codes′ flags′ balances′ limits′ → WipedRows batches references bins batches′ references′ bins′ → d′ ≡ deskOf (cleared .state)
-        → Cleared d t (record { answer = Done; desk = d′; tables = lentWith codes′ flags′ balances′ limits′ batches′ references′ bins′ })
+    pub clear-done : not a ≡ false → not b ≡ false → (codes′ flags′ balances′ sublimits′ batches′ references′ bins′ : List ℕ) (d′ : Desk)
+        → WipedAccounts codes flags balances sublimits codes′ flags′ balances′ sublimits′ → WipedRows batches references bins batches′ references′ bins′ → d′ ≡ deskOf (cleared .state)
+        → Cleared d t (record { answer = Done; desk = d′; tables = lentWith codes′ flags′ balances′ sublimits′ batches′ references′ bins′ })
     unfolding clearLent
-    clear-done e f codes′ flags′ balances′ limits′ batches′ references′ bins′ d′ x y g =
+    clear-done e f codes′ flags′ balances′ sublimits′ batches′ references′ bins′ d′ x y g =
         let l = says-yes a s e in
         let m = says-yes b u f in
-        let h : lentWith codes′ flags′ balances′ limits′ batches′ references′ bins′ ≡ tablesOf cleared =
-        blank-tables (lentWith codes′ flags′ balances′ limits′ batches′ references′ bins′)
+        let h : lentWith codes′ flags′ balances′ sublimits′ batches′ references′ bins′ ≡ tablesOf cleared =
+        blank-tables (lentWith codes′ flags′ balances′ sublimits′ batches′ references′ bins′)
         (record {
           codes-none = is-blank 64 codes′ (zeroed 64 codes codes′ (l .codes-long) (x .codes-zero));
           flags-none = is-blank 64 flags′ (zeroed 64 flags flags′ (l .flags-long) (x .flags-zero));
           balances-none = is-blank 64 balances′ (zeroed 64 balances balances′ (l .balances-long) (x .balances-zero));
-          limits-none = is-blank 64 limits′ (zeroed 64 limits limits′ (l .limits-long) (x .limits-zero));
+          sublimits-none = is-blank 64 sublimits′ (zeroed 64 sublimits sublimits′ (l .sublimits-long) (x .sublimits-zero));
         })
         (record {
           batches-none = is-blank 11168 batches′ (zeroed 11168 batches batches′ (m .batches-long) (y .batches-zero));
@@ -84,7 +84,7 @@ module _ (d : Desk) (codes flags balances limits batches references bins : List 
             codes = l .codes-long;
             flags = l .flags-long;
             balances = l .balances-long;
-            limits = l .limits-long;
+            sublimits = l .sublimits-long;
             batches = m .batches-long;
             references = m .references-long;
             bins = m .bins-long;

@@ -11,11 +11,11 @@ pub record LongRows (batches references bins : List ℕ) : Type 0 where
   pub bins-long : length bins ≡ 1536
 
 -- "all zero"
-pub record WipedAccounts (codes flags balances limits codes′ flags′ balances′ limits′ : List ℕ) : Type 0 where
+pub record WipedAccounts (codes flags balances sublimits codes′ flags′ balances′ sublimits′ : List ℕ) : Type 0 where
   pub codes-zero : codes′ ≡ replicate (length codes) 0
   pub flags-zero : flags′ ≡ replicate (length flags) 0
   pub balances-zero : balances′ ≡ replicate (length balances) 0
-  pub limits-zero : limits′ ≡ replicate (length limits) 0
+  pub sublimits-zero : sublimits′ ≡ replicate (length sublimits) 0
 
 pub record WipedRows (batches references bins batches′ references′ bins′ : List ℕ) : Type 0 where
   pub batches-zero : batches′ ≡ replicate (length batches) 0

@@ -38,13 +38,13 @@ fn rows_long(batches: &[u64], references: &[u64], bins: &[u64]) -> bool
     bins.len() == BINS
 }
 
-fn wipe_accounts(codes: &mut [u64], flags: &mut [u64], balances: &mut [u64], limits: &mut [u64])
-    ensures { λ _. ⌜ WipedAccounts (now (codes .entry)) (now (flags .entry)) (now (balances .entry)) (now (limits .entry)) (now (codes .exit)) (now (flags .exit)) (now (balances .exit)) (now (limits .exit)) ⌝ }
+fn wipe_accounts(codes: &mut [u64], flags: &mut [u64], balances: &mut [u64], sublimits: &mut [u64])
+    ensures { λ _. ⌜ WipedAccounts (now (codes .entry)) (now (flags .entry)) (now (balances .entry)) (now (sublimits .entry)) (now (codes .exit)) (now (flags .exit)) (now (balances .exit)) (now (sublimits .exit)) ⌝ }
 {
     tables::places::clear(codes);
     tables::places::clear(flags);
     tables::places::clear(balances);
-    tables::places::clear(limits);
+    tables::places::clear(sublimits);
 }
 
 fn wipe_rows(batches: &mut [u64], references: &mut [u64], bins: &mut [u64])
@@ -75,14 +75,14 @@ pub fn clear(
     codes: &mut [u64],
     flags: &mut [u64],
     balances: &mut [u64],
-    limits: &mut [u64],
+    sublimits: &mut [u64],
     batches: &mut [u64],
     references: &mut [u64],
     bins: &mut [u64],
 ) -> Start
-    ensures { λ r. ⌜ Cleared desk (lentWith (now (codes .entry)) (now (flags .entry)) (now (balances .entry)) (now (limits .entry)) (now (batches .entry)) (now (references .entry)) (now (bins .entry))) (record { answer = r .answer; desk = r .desk; tables = lentWith (now (codes .exit)) (now (flags .exit)) (now (balances .exit)) (now (limits .exit)) (now (batches .exit)) (now (references .exit)) (now (bins .exit)) }) ⌝ }
+    ensures { λ r. ⌜ Cleared desk (lentWith (now (codes .entry)) (now (flags .entry)) (now (balances .entry)) (now (sublimits .entry)) (now (batches .entry)) (now (references .entry)) (now (bins .entry))) (record { answer = r .answer; desk = r .desk; tables = lentWith (now (codes .exit)) (now (flags .exit)) (now (balances .exit)) (now (sublimits .exit)) (now (batches .exit)) (now (references .exit)) (now (bins .exit)) }) ⌝ }
 {
-    if !tables::house::lengths_right(codes, flags, balances, limits) {
+    if !tables::house::lengths_right(codes, flags, balances, sublimits) {
         return Start {
             answer: Answer::Refused(Refusal::BrokenTables),
             desk,
@@ -94,7 +94,7 @@ pub fn clear(
             desk,
         };
     }
-    wipe_accounts(codes, flags, balances, limits);
+    wipe_accounts(codes, flags, balances, sublimits);
     wipe_rows(batches, references, bins);
     let desk = no_day();
     Start {

@@ -17,12 +17,12 @@ fn closed_right(
     codes: &[u64],
     flags: &[u64],
     balances: &[u64],
-    limits: &[u64],
+    sublimits: &[u64],
     batches: &[u64],
     references: &[u64],
     bins: &[u64],
 ) -> bool
-    ensures { λ r. ⌜ Says (ClosedTables desk (lentWith (now (codes .entry)) (now (flags .entry)) (now (balances .entry)) (now (limits .entry)) (now (batches .entry)) (now (references .entry)) (now (bins .entry)))) r ⌝ }
+    ensures { λ r. ⌜ Says (ClosedTables desk (lentWith (now (codes .entry)) (now (flags .entry)) (now (balances .entry)) (now (sublimits .entry)) (now (batches .entry)) (now (references .entry)) (now (bins .entry)))) r ⌝ }
 {
     if !tables::house::zero(batches) {
         return false;
@@ -32,7 +32,7 @@ fn closed_right(
         codes,
         flags,
         balances,
-        limits,
+        sublimits,
         batches,
         references,
         bins,
@@ -45,12 +45,12 @@ pub fn tables_right(
     codes: &[u64],
     flags: &[u64],
     balances: &[u64],
-    limits: &[u64],
+    sublimits: &[u64],
     batches: &[u64],
     references: &[u64],
     bins: &[u64],
 ) -> bool
-    ensures { λ r. ⌜ Says (Right desk (lentWith (now (codes .entry)) (now (flags .entry)) (now (balances .entry)) (now (limits .entry)) (now (batches .entry)) (now (references .entry)) (now (bins .entry)))) r ⌝ }
+    ensures { λ r. ⌜ Says (Right desk (lentWith (now (codes .entry)) (now (flags .entry)) (now (balances .entry)) (now (sublimits .entry)) (now (batches .entry)) (now (references .entry)) (now (bins .entry)))) r ⌝ }
 {
     let phase = desk.phase;
     match phase {
@@ -60,7 +60,7 @@ pub fn tables_right(
                 codes,
                 flags,
                 balances,
-                limits,
+                sublimits,
                 batches,
                 references,
                 bins,
@@ -72,7 +72,7 @@ pub fn tables_right(
                 codes,
                 flags,
                 balances,
-                limits,
+                sublimits,
                 batches,
                 references,
                 bins,
@@ -84,7 +84,7 @@ pub fn tables_right(
                 codes,
                 flags,
                 balances,
-                limits,
+                sublimits,
                 batches,
                 references,
                 bins,

@@ -39,7 +39,7 @@ both-read = (
       administrators = (omega arith, tt);
       streams-rise = tt;
       banks-rise = (omega arith, tt);
-      limits-right = (omega arith, (omega arith, tt));
+      sublimits-right = (omega arith, (omega arith, tt));
       total = omega arith;
     },
   ),

@@ -119,7 +119,7 @@ money-small s at =
     let P = SmallMoney in
     by-given P (ten 18) (centsAt s at) (cents-small s at) tt (λ balance a p.
     by-next P (litAt s a (bytes " ")) tt (λ b q.
-    by-given P (ten 18) (centsAt s b) (cents-small s b) tt (λ limit c r. (p, r))))
+    by-given P (ten 18) (centsAt s b) (cents-small s b) tt (λ sublimit c r. (p, r))))
 
 -- ---- a stream
 
@@ -181,7 +181,7 @@ pub record SmallEntry (n : ℕ) (b : Entry) : Type 0 where
   pub code : isShort (b .code) ≡ true
   pub flags : b .flags / 2 < 2 ^ n
   pub balance : b .balance < ten 18
-  pub limit : b .limit < ten 18
+  pub sublimit : b .sublimit < ten 18
 
 abbrev pub SmallBank : ℕ → BankLine → Type 0
 SmallBank n (Held b e) = SmallEntry n b
@@ -194,6 +194,6 @@ bank-small s at row n few past =
     by-next P (litAt s at (bytes "bank ")) tt (λ a p.
     by-next P (codeAt s a 4) tt (λ b q.
     by-given P 2 (standingAt s b) (standing-small s b) tt (λ standing c h.
-    by-money P (moneyAt s c) (money-small s c) tt (λ balance limit d m l.
+    by-money P (moneyAt s c) (money-small s c) tt (λ balance sublimit d m l.
     by-next P (lineOver s (bitsAt s d row .at)) tt (λ e o.
-    record { code = code-short s a q; flags = omega (arith, bits-small s d row n few past); balance = m; limit = l })))))
+    record { code = code-short s a q; flags = omega (arith, bits-small s d row n few past); balance = m; sublimit = l })))))

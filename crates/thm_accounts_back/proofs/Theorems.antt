@@ -52,7 +52,7 @@ module _ {a : BookAccount} (w : Whole a) where
     w .banks .codes .size,
     w .banks .flags .size,
     w .banks .balances .size,
-    w .banks .limits .size,
+    w .banks .sublimits .size,
     le-leb 1 n (omega (arith, w .some-streams)),
     le-leb n 8 (omega (arith, w .streams .few)),
     le-leb 1 m (omega (arith, w .some-banks)),
@@ -64,7 +64,7 @@ module _ {a : BookAccount} (w : Whole a) where
   streamAt = streamOf (a .streams .row)
 
   abbrev bankAt : ℕ → Bank
-  bankAt = bankOf (a .banks .codes) (a .banks .flags) (a .banks .balances) (a .banks .limits)
+  bankAt = bankOf (a .banks .codes) (a .banks .flags) (a .banks .balances) (a .banks .sublimits)
 
   many-streams : length (toldStreams a) ≡ n
   unfolding streamsOf
@@ -100,7 +100,7 @@ module _ {a : BookAccount} (w : Whole a) where
           code = short-fits _ (w .banks .codes .all i p);
           bits = omega (arith, w .banks .flags .all i p, pow-le-pow-right {n = 2} (omega arith) {i = n} {j = 8} (w .streams .few));
           balance = omega (arith, w .banks .balances .all i p);
-          limit = omega (arith, w .banks .limits .all i p);
+          sublimit = omega (arith, w .banks .sublimits .all i p);
         });
   }
 
@@ -121,7 +121,7 @@ module _ {a : BookAccount} (w : Whole a) where
     banks-rise = o .banks-rise;
     flags-right = rw many-streams (each-field (λ x. x / 2 < 2 ^ n) Flags (w .banks .flags .all));
     balances-right = each-part mostMoney (column Balance (toldBanks a)) (o .total);
-    limits-right = o .limits-right;
+    sublimits-right = o .sublimits-right;
     total = o .total;
   }
 
@@ -130,7 +130,7 @@ module _ {a : BookAccount} (w : Whole a) where
     administrators = each-so (λ x. (1 ≤ x .sender) × (x .sender ≤ 255)) (λ x. 1 ≤ x .sender) (λ x h. h .0) (toldStreams a) (g .administrators);
     streams-rise = g .streams-rise;
     banks-rise = g .banks-rise;
-    limits-right = g .limits-right;
+    sublimits-right = g .sublimits-right;
     total = g .total;
   }
 

@@ -110,32 +110,32 @@ pub record Columns (streams : ℕ) (x : Banks) : Type 0 where
   pub codes : Column (λ c. isShort c ≡ true) (x .n) (x .codes)
   pub flags : Column (λ f. f / 2 < 2 ^ streams) (x .n) (x .flags)
   pub balances : Column (λ b. b < ten 18) (x .n) (x .balances)
-  pub limits : Column (λ l. l < ten 18) (x .n) (x .limits)
+  pub sublimits : Column (λ l. l < ten 18) (x .n) (x .sublimits)
 
-bank-more : {streams n at next : ℕ} {codes flags balances limits : List ℕ} {b : Entry} → Columns streams (banks codes flags balances limits n at) → n < 64 → SmallEntry streams b
-    → Columns streams (banks (set codes n (b .code)) (set flags n (b .flags)) (set balances n (b .balance)) (set limits n (b .limit)) (n + 1) next)
+bank-more : {streams n at next : ℕ} {codes flags balances sublimits : List ℕ} {b : Entry} → Columns streams (banks codes flags balances sublimits n at) → n < 64 → SmallEntry streams b
+    → Columns streams (banks (set codes n (b .code)) (set flags n (b .flags)) (set balances n (b .balance)) (set sublimits n (b .sublimit)) (n + 1) next)
 bank-more g h x = record {
   few = omega arith;
   codes = column-more (g .codes) h (x .code);
   flags = column-more (g .flags) h (x .flags);
   balances = column-more (g .balances) h (x .balance);
-  limits = column-more (g .limits) h (x .limit);
+  sublimits = column-more (g .sublimits) h (x .sublimit);
 }
 
 module _ (s row : List ℕ) (streams : ℕ) (r : Row streams row) where
-  banks-on : (room at n : ℕ) (codes flags balances limits : List ℕ) → n + room ≡ 64 → Columns streams (banks codes flags balances limits n at)
-      → Columns streams (banksOn room s row at n codes flags balances limits)
+  banks-on : (room at n : ℕ) (codes flags balances sublimits : List ℕ) → n + room ≡ 64 → Columns streams (banks codes flags balances sublimits n at)
+      → Columns streams (banksOn room s row at n codes flags balances sublimits)
   unfolding banksOn
-  banks-on zero at n codes flags balances limits e g = g
-  banks-on (suc room) at n codes flags balances limits e g =
+  banks-on zero at n codes flags balances sublimits e g = g
+  banks-on (suc room) at n codes flags balances sublimits e g =
       by-bank (Columns streams) streams (bankAt s at row) (bank-small s at row streams (r .few) (r .past)) g (λ b next h.
-      banks-on room next (n + 1) (set codes n (b .code)) (set flags n (b .flags)) (set balances n (b .balance)) (set limits n (b .limit)) (omega arith) (bank-more g (omega arith) h))
+      banks-on room next (n + 1) (set codes n (b .code)) (set flags n (b .flags)) (set balances n (b .balance)) (set sublimits n (b .sublimit)) (omega arith) (bank-more g (omega arith) h))
 
   banks-in : (at : ℕ) → Columns streams (banksAt s at row)
   unfolding banksAt
   banks-in at =
       let none : (P : ℕ → Type 0) → Column P 0 noBanks = λ P. record { size = refl; all = λ i p. absurd (omega arith) } in
-      banks-on 64 at 0 noBanks noBanks noBanks noBanks refl (record { few = omega arith; codes = none _; flags = none _; balances = none _; limits = none _ })
+      banks-on 64 at 0 noBanks noBanks noBanks noBanks refl (record { few = omega arith; codes = none _; flags = none _; balances = none _; sublimits = none _ })
 
 -- ---- the account
 

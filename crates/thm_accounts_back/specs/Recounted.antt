@@ -7,7 +7,7 @@ use lib.ListN.{take}
 use Rattle.dates.specs.Dates.{sum}
 use Rattle.book_read.specs.declared.Answer.the-variants.{Sound}
 use Rattle.book_read.specs.declared.Book.{Book}
-use Rattle.book_read.specs.declared.Field.the-variants.{Code, Balance, Limit}
+use Rattle.book_read.specs.declared.Field.the-variants.{Code, Balance, Sublimit}
 use Rattle.book_read.specs.Book.{mostMoney, bookCheck}
 use Rattle.book_read.specs.Accounts.{Stream, Bank, Rows, column}
 use Rattle.book_read.specs.Range.{Each, Rising, streamCodes, InRange}
@@ -26,7 +26,7 @@ rowsOf a = record {
   codes = a .banks .codes;
   flags = a .banks .flags;
   balances = a .banks .balances;
-  limits = a .banks .limits;
+  sublimits = a .banks .sublimits;
 }
 
 -- the streams and the banks that an account tells
@@ -47,7 +47,7 @@ pub record Orderly (streams : List Stream) (banks : List Bank) : Type 0 where
   pub streams-rise : Rising (streamCodes streams)
   pub banks-rise : Rising (column Code banks)
   -- "Balances, their total and sub-limits run from 0 to 6,400,000,000,000,000."
-  pub limits-right : Each (λ x. x ≤ mostMoney) (column Limit banks)
+  pub sublimits-right : Each (λ x. x ≤ mostMoney) (column Sublimit banks)
   pub total : sum (column Balance banks) ≤ mostMoney
 
 pub record Recounted (out : List ℕ) (a : BookAccount) (into : Rows) : Type 0 where

@@ -96,39 +96,39 @@ module _ (s : List ℕ) (x : Bank) (at : ℕ) (r : List ℕ) (h : drop at s ≡ 
   abbrev money : List ℕ
   money = littleOf 8 (x .balance)
 
-  abbrev limit : List ℕ
-  limit = littleOf 8 (x .limit)
+  abbrev sublimit : List ℕ
+  sublimit = littleOf 8 (x .sublimit)
 
-  in-bank : drop at s ≡ shortText (x .code) ++ (flag ∷ bits ∷ 0 ∷ 0 ∷ (money ++ (limit ++ r)))
+  in-bank : drop at s ≡ shortText (x .code) ++ (flag ∷ bits ∷ 0 ∷ 0 ∷ (money ++ (sublimit ++ r)))
   unfolding bankBytes
   in-bank =
       let code = shortText (x .code) in
-      h ∙ append-assoc ((code ++ (flag ∷ bits ∷ 0 ∷ 0 ∷ [])) ++ money) limit r
-      ∙ append-assoc (code ++ (flag ∷ bits ∷ 0 ∷ 0 ∷ [])) money (limit ++ r)
-      ∙ append-assoc code (flag ∷ bits ∷ 0 ∷ 0 ∷ []) (money ++ (limit ++ r))
+      h ∙ append-assoc ((code ++ (flag ∷ bits ∷ 0 ∷ 0 ∷ [])) ++ money) sublimit r
+      ∙ append-assoc (code ++ (flag ∷ bits ∷ 0 ∷ 0 ∷ [])) money (sublimit ++ r)
+      ∙ append-assoc code (flag ∷ bits ∷ 0 ∷ 0 ∷ []) (money ++ (sublimit ++ r))
 
-  in-flag : drop (at + 4) s ≡ flag ∷ bits ∷ 0 ∷ 0 ∷ (money ++ (limit ++ r))
-  in-flag = after s at 4 (shortText (x .code)) (flag ∷ bits ∷ 0 ∷ 0 ∷ (money ++ (limit ++ r))) in-bank (short-length (x .code))
+  in-flag : drop (at + 4) s ≡ flag ∷ bits ∷ 0 ∷ 0 ∷ (money ++ (sublimit ++ r))
+  in-flag = after s at 4 (shortText (x .code)) (flag ∷ bits ∷ 0 ∷ 0 ∷ (money ++ (sublimit ++ r))) in-bank (short-length (x .code))
 
-  in-bits : drop (at + 5) s ≡ bits ∷ 0 ∷ 0 ∷ (money ++ (limit ++ r))
+  in-bits : drop (at + 5) s ≡ bits ∷ 0 ∷ 0 ∷ (money ++ (sublimit ++ r))
   in-bits =
       let five : at + 4 + 1 ≡ at + 5 = omega arith in
-      rw five at (after s (at + 4) 1 (flag ∷ []) (bits ∷ 0 ∷ 0 ∷ (money ++ (limit ++ r))) in-flag refl)
+      rw five at (after s (at + 4) 1 (flag ∷ []) (bits ∷ 0 ∷ 0 ∷ (money ++ (sublimit ++ r))) in-flag refl)
 
-  in-zeros : drop (at + 6) s ≡ (0 ∷ 0 ∷ []) ++ (money ++ (limit ++ r))
+  in-zeros : drop (at + 6) s ≡ (0 ∷ 0 ∷ []) ++ (money ++ (sublimit ++ r))
   in-zeros =
       let six : at + 5 + 1 ≡ at + 6 = omega arith in
-      rw six at (after s (at + 5) 1 (bits ∷ []) (0 ∷ 0 ∷ (money ++ (limit ++ r))) in-bits refl)
+      rw six at (after s (at + 5) 1 (bits ∷ []) (0 ∷ 0 ∷ (money ++ (sublimit ++ r))) in-bits refl)
 
-  in-money : drop (at + 8) s ≡ money ++ (limit ++ r)
+  in-money : drop (at + 8) s ≡ money ++ (sublimit ++ r)
   in-money =
       let eight : at + 6 + 2 ≡ at + 8 = omega arith in
-      rw eight at (after s (at + 6) 2 (0 ∷ 0 ∷ []) (money ++ (limit ++ r)) in-zeros refl)
+      rw eight at (after s (at + 6) 2 (0 ∷ 0 ∷ []) (money ++ (sublimit ++ r)) in-zeros refl)
 
-  in-limit : drop (at + 16) s ≡ limit ++ r
-  in-limit =
+  in-sublimit : drop (at + 16) s ≡ sublimit ++ r
+  in-sublimit =
       let sixteen : at + 8 + 8 ≡ at + 16 = omega arith in
-      rw sixteen at (after s (at + 8) 8 money (limit ++ r) in-money (little-length 8 (x .balance)))
+      rw sixteen at (after s (at + 8) 8 money (sublimit ++ r) in-money (little-length 8 (x .balance)))
 
   flag-back : getD s (at + 4) 0 ≡ flag
   flag-back = byte-stands s (at + 4) flag _ in-flag
@@ -138,15 +138,15 @@ module _ (s : List ℕ) (x : Bank) (at : ℕ) (r : List ℕ) (h : drop at s ≡ 
     bits-back = byte-stands s (at + 5) bits _ in-bits ∙ omega (arith, t .bits)
 
     money-back : little 8 (drop (at + 8) s) ≡ x .balance
-    money-back = ap (little 8) in-money ∙ little-of 8 (x .balance) (limit ++ r) (t .balance)
+    money-back = ap (little 8) in-money ∙ little-of 8 (x .balance) (sublimit ++ r) (t .balance)
 
-    limit-back : little 8 (drop (at + 16) s) ≡ x .limit
-    limit-back = ap (little 8) in-limit ∙ little-of 8 (x .limit) r (t .limit)
+    sublimit-back : little 8 (drop (at + 16) s) ≡ x .sublimit
+    sublimit-back = ap (little 8) in-sublimit ∙ little-of 8 (x .sublimit) r (t .sublimit)
 
     pub bank-reads : bankAt s at ≡ x
     bank-reads =
         let whole : flag + 2 * (x .flags / 2) ≡ x .flags = omega arith in
-        rw (code-back s at (x .code) _ in-bank (t .code), flag-back, bits-back, whole, money-back, limit-back)
+        rw (code-back s at (x .code) _ in-bank (t .code), flag-back, bits-back, whole, money-back, sublimit-back)
 
   pub bank-holds : (streams : ℕ) → streams ≤ 8 → RightBank streams x → bankRight s streams at ≡ true
   unfolding bankRight zerosAt
@@ -161,6 +161,6 @@ module _ (s : List ℕ) (x : Bank) (at : ℕ) (r : List ℕ) (h : drop at s ≡ 
         begins-at s (at + 6) (0 ∷ 0 ∷ []) _ in-zeros,
         money-back f,
         le-leb (x .balance) mostMoney (t .balance),
-        limit-back f,
-        le-leb (x .limit) mostMoney (t .limit),
+        sublimit-back f,
+        le-leb (x .sublimit) mostMoney (t .sublimit),
       )

@@ -9,7 +9,7 @@ use lib.Dec.{ltb}
 use lib.ListN.{length}
 use borrow.Author.Tests.{ltb-true}
 use Rattle.codes.specs.Codes.{shortEnd}
-use Rattle.book_read.specs.declared.Field.the-variants.{Code, Flags, Balance, Limit}
+use Rattle.book_read.specs.declared.Field.the-variants.{Code, Flags, Balance, Sublimit}
 use Rattle.book_read.specs.Book.{mostMoney}
 use Rattle.book_read.specs.Accounts.{Stream, Bank, column}
 use Rattle.book_read.specs.Range.{Each, isShort, InRange}
@@ -22,9 +22,9 @@ right-streams [] c a = tt
 right-streams (x ∷ xs) c a = (record { code = c .0; sender = a .0 }, right-streams xs (c .1) (a .1))
 
 right-banks : (n : ℕ) (bs : List Bank) → Each (λ x. isShort x ≡ true) (column Code bs) → Each (λ x. x / 2 < 2 ^ n) (column Flags bs)
-    → Each (λ x. x ≤ mostMoney) (column Balance bs) → Each (λ x. x ≤ mostMoney) (column Limit bs) → Each (RightBank n) bs
+    → Each (λ x. x ≤ mostMoney) (column Balance bs) → Each (λ x. x ≤ mostMoney) (column Sublimit bs) → Each (RightBank n) bs
 right-banks n [] c f b l = tt
-right-banks n (x ∷ bs) c f b l = (record { code = c .0; flags = f .0; balance = b .0; limit = l .0 }, right-banks n bs (c .1) (f .1) (b .1) (l .1))
+right-banks n (x ∷ bs) c f b l = (record { code = c .0; flags = f .0; balance = b .0; sublimit = l .0 }, right-banks n bs (c .1) (f .1) (b .1) (l .1))
 
 pub short-fits : (c : ℕ) → isShort c ≡ true → c < shortEnd
 short-fits c h = ltb-true c shortEnd (both (ltb c shortEnd) _ h .0)
@@ -37,7 +37,7 @@ bank-fits n few x t = record {
   code = short-fits (x .code) (t .code);
   bits = omega (arith, t .flags, pow-le-pow-right {n = 2} (omega arith) {i = n} {j = 8} few);
   balance = omega (arith, t .balance);
-  limit = omega (arith, t .limit);
+  sublimit = omega (arith, t .sublimit);
 }
 
 pub each-so : {A : Type 0} (P Q : A → Type 0) → ((x : A) → P x → Q x) → (l : List A) → Each P l → Each Q l
@@ -49,7 +49,7 @@ module _ {day : ℕ} {xs : List Stream} {bs : List Bank} (g : InRange day xs bs)
   all-streams = right-streams xs (g .stream-codes) (g .administrators)
 
   pub all-banks : Each (RightBank (length xs)) bs
-  all-banks = right-banks (length xs) bs (g .bank-codes) (g .flags-right) (g .balances-right) (g .limits-right)
+  all-banks = right-banks (length xs) bs (g .bank-codes) (g .flags-right) (g .balances-right) (g .sublimits-right)
 
   pub in-range-fits : Fitting day xs bs
   in-range-fits = record {

@@ -10,7 +10,7 @@ use lib.Seq.{sets, sets-eq, length-sets}
 use borrow.Author.Tests.{le-leb}
 use Rattle.codes.specs.Codes.{Bytes}
 use Rattle.book_read.specs.declared.Field.{Field}
-use Rattle.book_read.specs.declared.Field.the-variants.{Code, Flags, Balance, Limit}
+use Rattle.book_read.specs.declared.Field.the-variants.{Code, Flags, Balance, Sublimit}
 use Rattle.book_write.specs.declared.Writing.the-variants.{Written}
 use Rattle.book_read.specs.Block.{entriesAt}
 use Rattle.book_read.specs.Book.{each, blocksIn, bankPlace, bankCount}
@@ -63,8 +63,8 @@ row-sender f i (suc n) (suc j) h =
     rw z (row-sender f (i + 1) n j (omega arith) ∙ ap (λ (k : ℕ). f k .sender) y)
 
 module _ (s : List ℕ) (g : Accepted s) (t : Rows) (h : roomy t ≡ true) where
-  wide : Room (length (t .streams)) (length (t .codes)) (length (t .flags)) (length (t .balances)) (length (t .limits))
-  wide = room (length (t .streams)) (length (t .codes)) (length (t .flags)) (length (t .balances)) (length (t .limits)) h
+  wide : Room (length (t .streams)) (length (t .codes)) (length (t .flags)) (length (t .balances)) (length (t .sublimits))
+  wide = room (length (t .streams)) (length (t .codes)) (length (t .flags)) (length (t .balances)) (length (t .sublimits)) h
 
   pub banks-kept : banksOf (filled s t) (bankCount s (blocksIn s)) ≡ banksIn s
   unfolding banksOf banksIn filled
@@ -72,14 +72,14 @@ module _ (s : List ℕ) (g : Accepted s) (t : Rows) (h : roomy t ≡ true) where
       let f : ℕ → Bank = λ i. bankAt s (bankPlace i) in
       let n = bankCount s (blocksIn s) in
       let few = banks-most g in
-      each-same (bankOf (filled s t .codes) (filled s t .flags) (filled s t .balances) (filled s t .limits)) f 0 n
+      each-same (bankOf (filled s t .codes) (filled s t .flags) (filled s t .balances) (filled s t .sublimits)) f 0 n
       (λ j q.
       let p : j < n = omega arith in
       rw (
         column-at (t .codes) Code f n j (omega (arith, wide .for-codes)) p,
         column-at (t .flags) Flags f n j (omega (arith, wide .for-flags)) p,
         column-at (t .balances) Balance f n j (omega (arith, wide .for-balances)) p,
-        column-at (t .limits) Limit f n j (omega (arith, wide .for-limits)) p,
+        column-at (t .sublimits) Sublimit f n j (omega (arith, wide .for-sublimits)) p,
       ))
 
   pub streams-kept : streamsOf (filled s t) (entriesAt s 0) ≡ streamsIn s
@@ -100,7 +100,7 @@ module _ (s : List ℕ) (g : Accepted s) (t : Rows) (h : roomy t ≡ true) where
         zero-add j,
       ))
 
-  holds-filled : Bytes s → holdingRows (bookIn s) (length (filled s t .streams)) (length (filled s t .codes)) (length (filled s t .flags)) (length (filled s t .balances)) (length (filled s t .limits)) ≡ true
+  holds-filled : Bytes s → holdingRows (bookIn s) (length (filled s t .streams)) (length (filled s t .codes)) (length (filled s t .flags)) (length (filled s t .balances)) (length (filled s t .sublimits)) ≡ true
   unfolding holdingRows holdingColumns bookIn filled
   holds-filled b =
       let n = entriesAt s 0 in
@@ -112,7 +112,7 @@ module _ (s : List ℕ) (g : Accepted s) (t : Rows) (h : roomy t ≡ true) where
         length-sets (t .codes) 0 (map (fieldOf Code) (banksIn s)),
         length-sets (t .flags) 0 (map (fieldOf Flags) (banksIn s)),
         length-sets (t .balances) 0 (map (fieldOf Balance) (banksIn s)),
-        length-sets (t .limits) 0 (map (fieldOf Limit) (banksIn s)),
+        length-sets (t .sublimits) 0 (map (fieldOf Sublimit) (banksIn s)),
         le-leb 1 n (streams-few g),
         le-leb n 8 few,
         le-leb 1 m (banks-some s b g),
@@ -121,7 +121,7 @@ module _ (s : List ℕ) (g : Accepted s) (t : Rows) (h : roomy t ≡ true) where
         le-leb m (length (t .codes)) (omega (arith, wide .for-codes)),
         le-leb m (length (t .flags)) (omega (arith, wide .for-flags)),
         le-leb m (length (t .balances)) (omega (arith, wide .for-balances)),
-        le-leb m (length (t .limits)) (omega (arith, wide .for-limits)),
+        le-leb m (length (t .sublimits)) (omega (arith, wide .for-sublimits)),
       )
 
   -- what `read` left in the rows, given to `write`, is the book itself

@@ -71,7 +71,7 @@ module _ (out : List ℕ) (b : Book) (t : Rows) where
 
   banks-many : length bs ≡ b .banks
   unfolding banksOf
-  banks-many = each-length (bankOf (t .codes) (t .flags) (t .balances) (t .limits)) 0 (b .banks)
+  banks-many = each-length (bankOf (t .codes) (t .flags) (t .balances) (t .sublimits)) 0 (b .banks)
 
   module _ (h : holds b t ≡ true) (room : size ≤ length out) where
     pub made : writeBook out b t ≡ record { out = sets out 0 s; answer = Written size }

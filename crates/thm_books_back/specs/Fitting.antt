@@ -17,7 +17,7 @@ pub record FitBank (x : Bank) : Type 0 where
   pub code : x .code < shortEnd
   pub bits : x .flags / 2 < 256
   pub balance : x .balance < 256 ^ 8
-  pub limit : x .limit < 256 ^ 8
+  pub sublimit : x .sublimit < 256 ^ 8
 
 -- a date that six digits tell, counts that the headers take, and entries that fit; codes need be none, and money may be past its range
 pub record Fitting (day : ℕ) (streams : List Stream) (banks : List Bank) : Type 0 where

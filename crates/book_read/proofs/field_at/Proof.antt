@@ -1,4 +1,4 @@
-use Rattle.book_read.proofs.Filling.{field-code, field-flags, field-balance, field-limit}
+use Rattle.book_read.proofs.Filling.{field-code, field-flags, field-balance, field-sublimit}
 use borrow.Author.Needs.{needs}
 use Rattle.book_read.proofs.field_at.Statement.{statement}
 use Rattle.book_read.proofs.field_at.Tie as tie
@@ -64,7 +64,7 @@ returns-3 : tie.Need-returns-3
 returns-3 c = search field-balance
 
 returns-4 : tie.Need-returns-4
-returns-4 c = search field-limit
+returns-4 c = search field-sublimit
 
 pub field-at-spec : {M : Type 1} → statement M
 field-at-spec =

@@ -23,7 +23,7 @@ read-column-requires-3 : tie.Need-read-column-requires-3
 read-column-requires-3 c κs = (rw (c .before .before .before .before .before .before .before .before .before .before .before .before .before .bank-count .ensures .0) (banks-most (accepted _ (c .before .before .before .before .before .before .before .before .before .before .before .before .before .before .before .before .before .before .before .before .before .pre .0))), room _ _ _ _ _ (c .before .before .before .before .before .before .before .before .before .before .before .before .before .before .before .before .before .before .before .before .before .pre .1) .for-balances)
 
 read-column-requires-4 : tie.Need-read-column-requires-4
-read-column-requires-4 c κs = (rw (c .before .before .before .before .before .before .before .before .before .before .before .before .before .before .before .before .before .bank-count .ensures .0) (banks-most (accepted _ (c .before .before .before .before .before .before .before .before .before .before .before .before .before .before .before .before .before .before .before .before .before .before .before .before .before .pre .0))), room _ _ _ _ _ (c .before .before .before .before .before .before .before .before .before .before .before .before .before .before .before .before .before .before .before .before .before .before .before .before .before .pre .1) .for-limits)
+read-column-requires-4 c κs = (rw (c .before .before .before .before .before .before .before .before .before .before .before .before .before .before .before .before .before .bank-count .ensures .0) (banks-most (accepted _ (c .before .before .before .before .before .before .before .before .before .before .before .before .before .before .before .before .before .before .before .before .before .before .before .before .before .pre .0))), room _ _ _ _ _ (c .before .before .before .before .before .before .before .before .before .before .before .before .before .before .before .before .before .before .before .before .before .before .before .before .before .pre .1) .for-sublimits)
 
 day-in-requires : tie.Need-day-in-requires
 day-in-requires c κs = search needs

@@ -11,10 +11,10 @@ use Rattle.book_write.proofs.put_bank_blocks.Statement.{statement}
 use Rattle.book_write.proofs.put_bank_blocks.Tie as tie
 
 abbrev Inv-loop : tie.InvT-loop
-Inv-loop out₀ blocks codes flags balances limits banks k₀ out k = (1 ≤ k) × (k ≤ blocks) × Storing out₀ 512 (bankBlocksOf blocks 1 (blocks - 1) (each (bankOf codes flags balances limits) 0 banks)) out (512 * k) (bankBlocksOf blocks k (blocks - k) (each (bankOf codes flags balances limits) (20 * (k - 1)) (banks - 20 * (k - 1))))
+Inv-loop out₀ blocks codes flags balances sublimits banks k₀ out k = (1 ≤ k) × (k ≤ blocks) × Storing out₀ 512 (bankBlocksOf blocks 1 (blocks - 1) (each (bankOf codes flags balances sublimits) 0 banks)) out (512 * k) (bankBlocksOf blocks k (blocks - k) (each (bankOf codes flags balances sublimits) (20 * (k - 1)) (banks - 20 * (k - 1))))
 
 abbrev μ-loop : tie.MeasureT-loop
-μ-loop out₀ blocks codes flags balances limits banks k₀ out k = blocks - k
+μ-loop out₀ blocks codes flags balances sublimits banks k₀ out k = blocks - k
 
 loop-holds : tie.Need-loop-holds Inv-loop μ-loop
 unfolding blocksFor

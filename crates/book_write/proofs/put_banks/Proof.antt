@@ -7,10 +7,10 @@ use Rattle.book_write.proofs.put_banks.Statement.{statement}
 use Rattle.book_write.proofs.put_banks.Tie as tie
 
 abbrev Inv-loop : tie.InvT-loop
-Inv-loop out₀ at codes flags balances limits from n i₀ out i = (i ≤ n) × Storing out₀ at (joined bankBytes (each (bankOf codes flags balances limits) from n)) out (at + 24 * i) (joined bankBytes (each (bankOf codes flags balances limits) (from + i) (n - i)))
+Inv-loop out₀ at codes flags balances sublimits from n i₀ out i = (i ≤ n) × Storing out₀ at (joined bankBytes (each (bankOf codes flags balances sublimits) from n)) out (at + 24 * i) (joined bankBytes (each (bankOf codes flags balances sublimits) (from + i) (n - i)))
 
 abbrev μ-loop : tie.MeasureT-loop
-μ-loop out₀ at codes flags balances limits from n i₀ out i = n - i
+μ-loop out₀ at codes flags balances sublimits from n i₀ out i = n - i
 
 loop-holds : tie.Need-loop-holds Inv-loop μ-loop
 loop-holds c =
@@ -50,7 +50,7 @@ mul-put-bank-5 : tie.Need-mul-put-bank-5 Inv-loop μ-loop
 mul-put-bank-5 c = omega arith
 
 shared-slice-read-put-bank-4 : tie.Need-shared-slice-read-put-bank-4 Inv-loop μ-loop
-shared-slice-read-put-bank-4 c = omega (arith, c .before .before .before .before .before .before .before .before .before .before .before .before .pre .1 .in-limits)
+shared-slice-read-put-bank-4 c = omega (arith, c .before .before .before .before .before .before .before .before .before .before .before .before .pre .1 .in-sublimits)
 
 put-bank-requires : tie.Need-put-bank-requires Inv-loop μ-loop
 put-bank-requires c κs = omega arith

@@ -38,7 +38,7 @@ unfolding blocksFor
 put-bank-blocks-requires c κs =
     let h = holding _ _ _ _ _ _ (sym (c .before .before .before .before .before .before .before .rows-hold .ensures) ∙ not-false _ (c .before .before .before .before .before .before .if1 .left)) in (
       (refl, h .few-banks, rw (c .before .before .before .put-stream-block .ensures) (rw length-sets (c .before .before .before .before .before .if2 .left))),
-      record { in-codes = h .in-codes; in-flags = h .in-flags; in-balances = h .in-balances; in-limits = h .in-limits },
+      record { in-codes = h .in-codes; in-flags = h .in-flags; in-balances = h .in-balances; in-sublimits = h .in-sublimits },
     )
 
 mul-t15 : tie.Need-mul-t15

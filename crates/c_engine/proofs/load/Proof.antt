@@ -5,10 +5,10 @@ use Rattle.c_engine.proofs.load.Statement.{statement}
 use Rattle.c_engine.proofs.load.Tie as tie
 
 abbrev Inv-loop : tie.InvT-loop
-Inv-loop banks codes₀ flags₀ balances₀ limits₀ i₀ codes flags balances limits i = Loading banks i codes flags balances limits
+Inv-loop banks codes₀ flags₀ balances₀ limits₀ i₀ codes flags balances sublimits i = Loading banks i codes flags balances sublimits
 
 abbrev μ-loop : tie.MeasureT-loop
-μ-loop banks codes₀ flags₀ balances₀ limits₀ i₀ codes flags balances limits i = 64 - i
+μ-loop banks codes₀ flags₀ balances₀ limits₀ i₀ codes flags balances sublimits i = 64 - i
 
 loop-holds : tie.Need-loop-holds Inv-loop μ-loop
 loop-holds c = search (needs, load-start)
@@ -61,20 +61,20 @@ mul-balances-2 c = search needs
 slice-write-balances : tie.Need-slice-write-balances Inv-loop μ-loop
 slice-write-balances c = search needs
 
-add-limits : tie.Need-add-limits Inv-loop μ-loop
-add-limits c = search needs
+add-sublimits : tie.Need-add-sublimits Inv-loop μ-loop
+add-sublimits c = search needs
 
-mul-limits : tie.Need-mul-limits Inv-loop μ-loop
-mul-limits c = search needs
+mul-sublimits : tie.Need-mul-sublimits Inv-loop μ-loop
+mul-sublimits c = search needs
 
-shared-slice-read-limits : tie.Need-shared-slice-read-limits Inv-loop μ-loop
-shared-slice-read-limits c = search needs
+shared-slice-read-sublimits : tie.Need-shared-slice-read-sublimits Inv-loop μ-loop
+shared-slice-read-sublimits c = search needs
 
-mul-limits-2 : tie.Need-mul-limits-2 Inv-loop μ-loop
-mul-limits-2 c = search needs
+mul-sublimits-2 : tie.Need-mul-sublimits-2 Inv-loop μ-loop
+mul-sublimits-2 c = search needs
 
-slice-write-limits : tie.Need-slice-write-limits Inv-loop μ-loop
-slice-write-limits c = search needs
+slice-write-sublimits : tie.Need-slice-write-sublimits Inv-loop μ-loop
+slice-write-sublimits c = search needs
 
 add-i : tie.Need-add-i Inv-loop μ-loop
 add-i c = search needs
@@ -123,11 +123,11 @@ load-spec =
     shared-slice-read-balances
     mul-balances-2
     slice-write-balances
-    add-limits
-    mul-limits
-    shared-slice-read-limits
-    mul-limits-2
-    slice-write-limits
+    add-sublimits
+    mul-sublimits
+    shared-slice-read-sublimits
+    mul-sublimits-2
+    slice-write-sublimits
     add-i
     loop-less
     loop-again

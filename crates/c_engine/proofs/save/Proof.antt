@@ -7,10 +7,10 @@ use Rattle.c_engine.proofs.save.Statement.{statement}
 use Rattle.c_engine.proofs.save.Tie as tie
 
 abbrev Inv-loop : tie.InvT-loop
-Inv-loop banks₀ codes flags balances limits i₀ banks i = Saving banks i codes flags balances limits
+Inv-loop banks₀ codes flags balances sublimits i₀ banks i = Saving banks i codes flags balances sublimits
 
 abbrev μ-loop : tie.MeasureT-loop
-μ-loop banks₀ codes flags balances limits i₀ banks i = 64 - i
+μ-loop banks₀ codes flags balances sublimits i₀ banks i = 64 - i
 
 loop-holds : tie.Need-loop-holds Inv-loop μ-loop
 loop-holds c = search (needs, save-start)

@@ -35,17 +35,17 @@ told-books s r (completes i b k p x j h e f) = refl
 told-books s r (grows i b k p x j h e) = refl
 told-books s r (rejects f b k p x j) = refl
 
-module _ (d : Desk) (input codes flags limits t q : List ℕ) (nq : ℕ) (w : List ℕ) (nw : ℕ) (rs bs m out : List ℕ)
+module _ (d : Desk) (input codes flags sublimits t q : List ℕ) (nq : ℕ) (w : List ℕ) (nw : ℕ) (rs bs m out : List ℕ)
     (k : Actable d codes flags t q nq w nw out) (x : Action) (balances : List ℕ) where
   abbrev s : State
-  s = middle d codes flags balances limits t q nq w nw rs bs
+  s = middle d codes flags balances sublimits t q nq w nw rs bs
 
   abbrev a : Acted
-  a = actedIn d x input codes flags balances limits t q nq w nw rs bs
+  a = actedIn d x input codes flags balances sublimits t q nq w nw rs bs
 
   -- ---- an action without a change
 
-  idle-deed : a ≡ leaving s Done [] [] (s .batches) (s .known) → Carried a balances m out (d .texts) Done limits t q nq w nw m out 0 (d .texts) rs bs
+  idle-deed : a ≡ leaving s Done [] [] (s .batches) (s .known) → Carried a balances m out (d .texts) Done sublimits t q nq w nw m out 0 (d .texts) rs bs
   unfolding woken
   idle-deed e =
       rw e
@@ -55,19 +55,19 @@ module _ (d : Desk) (input codes flags limits t q : List ℕ) (nq : ℕ) (w : Li
         known = record { references = refl; bins = refl };
       })
 
-  pub opening-deed : x ≡ Opening → Carried a balances m out (d .texts) Done limits t q nq w nw m out 0 (d .texts) rs bs
+  pub opening-deed : x ≡ Opening → Carried a balances m out (d .texts) Done sublimits t q nq w nw m out 0 (d .texts) rs bs
   unfolding act
   opening-deed e = idle-deed (rw e)
 
-  pub tick-deed : x ≡ Tick → Carried a balances m out (d .texts) Done limits t q nq w nw m out 0 (d .texts) rs bs
+  pub tick-deed : x ≡ Tick → Carried a balances m out (d .texts) Done sublimits t q nq w nw m out 0 (d .texts) rs bs
   unfolding act
   tick-deed e = idle-deed (rw e)
 
-  pub close-deed : x ≡ Close → Carried a balances m out (d .texts) Done limits t q nq w nw m out 0 (d .texts) rs bs
+  pub close-deed : x ≡ Close → Carried a balances m out (d .texts) Done sublimits t q nq w nw m out 0 (d .texts) rs bs
   unfolding act
   close-deed e = idle-deed (rw e)
 
-  pub book-deed : (date : ℕ) → x ≡ ClosingBook date → Carried a balances m out (d .texts) Done limits t q nq w nw m out 0 (d .texts) rs bs
+  pub book-deed : (date : ℕ) → x ≡ ClosingBook date → Carried a balances m out (d .texts) Done sublimits t q nq w nw m out 0 (d .texts) rs bs
   unfolding act
   book-deed date e = idle-deed (rw e)
 
@@ -76,10 +76,10 @@ module _ (d : Desk) (input codes flags limits t q : List ℕ) (nq : ℕ) (w : Li
   pub message-deed : (sender : ℕ) (answer : Answer) (t₁ q₁ : List ℕ) (nq₁ : ℕ) (w₁ : List ℕ) (nw₁ : ℕ) (m₁ out₁ : List ℕ) (at₁ texts₁ : ℕ) (rs₁ bs₁ : List ℕ)
       → x ≡ Message sender
       → ((n : Accounts) → Received (message (stateOn d codes flags (seen t q nq w nw) n (knownIn rs bs)) sender (requestAt input)) m out (d .texts) answer t₁ q₁ nq₁ w₁ nw₁ m₁ out₁ at₁ texts₁ rs₁ bs₁)
-      → Carried a balances m out (d .texts) answer limits t₁ q₁ nq₁ w₁ nw₁ m₁ out₁ at₁ texts₁ rs₁ bs₁
+      → Carried a balances m out (d .texts) answer sublimits t₁ q₁ nq₁ w₁ nw₁ m₁ out₁ at₁ texts₁ rs₁ bs₁
   unfolding act
   message-deed sender answer t₁ q₁ nq₁ w₁ nw₁ m₁ out₁ at₁ texts₁ rs₁ bs₁ e h =
-      let g = h (accounts balances limits) in
+      let g = h (accounts balances sublimits) in
       rw e (record { rows = g .rows; books = told-books s (requestAt input) (did-message s (requestAt input) sender); known = g .known })
 
   -- ---- changes
@@ -97,18 +97,18 @@ module _ (d : Desk) (input codes flags limits t q : List ℕ) (nq : ℕ) (w : Li
     known = record { references = ap (λ (z : Known). z .references) (sym (h .known)); bins = ap (λ (z : Known). z .bins) (sym (h .known)) };
   }
 
-  pub limit-deed : (code cents : ℕ) (answer : Answer) (limits₁ m₁ : List ℕ) → x ≡ SubLimit code cents
-      → ((z : State) → z .house .banks ≡ d .banks → z .house .codes ≡ codes → z .books .limits ≡ limits → Changed z (subLimit z code cents) answer (z .batches) limits₁ m m₁)
+  pub sublimit-deed : (code cents : ℕ) (answer : Answer) (limits₁ m₁ : List ℕ) → x ≡ SubLimit code cents
+      → ((z : State) → z .house .banks ≡ d .banks → z .house .codes ≡ codes → z .books .sublimits ≡ sublimits → Changed z (subLimit z code cents) answer (z .batches) limits₁ m m₁)
       → Carried a balances m out (d .texts) answer limits₁ t q nq w nw m₁ out 0 (d .texts) rs bs
   unfolding act
-  limit-deed code cents answer limits₁ m₁ e h = rw e (changed-rows (subLimit s code cents) answer limits₁ t m₁ (k .ready) (h s refl refl refl))
+  sublimit-deed code cents answer limits₁ m₁ e h = rw e (changed-rows (subLimit s code cents) answer limits₁ t m₁ (k .ready) (h s refl refl refl))
 
   pub status-deed : (code : ℕ) (bin : Code) (letter : ℕ) (answer : Answer) (t₁ m₁ : List ℕ) → x ≡ Status code bin letter
       → Ready t₁ q nq w nw
-      × ((z : State) → z .house .banks ≡ d .banks → z .house .codes ≡ codes → z .batches ≡ seen t q nq w nw → Changed z (status z code bin letter) answer (seen t₁ q nq w nw) (z .books .limits) m m₁)
-      → Carried a balances m out (d .texts) answer limits t₁ q nq w nw m₁ out 0 (d .texts) rs bs
+      × ((z : State) → z .house .banks ≡ d .banks → z .house .codes ≡ codes → z .batches ≡ seen t q nq w nw → Changed z (status z code bin letter) answer (seen t₁ q nq w nw) (z .books .sublimits) m m₁)
+      → Carried a balances m out (d .texts) answer sublimits t₁ q nq w nw m₁ out 0 (d .texts) rs bs
   unfolding act
-  status-deed code bin letter answer t₁ m₁ e h = rw e (changed-rows (status s code bin letter) answer limits t₁ m₁ (h .0) (h .1 s refl refl refl))
+  status-deed code bin letter answer t₁ m₁ e h = rw e (changed-rows (status s code bin letter) answer sublimits t₁ m₁ (h .0) (h .1 s refl refl refl))
 
   -- an action without texts tells no more
   pub still : (answer answer′ : Answer) (limits₁ t₁ m₁ : List ℕ) (nq′ nw′ at′ texts′ : ℕ)

@@ -33,19 +33,19 @@ use Rattle.call.specs.queue_test.Settling.{Testable, outcomeOf, Ended}
 use Rattle.call.proofs.queue_test.Model.{test-legible, testable, outcome-so}
 use Rattle.call.specs.action.Working.{middle, actedIn, testedIn, Carried, Workable, Worked}
 
-module _ (quick : Bool) (d : Desk) (x : Action) (input codes flags balances limits t q : List ℕ) (nq : ℕ) (w : List ℕ) (nw : ℕ) (rs bs m out r : List ℕ)
-    (k : Workable quick d x input codes flags balances limits t q nq w nw rs bs m out r) where
+module _ (quick : Bool) (d : Desk) (x : Action) (input codes flags balances sublimits t q : List ℕ) (nq : ℕ) (w : List ℕ) (nw : ℕ) (rs bs m out r : List ℕ)
+    (k : Workable quick d x input codes flags balances sublimits t q nq w nw rs bs m out r) where
   abbrev s : State
-  s = middle d codes flags balances limits t q nq w nw rs bs
+  s = middle d codes flags balances sublimits t q nq w nw rs bs
 
   abbrev a : Acted
-  a = actedIn d x input codes flags balances limits t q nq w nw rs bs
+  a = actedIn d x input codes flags balances sublimits t q nq w nw rs bs
 
   abbrev o : Outcome
-  o = testedIn quick d x input codes flags balances limits t q nq w nw rs bs m
+  o = testedIn quick d x input codes flags balances sublimits t q nq w nw rs bs m
 
-  module _ (answer : Answer) (limits′ t₁ q₁ : List ℕ) (nq₁ : ℕ) (w₁ : List ℕ) (nw₁ : ℕ) (m₁ out₁ : List ℕ) (at₁ texts₁ : ℕ) (rs₁ bs₁ : List ℕ)
-      (g : Carried a balances m out (d .texts) answer limits′ t₁ q₁ nq₁ w₁ nw₁ m₁ out₁ at₁ texts₁ rs₁ bs₁) where
+  module _ (answer : Answer) (sublimits′ t₁ q₁ : List ℕ) (nq₁ : ℕ) (w₁ : List ℕ) (nw₁ : ℕ) (m₁ out₁ : List ℕ) (at₁ texts₁ : ℕ) (rs₁ bs₁ : List ℕ)
+      (g : Carried a balances m out (d .texts) answer sublimits′ t₁ q₁ nq₁ w₁ nw₁ m₁ out₁ at₁ texts₁ rs₁ bs₁) where
     now-seen : seen t₁ q₁ nq₁ w₁ nw₁ ≡ a .batches
     now-seen = g .rows .batches .is
 
@@ -53,20 +53,20 @@ module _ (quick : Bool) (d : Desk) (x : Action) (input codes flags balances limi
     stood₁ : Stood (d .banks) (seen t₁ q₁ nq₁ w₁ nw₁)
     stood₁ = subst (λ (b : Batches). Stood (d .banks) b) (sym now-seen) (places-kept s (k .actable .stood) (requestAt input) (did s (ownOf x) input) (readers .texts input .settlement))
 
-    house₁ : RightHouse (houseOn d codes flags) (a .books .balances) (a .books .limits)
+    house₁ : RightHouse (houseOn d codes flags) (a .books .balances) (a .books .sublimits)
     house₁ = house-kept s (requestAt input) (did s (ownOf x) input) (k .house)
 
-    books₁ : Books balances limits′
-    books₁ = subst (λ (n : Accounts). Books (n .balances) (n .limits)) (g .books) (house-books (houseOn d codes flags) (a .books) house₁)
+    books₁ : Books balances sublimits′
+    books₁ = subst (λ (n : Accounts). Books (n .balances) (n .sublimits)) (g .books) (house-books (houseOn d codes flags) (a .books) house₁)
 
     abbrev o₁ : Outcome
-    o₁ = outcomeOf quick balances limits′ t₁ m₁ q₁ nq₁
+    o₁ = outcomeOf quick balances sublimits′ t₁ m₁ q₁ nq₁
 
     same-test : o₁ ≡ o
     unfolding tested
     same-test =
-        outcome-so (d .banks) t₁ q₁ nq₁ w₁ nw₁ (g .rows .batches .ready) stood₁ quick balances limits′ m₁
-        ∙ ap (λ (b : Batches). test quick (paymentsAt b) (fuel (b .queue)) (accounts balances limits′) m₁ (b .queue)) now-seen
+        outcome-so (d .banks) t₁ q₁ nq₁ w₁ nw₁ (g .rows .batches .ready) stood₁ quick balances sublimits′ m₁
+        ∙ ap (λ (b : Batches). test quick (paymentsAt b) (fuel (b .queue)) (accounts balances sublimits′) m₁ (b .queue)) now-seen
         ∙ ap (λ (n : Accounts). test quick (paymentsAt (a .batches)) (fuel (a .batches .queue)) n m₁ (a .batches .queue)) (sym (g .books))
         ∙ ap (λ (l : List ℕ). test quick (paymentsAt (a .batches)) (fuel (a .batches .queue)) (a .books) l (a .batches .queue)) (g .rows .memory)
 
@@ -84,20 +84,20 @@ module _ (quick : Bool) (d : Desk) (x : Action) (input codes flags balances limi
 
     -- what the test requires
 
-    pub test-able : length m₁ ≡ length m → Testable balances limits′ t₁ m₁ q₁ nq₁ r × Legible t₁
+    pub test-able : length m₁ ≡ length m → Testable balances sublimits′ t₁ m₁ q₁ nq₁ r × Legible t₁
     test-able e = (
-      testable (d .banks) t₁ q₁ nq₁ w₁ nw₁ (g .rows .batches .ready) stood₁ (k .actable .few-banks) balances limits′ m₁ r books₁ (e ∙ k .memory) (k .tries),
+      testable (d .banks) t₁ q₁ nq₁ w₁ nw₁ (g .rows .batches .ready) stood₁ (k .actable .few-banks) balances sublimits′ m₁ r books₁ (e ∙ k .memory) (k .tries),
       test-legible (d .banks) t₁ q₁ nq₁ w₁ nw₁ (g .rows .batches .ready) stood₁,
     )
 
-    pub test-room : Room out₁ at₁ texts₁ (settledReplies (dayAt (d .date) (d .clock)) (batchesOn t₁) (outcomeOf quick balances limits′ t₁ m₁ q₁ nq₁ .done))
+    pub test-room : Room out₁ at₁ texts₁ (settledReplies (dayAt (d .date) (d .clock)) (batchesOn t₁) (outcomeOf quick balances sublimits′ t₁ m₁ q₁ nq₁ .done))
     test-room = room-rest (g .rows .replies) (told (o₁ .done)) (subst (λ (l : List Reply). Room out 0 (d .texts) l) all-told (k .room))
 
     -- both together
 
     module _ (balances₂ t₂ m₂ q₂ : List ℕ) (nq₂ : ℕ) (r₂ : List ℕ) (k₂ : ℕ) (out₂ : List ℕ) (at₂ texts₂ : ℕ)
-        (e : Ended (outcomeOf quick balances limits′ t₁ m₁ q₁ nq₁) limits′ t₁ r balances₂ t₂ m₂ q₂ nq₂ r₂ k₂)
-        (f : Wrote out₁ at₁ texts₁ (settledReplies (dayAt (d .date) (d .clock)) (batchesOn t₁) (outcomeOf quick balances limits′ t₁ m₁ q₁ nq₁ .done)) out₂ at₂ texts₂) where
+        (e : Ended (outcomeOf quick balances sublimits′ t₁ m₁ q₁ nq₁) sublimits′ t₁ r balances₂ t₂ m₂ q₂ nq₂ r₂ k₂)
+        (f : Wrote out₁ at₁ texts₁ (settledReplies (dayAt (d .date) (d .clock)) (batchesOn t₁) (outcomeOf quick balances sublimits′ t₁ m₁ q₁ nq₁ .done)) out₂ at₂ texts₂) where
       left-so : seen t₂ q₂ nq₂ w₁ nw₁ ≡ left s a o
       unfolding left afterTest
       left-so =
@@ -108,7 +108,7 @@ module _ (quick : Bool) (d : Desk) (x : Action) (input codes flags balances limi
           let y : take nw₁ w₁ ≡ a .batches .pending = ap (λ (b : Batches). b .pending) now-seen in
           rw (u, v, y)
 
-      pub worked : Worked s a o out r (d .texts) answer balances₂ limits′ t₂ q₂ nq₂ w₁ nw₁ rs₁ bs₁ m₂ out₂ at₂ texts₂ r₂ k₂
+      pub worked : Worked s a o out r (d .texts) answer balances₂ sublimits′ t₂ q₂ nq₂ w₁ nw₁ rs₁ bs₁ m₂ out₂ at₂ texts₂ r₂ k₂
       worked = record {
         answered = g .rows .answered;
         books = e .books ∙ ap (λ (v : Outcome). v .books) same-test;

@@ -29,9 +29,9 @@ use Rattle.call.specs.declared.step.Told.{Told}
 use Rattle.call.specs.entry.Calls.{Performable}
 use Rattle.call.proofs.entry.Moments.{right-few}
 
-module _ (quick : Bool) (clock : ℕ) (a : Action) (input : List ℕ) (d : Desk) (codes flags balances limits t rs bs out r : List ℕ) where
+module _ (quick : Bool) (clock : ℕ) (a : Action) (input : List ℕ) (d : Desk) (codes flags balances sublimits t rs bs out r : List ℕ) where
   abbrev T : Tables
-  T = lentWith codes flags balances limits t rs bs
+  T = lentWith codes flags balances sublimits t rs bs
 
   abbrev e : Engine
   e = engineIn d T
@@ -92,15 +92,15 @@ module _ (quick : Bool) (clock : ℕ) (a : Action) (input : List ℕ) (d : Desk)
     as-kind : (z : Kind) → kindOf a ≡ z → (y : Left) → y ≡ leftBy x (performed z e c) → y ≡ leftBy x (performed (kindOf a) e c)
     as-kind z i y u = u ∙ ap (λ (q : Kind). leftBy x (performed q e c)) (sym i)
 
-    pub full : Full (columns codes flags balances limits)
-    full = let l = right-long d T (k .right) in record { codes = l .codes; flags = l .flags; balances = l .balances; limits = l .limits }
+    pub full : Full (columns codes flags balances sublimits)
+    full = let l = right-long d T (k .right) in record { codes = l .codes; flags = l .flags; balances = l .balances; sublimits = l .sublimits }
 
     -- an opening
 
     abbrev begins : Begins → Left
-    begins b = leftAs (b .answer) 0 0 (b .desk) (lentWith (b .columns .codes) (b .columns .flags) (b .columns .balances) (b .columns .limits) t rs bs) out r
+    begins b = leftAs (b .answer) 0 0 (b .desk) (lentWith (b .columns .codes) (b .columns .flags) (b .columns .balances) (b .columns .sublimits) t rs bs) out r
 
-    opens-left : (n : Answer) → begins (openedOn n d clock input (columns codes flags balances limits)) ≡ leftBy x (openedBy n e c)
+    opens-left : (n : Answer) → begins (openedOn n d clock input (columns codes flags balances sublimits)) ≡ leftBy x (openedBy n e c)
     unfolding opened deskOf tablesOf
     opens-left Done =
         let u : tablesOf e .batches ≡ t = ap (λ (z : Tables). z .batches) (k .right .tables) in
@@ -109,8 +109,8 @@ module _ (quick : Bool) (clock : ℕ) (a : Action) (input : List ℕ) (d : Desk)
         rw (u, v, w)
     opens-left (Refused f) = refused-left (k .right) f
 
-    pub opens-day : kindOf a ≡ opens → (b : Begins) → b ≡ openedOn (openingAnswer (dayOn d) input) d clock input (columns codes flags balances limits)
-        → leftAs (b .answer) 0 0 (b .desk) (lentWith (b .columns .codes) (b .columns .flags) (b .columns .balances) (b .columns .limits) t rs bs) out r ≡ leftBy x (performed (kindOf a) e c)
+    pub opens-day : kindOf a ≡ opens → (b : Begins) → b ≡ openedOn (openingAnswer (dayOn d) input) d clock input (columns codes flags balances sublimits)
+        → leftAs (b .answer) 0 0 (b .desk) (lentWith (b .columns .codes) (b .columns .flags) (b .columns .balances) (b .columns .sublimits) t rs bs) out r ≡ leftBy x (performed (kindOf a) e c)
     unfolding engineIn stateIn
     opens-day i b u = as-kind opens i (begins b) (ap begins u ∙ opens-left (openingAnswer (dayOn d) input))
 
@@ -128,7 +128,7 @@ module _ (quick : Bool) (clock : ℕ) (a : Action) (input : List ℕ) (d : Desk)
     given-tables date = sym (k .right .tables)
 
     pub gives-book : (date : ℕ) → kindOf a ≡ gives date → (out′ : List ℕ) (n : ℕ) (z : Desk)
-        → (out′ ≡ sets out 0 (bookBytes (onDate (dayOf date)) (streamsOn d) (banksOn d (columns codes flags balances limits)))) × (n ≡ 512 * blocksFor (d .banks))
+        → (out′ ≡ sets out 0 (bookBytes (onDate (dayOf date)) (streamsOn d) (banksOn d (columns codes flags balances sublimits)))) × (n ≡ 512 * blocksFor (d .banks))
         → z ≡ movedTo d clock → leftAs Done n 0 z T out′ r ≡ leftBy x (performed (kindOf a) e c)
     unfolding closingText engineIn stateIn
     gives-book date i out′ n z u v =

@@ -79,13 +79,13 @@ module _ (d : Desk) (t : Tables) where
           codes = h .codes-long;
           flags = h .flags-long;
           balances = h .balances-long;
-          limits = h .limits-long;
+          sublimits = h .sublimits-long;
           batches = x .batches .long;
           references = x .known .references-long;
           bins = x .known .bins-long;
         };
         house = h;
-        books = house-books (houseOn d (t .codes) (t .flags)) (accounts (t .balances) (t .limits)) h;
+        books = house-books (houseOn d (t .codes) (t .flags)) (accounts (t .balances) (t .sublimits)) h;
         stood = s;
         memory = u .memory;
         words = sym (u .words);

@@ -20,17 +20,17 @@ use Rattle.call.specs.queue_test.Settling.{Testable, outcomeOf, Ended}
 pub room : (nq : ℕ) (r : List ℕ) → nq ≤ 32 → 528 ≤ length r → 0 + most nq ≤ length r
 room nq r h k = omega (arith, most-below nq h)
 
-module _ (quick : Bool) (balances limits t m q : List ℕ) (nq : ℕ) (r : List ℕ) (h : Testable balances limits t m q nq r) where
+module _ (quick : Bool) (balances sublimits t m q : List ℕ) (nq : ℕ) (r : List ℕ) (h : Testable balances sublimits t m q nq r) where
   abbrev o : Outcome
-  o = outcomeOf quick balances limits t m q nq
+  o = outcomeOf quick balances sublimits t m q nq
 
   few-queued : length (take nq q) ≤ 32
   few-queued = omega (arith, length-take-le nq q (h .queue), h .few)
 
   few-tries : length (o .tries) ≤ length r
-  few-tries = omega (arith, tries-fit quick (rowPayments t) (accounts balances limits) m (take nq q) few-queued, h .tries)
+  few-tries = omega (arith, tries-fit quick (rowPayments t) (accounts balances sublimits) m (take nq q) few-queued, h .tries)
 
-  module _ (balances′ m′ q′ : List ℕ) (nq′ : ℕ) (r′ : List ℕ) (k : ℕ) (g : Tested o limits q nq r 0 balances′ m′ q′ nq′ r′ k) where
+  module _ (balances′ m′ q′ : List ℕ) (nq′ : ℕ) (r′ : List ℕ) (k : ℕ) (g : Tested o sublimits q nq r 0 balances′ m′ q′ nq′ r′ k) where
     pub tried-fits : k ≤ length r′
     tried-fits = omega (arith, g .tries, few-tries, ap length (g .row), length-sets r 0 (o .tries))
 
@@ -41,7 +41,7 @@ module _ (quick : Bool) (balances limits t m q : List ℕ) (nq : ℕ) (r : List 
         rw (f, e) (take-at (o .tries) (drop (0 + length (o .tries)) r) (length (o .tries)) refl)
 
     passed : passedOf (take k r′) ≡ o .done
-    passed = ap passedOf told ∙ settled-are-passes quick (rowPayments t) (accounts balances limits) m (take nq q)
+    passed = ap passedOf told ∙ settled-are-passes quick (rowPayments t) (accounts balances sublimits) m (take nq q)
 
     -- what passed is told by the tries
     pub passed-room : (date clock texts : ℕ) (out : List ℕ) (at : ℕ) → Room out at texts (settledReplies (dayAt date clock) (batchesOn t) (o .done))
@@ -55,7 +55,7 @@ module _ (quick : Bool) (balances limits t m q : List ℕ) (nq : ℕ) (r : List 
         subst (λ (d : List ℕ). Wrote out at texts (settledReplies (dayAt date clock) (batchesOn t) d) out′ to texts′) passed x
 
     pub test-ended : (t₂ m₂ : List ℕ) → length q′ ≡ length q → Emptied (passedOf (take k r′)) t m′ t₂ m₂
-        → Ended o limits t r balances′ t₂ m₂ q′ nq′ r′ k
+        → Ended o sublimits t r balances′ t₂ m₂ q′ nq′ r′ k
     test-ended t₂ m₂ l e =
         record {
           books = g .books;

@@ -80,9 +80,9 @@ module _ (banks : ℕ) (t q : List ℕ) (nq : ℕ) (w : List ℕ) (nw : ℕ) (r 
   pub test-legible : Legible t
   test-legible = legible banks b s t (r .table .long) refl
 
-  pub testable : banks ≤ 64 → (balances limits m tries : List ℕ) → Books balances limits → length m ≡ 32 → 528 ≤ length tries
-      → Testable balances limits t m q nq tries
-  testable l balances limits m tries k e h = record {
+  pub testable : banks ≤ 64 → (balances sublimits m tries : List ℕ) → Books balances sublimits → length m ≡ 32 → 528 ≤ length tries
+      → Testable balances sublimits t m q nq tries
+  testable l balances sublimits m tries k e h = record {
     books = k;
     table = r .table;
     good = all-good t (take nq q) (times-all (λ p. Good t p) (take nq q) (good-at l));
@@ -92,6 +92,6 @@ module _ (banks : ℕ) (t q : List ℕ) (nq : ℕ) (w : List ℕ) (nw : ℕ) (r 
     tries = h;
   }
 
-  pub outcome-so : (quick : Bool) (balances limits m : List ℕ)
-      → outcomeOf quick balances limits t m q nq ≡ test quick (paymentsAt b) (fuel (b .queue)) (accounts balances limits) m (b .queue)
-  outcome-so quick balances limits m = ap (λ (f : ℕ → List Payment). test quick f (fuel (take nq q)) (accounts balances limits) m (take nq q)) reads-model
+  pub outcome-so : (quick : Bool) (balances sublimits m : List ℕ)
+      → outcomeOf quick balances sublimits t m q nq ≡ test quick (paymentsAt b) (fuel (b .queue)) (accounts balances sublimits) m (b .queue)
+  outcome-so quick balances sublimits m = ap (λ (f : ℕ → List Payment). test quick f (fuel (take nq q)) (accounts balances sublimits) m (take nq q)) reads-model

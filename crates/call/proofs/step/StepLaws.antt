@@ -42,10 +42,10 @@ use Rattle.call_texts.proofs.Whole.{stepped-room}
 use Rattle.call.specs.action.Working.{middle, actedIn, testedIn, Workable, Worked}
 use Rattle.call.specs.step.Stepping.{Steppable, lentAs, leftAs, deskAfter}
 
-module _ (quick : Bool) (d : Desk) (x : Action) (clock : ℕ) (input codes flags balances limits t rs bs out r : List ℕ)
-    (k : Steppable d (lentWith codes flags balances limits t rs bs) clock x out r) where
+module _ (quick : Bool) (d : Desk) (x : Action) (clock : ℕ) (input codes flags balances sublimits t rs bs out r : List ℕ)
+    (k : Steppable d (lentWith codes flags balances sublimits t rs bs) clock x out r) where
   abbrev T : Tables
-  T = lentWith codes flags balances limits t rs bs
+  T = lentWith codes flags balances sublimits t rs bs
 
   abbrev e : Engine
   e = engineIn d T
@@ -65,13 +65,13 @@ module _ (quick : Bool) (d : Desk) (x : Action) (clock : ℕ) (input codes flags
 
   module _ (m q : List ℕ) (nq : ℕ) (w : List ℕ) (nw : ℕ) (held : m ≡ memoryIn t) (began : Became (join clock (batchesIn t)) t q nq w nw) where
     abbrev s : State
-    s = middle d′ codes flags balances limits t q nq w nw rs bs
+    s = middle d′ codes flags balances sublimits t q nq w nw rs bs
 
     abbrev a : Acted
-    a = actedIn d′ x input codes flags balances limits t q nq w nw rs bs
+    a = actedIn d′ x input codes flags balances sublimits t q nq w nw rs bs
 
     abbrev o : Outcome
-    o = testedIn quick d′ x input codes flags balances limits t q nq w nw rs bs m
+    o = testedIn quick d′ x input codes flags balances sublimits t q nq w nw rs bs m
 
     same-state : begun (e .state) clock ≡ s
     unfolding begun engineIn stateIn
@@ -108,7 +108,7 @@ module _ (quick : Bool) (d : Desk) (x : Action) (clock : ℕ) (input codes flags
     stood : Stood (d .banks) (seen t q nq w nw)
     stood = subst (λ (b : Batches). Stood (d .banks) b) (sym (began .is)) (join-stood (d .banks) clock (batchesIn t) (grants .stood))
 
-    pub work-able : nw ≤ 32 → 64 ≤ length q → 64 ≤ length w → length m ≡ 32 → Workable quick d′ x input codes flags balances limits t q nq w nw rs bs m out r
+    pub work-able : nw ≤ 32 → 64 ≤ length q → 64 ≤ length w → length m ≡ 32 → Workable quick d′ x input codes flags balances sublimits t q nq w nw rs bs m out r
     work-able f lq lw lm = record {
       actable = record {
         ready = began .ready;
@@ -146,8 +146,8 @@ module _ (quick : Bool) (d : Desk) (x : Action) (clock : ℕ) (input codes flags
       balances-so : balances₂ ≡ o .books .balances
       balances-so = ap (λ (z : Accounts). z .balances) (h .books)
 
-      limits-so : limits₂ ≡ o .books .limits
-      limits-so = ap (λ (z : Accounts). z .limits) (h .books)
+      sublimits-so : limits₂ ≡ o .books .sublimits
+      sublimits-so = ap (λ (z : Accounts). z .sublimits) (h .books)
 
       references-so : rs₂ ≡ entriesWords (a .known .references)
       references-so = sym (entries-words 2048 rs₂ (omega arith)) ∙ ap entriesWords (h .known .references)
@@ -163,7 +163,7 @@ module _ (quick : Bool) (d : Desk) (x : Action) (clock : ℕ) (input codes flags
           stored-so (left s a o) t₂ q₂ nq₂ w₂ nw₂ m₂ t₃ (h .batches) f ∙ ap (λ (z : List ℕ). wordsOf (left s a o) z) (h .memory)
           in
           let v : at₂ ≡ length (textsFrom (d .texts) (replies s a o)) = omega (arith, h .replies .end) in
-          rw (h .answered, v, h .tried, h .replies .count, h .replies .bytes, h .row, g, balances-so, limits-so, references-so, bins-so, streams-so, few-so)
+          rw (h .answered, v, h .tried, h .replies .count, h .replies .bytes, h .row, g, balances-so, sublimits-so, references-so, bins-so, streams-so, few-so)
 
       pub steps-on : isClose x ≡ false → (t₃ : List ℕ) → t₃ ≡ wordsOf (seen t₂ q₂ nq₂ w₂ nw₂) m₂
           → leftAs answer at₂ k₂ (deskAfter (d .phase) texts₂ d′) (lentWith codes flags balances₂ limits₂ t₃ rs₂ bs₂) out₂ r₂ ≡ leftBy (lentAs d T out r) (stepped e c)
@@ -205,7 +205,7 @@ module _ (quick : Bool) (d : Desk) (x : Action) (clock : ℕ) (input codes flags
             let g : t₃ ≡ wordsOf noBatches noMemory = f ∙ ap (λ (n : ℕ). replicate n 0) (h .batches .ready .table .long) ∙ sym (none-words noMemory) in
             let u = all-told in
             let v : at₃ ≡ length (textsFrom (d .texts) (replies s a o ++ lastReplies s a o)) = omega (arith, u .end) in
-            rw (h .answered, v, h .tried, u .count, u .bytes, h .row, g, balances-so, limits-so, references-so, bins-so, streams-so, few-so)
+            rw (h .answered, v, h .tried, u .count, u .bytes, h .row, g, balances-so, sublimits-so, references-so, bins-so, streams-so, few-so)
 
         pub steps-close : isClose x ≡ true
             → leftAs answer at₃ k₂ (deskAfter Closed texts₃ d′) (lentWith codes flags balances₂ limits₂ t₃ rs₂ bs₂) out₃ r₂ ≡ leftBy (lentAs d T out r) (stepped e c)
@@ -215,18 +215,18 @@ module _ (quick : Bool) (d : Desk) (x : Action) (clock : ℕ) (input codes flags
   -- ---- the same of a desk that is just the moved one
 
   module _ (v : Desk) (same : v ≡ movedTo d clock) (m q : List ℕ) (nq : ℕ) (w : List ℕ) (nw : ℕ) (held : m ≡ memoryIn t) (began : Became (join clock (batchesIn t)) t q nq w nw) where
-    pub able : nw ≤ 32 → 64 ≤ length q → 64 ≤ length w → length m ≡ 32 → Workable quick v x input codes flags balances limits t q nq w nw rs bs m out r
+    pub able : nw ≤ 32 → 64 ≤ length q → 64 ≤ length w → length m ≡ 32 → Workable quick v x input codes flags balances sublimits t q nq w nw rs bs m out r
     able f lq lw lm =
-        subst (λ (u : Desk). Workable quick u x input codes flags balances limits t q nq w nw rs bs m out r) (sym same) (work-able m q nq w nw held began f lq lw lm)
+        subst (λ (u : Desk). Workable quick u x input codes flags balances sublimits t q nq w nw rs bs m out r) (sym same) (work-able m q nq w nw held began f lq lw lm)
 
     module _ (answer : Answer) (balances₂ limits₂ t₂ q₂ : List ℕ) (nq₂ : ℕ) (w₂ : List ℕ) (nw₂ : ℕ) (rs₂ bs₂ m₂ out₂ : List ℕ) (at₂ texts₂ : ℕ) (r₂ : List ℕ) (k₂ : ℕ)
-        (h : Worked (middle v codes flags balances limits t q nq w nw rs bs) (actedIn v x input codes flags balances limits t q nq w nw rs bs)
-        (testedIn quick v x input codes flags balances limits t q nq w nw rs bs m) out r (v .texts) answer balances₂ limits₂ t₂ q₂ nq₂ w₂ nw₂ rs₂ bs₂ m₂ out₂ at₂ texts₂ r₂ k₂)
+        (h : Worked (middle v codes flags balances sublimits t q nq w nw rs bs) (actedIn v x input codes flags balances sublimits t q nq w nw rs bs)
+        (testedIn quick v x input codes flags balances sublimits t q nq w nw rs bs m) out r (v .texts) answer balances₂ limits₂ t₂ q₂ nq₂ w₂ nw₂ rs₂ bs₂ m₂ out₂ at₂ texts₂ r₂ k₂)
         (long : length rs₂ ≡ length rs) (wide : length bs₂ ≡ length bs) where
       moved-work : Worked (s m q nq w nw held began) (a m q nq w nw held began) (o m q nq w nw held began) out r (d .texts) answer balances₂ limits₂ t₂ q₂ nq₂ w₂ nw₂ rs₂ bs₂ m₂ out₂ at₂ texts₂ r₂ k₂
       moved-work =
-          subst (λ (u : Desk). Worked (middle u codes flags balances limits t q nq w nw rs bs) (actedIn u x input codes flags balances limits t q nq w nw rs bs)
-          (testedIn quick u x input codes flags balances limits t q nq w nw rs bs m) out r (u .texts) answer balances₂ limits₂ t₂ q₂ nq₂ w₂ nw₂ rs₂ bs₂ m₂ out₂ at₂ texts₂ r₂ k₂) same h
+          subst (λ (u : Desk). Worked (middle u codes flags balances sublimits t q nq w nw rs bs) (actedIn u x input codes flags balances sublimits t q nq w nw rs bs)
+          (testedIn quick u x input codes flags balances sublimits t q nq w nw rs bs m) out r (u .texts) answer balances₂ limits₂ t₂ q₂ nq₂ w₂ nw₂ rs₂ bs₂ m₂ out₂ at₂ texts₂ r₂ k₂) same h
 
       pub ready-on : (nq₂ ≤ length q₂) × (nw₂ ≤ length w₂)
       ready-on = (moved-work .batches .ready .queue, moved-work .batches .ready .pending)

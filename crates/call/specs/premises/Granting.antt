@@ -29,8 +29,8 @@ pub record Granted (d : Desk) (t : Tables) : Type 0 where
   pub some-banks : 1 ≤ d .banks
   pub few-banks : d .banks ≤ 64
   pub long : Long t
-  pub house : RightHouse (houseOn d (t .codes) (t .flags)) (t .balances) (t .limits)
-  pub books : Books (t .balances) (t .limits)
+  pub house : RightHouse (houseOn d (t .codes) (t .flags)) (t .balances) (t .sublimits)
+  pub books : Books (t .balances) (t .sublimits)
   -- the batches, and that the table is just their words
   pub stood : Stood (d .banks) (batchesIn (t .batches))
   pub memory : RightMemory (batchesIn (t .batches)) (memoryIn (t .batches))

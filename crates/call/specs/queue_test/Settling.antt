@@ -15,8 +15,8 @@ use Rattle.model.specs.Ending.{emptied}
 use Rattle.call_orders.specs.Heads.{NeatTable}
 use Rattle.call_orders.specs.Stages.{placesIn}
 
-pub record Testable (balances limits t m q : List ℕ) (nq : ℕ) (r : List ℕ) : Type 0 where
-  pub books : Books balances limits
+pub record Testable (balances sublimits t m q : List ℕ) (nq : ℕ) (r : List ℕ) : Type 0 where
+  pub books : Books balances sublimits
   pub table : NeatTable t
   pub good : AllGood t (take nq q)
   pub memory : length m ≡ 32
@@ -24,11 +24,11 @@ pub record Testable (balances limits t m q : List ℕ) (nq : ℕ) (r : List ℕ)
   pub queue : nq ≤ length q
   pub tries : 528 ≤ length r
 
-abbrev pub outcomeOf : Bool → (balances limits t m q : List ℕ) (nq : ℕ) → Outcome
-outcomeOf quick balances limits t m q nq = test quick (rowPayments t) (fuel (take nq q)) (accounts balances limits) m (take nq q)
+abbrev pub outcomeOf : Bool → (balances sublimits t m q : List ℕ) (nq : ℕ) → Outcome
+outcomeOf quick balances sublimits t m q nq = test quick (rowPayments t) (fuel (take nq q)) (accounts balances sublimits) m (take nq q)
 
-pub record Ended (o : Outcome) (limits t r : List ℕ) (balances′ t′ m′ q′ : List ℕ) (nq′ : ℕ) (r′ : List ℕ) (k : ℕ) : Type 0 where
-  pub books : accounts balances′ limits ≡ o .books
+pub record Ended (o : Outcome) (sublimits t r : List ℕ) (balances′ t′ m′ q′ : List ℕ) (nq′ : ℕ) (r′ : List ℕ) (k : ℕ) : Type 0 where
+  pub books : accounts balances′ sublimits ≡ o .books
   pub table : NeatTable t′
   pub places : placesIn t′ ≡ emptied (o .done) (placesIn t)
   pub memory : m′ ≡ forgotten (o .done) (o .memory)

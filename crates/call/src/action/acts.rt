@@ -29,7 +29,7 @@ pub fn act(
     input: &[u8],
     codes: &[u64],
     flags: &[u64],
-    limits: &mut [u64],
+    sublimits: &mut [u64],
     batches: &mut [u64],
     references: &mut [u64],
     bins: &mut [u64],
@@ -41,8 +41,8 @@ pub fn act(
     out: &mut [u8],
 ) -> Acted
     requires { ⌜ Actable desk (now codes) (now flags) (now batches) (now queue) nq (now pending) nw (now out) ⌝ }
-    requires { ⌜ (desk .n ≤ 8) × (length (now limits) ≡ 64) × (length (now references) ≡ 6144) × (length (now bins) ≡ 1536) ⌝ }
-    ensures { λ y. ⌜ ((balances : List ℕ) → Carried (actedIn desk action (now (input .entry)) (now (codes .entry)) (now (flags .entry)) balances (now (limits .entry)) (now (batches .entry)) (now (queue .entry)) nq (now (pending .entry)) nw (now (references .entry)) (now (bins .entry))) balances (now (memory .entry)) (now (out .entry)) (desk .texts) (y .answer) (now (limits .exit)) (now (batches .exit)) (now (queue .exit)) (y .queued) (now (pending .exit)) (y .pending) (now (memory .exit)) (now (out .exit)) (y .at) (y .texts) (now (references .exit)) (now (bins .exit))) ⌝ }
+    requires { ⌜ (desk .n ≤ 8) × (length (now sublimits) ≡ 64) × (length (now references) ≡ 6144) × (length (now bins) ≡ 1536) ⌝ }
+    ensures { λ y. ⌜ ((balances : List ℕ) → Carried (actedIn desk action (now (input .entry)) (now (codes .entry)) (now (flags .entry)) balances (now (sublimits .entry)) (now (batches .entry)) (now (queue .entry)) nq (now (pending .entry)) nw (now (references .entry)) (now (bins .entry))) balances (now (memory .entry)) (now (out .entry)) (desk .texts) (y .answer) (now (sublimits .exit)) (now (batches .exit)) (now (queue .exit)) (y .queued) (now (pending .exit)) (y .pending) (now (memory .exit)) (now (out .exit)) (y .at) (y .texts) (now (references .exit)) (now (bins .exit))) ⌝ }
 {
     match action {
         Action::Message(sender) => call_message::receive::receive(
@@ -62,7 +62,7 @@ pub fn act(
             out,
         ),
         Action::SubLimit(code, cents) => {
-            let answer = call_change::sub_limit(codes, desk.banks, limits, memory, code, cents);
+            let answer = call_change::sub_limit(codes, desk.banks, sublimits, memory, code, cents);
             quiet(answer, nq, nw, desk.texts)
         }
         Action::Status(code, bin, letter) => {

@@ -1,5 +1,5 @@
 use native.Mathlib.Omega.{arith}
-use Rattle.call_change.proofs.LimitLaws.{bank-inside, limit-unknown, limit-out, limit-set}
+use Rattle.call_change.proofs.SublimitLaws.{bank-inside, sublimit-unknown, sublimit-out, sublimit-set}
 use borrow.Author.Needs.{needs}
 use Rattle.call_change.proofs.sub_limit.Statement.{statement}
 use Rattle.call_change.proofs.sub_limit.Tie as tie
@@ -22,19 +22,19 @@ enum-told c = search needs
 
 -- src/lib.rt:33:9
 returns : tie.Need-returns
-returns c = limit-unknown _ _ _ (c .before .before .bank-place .result) (c .before .before .bank-place .ensures) _ _ _ (search needs)
+returns c = sublimit-unknown _ _ _ (c .before .before .bank-place .result) (c .before .before .bank-place .ensures) _ _ _ (search needs)
 
 -- src/lib.rt:36:9
 returns-2 : tie.Need-returns-2
-returns-2 c = limit-out _ _ _ (c .before .before .before .before .bank-place .result) (c .before .before .before .before .bank-place .ensures) _ _ _ _ (c .before .before .found .given .1) (c .if1 .taken)
+returns-2 c = sublimit-out _ _ _ (c .before .before .before .before .bank-place .result) (c .before .before .before .before .bank-place .ensures) _ _ _ _ (c .before .before .found .given .1) (c .if1 .taken)
 
 -- src/lib.rt:38:5
-mul-limits : tie.Need-mul-limits
-mul-limits c = omega (arith, bank-inside _ _ _ (c .before .before .before .before .bank-place .result) (c .before .before .before .before .bank-place .ensures) _ (c .before .before .found .given .1))
+mul-sublimits : tie.Need-mul-sublimits
+mul-sublimits c = omega (arith, bank-inside _ _ _ (c .before .before .before .before .bank-place .result) (c .before .before .before .before .bank-place .ensures) _ (c .before .before .found .given .1))
 
 -- src/lib.rt:38:5
-slice-write-limits : tie.Need-slice-write-limits
-slice-write-limits c = omega (arith, bank-inside _ _ _ (c .before .before .before .before .bank-place .result) (c .before .before .before .before .bank-place .ensures) _ (c .before .before .found .given .1))
+slice-write-sublimits : tie.Need-slice-write-sublimits
+slice-write-sublimits c = omega (arith, bank-inside _ _ _ (c .before .before .before .before .bank-place .result) (c .before .before .before .before .bank-place .ensures) _ (c .before .before .found .given .1))
 
 -- src/lib.rt:39:5
 wake-bank-requires : tie.Need-wake-bank-requires
@@ -50,7 +50,7 @@ same-length-2 c = search needs
 
 -- src/lib.rt:20:1
 returns-3 : tie.Need-returns-3
-returns-3 c = limit-set _ _ _ (c .before .before .before .before .before .before .before .before .bank-place .result) (c .before .before .before .before .before .before .before .before .bank-place .ensures) _ _ _ _ (c .before .before .before .before .before .before .found .given .1) (search needs) _ (c .before .before .wake-bank .ensures)
+returns-3 c = sublimit-set _ _ _ (c .before .before .before .before .before .before .before .before .bank-place .result) (c .before .before .before .before .before .before .before .before .bank-place .ensures) _ _ _ _ (c .before .before .before .before .before .before .found .given .1) (search needs) _ (c .before .before .wake-bank .ensures)
 
 pub sub-limit-spec : {M : Type 1} → statement M
 sub-limit-spec =
@@ -61,8 +61,8 @@ sub-limit-spec =
     enum-told
     returns
     returns-2
-    mul-limits
-    slice-write-limits
+    mul-sublimits
+    slice-write-sublimits
     wake-bank-requires
     same-length
     same-length-2

@@ -46,7 +46,7 @@ use denote.Triple.Table.{entered}
 use denote.Triple.Walked.{says, needs, Stays, stay-slice, stay-dropped, walkOf, goes-slice, goes-dropped, Walks, ends-at, walked, walk-meets}
 use denote.Exit.{yes}
 use Rattle.call_records.specs.declared.Account.{Account}
-use Rattle.call_records.specs.Records.{codesOf, flagsOf, balancesOf, limitsOf, Columns, Long}
+use Rattle.call_records.specs.Records.{codesOf, flagsOf, balancesOf, sublimitsOf, Columns, Long}
 use Rattle.call_records.proofs.Rows.{none, holds, fails, column, whole-row}
 use Rattle.call_records.proofs.Account as T
 use Rattle.call_records.proofs.Account.Laws as T′
@@ -82,7 +82,7 @@ abbrev Four : Type 0
 Four = List ℕ × List ℕ × List ℕ × List ℕ
 
 abbrev stored : List Account → Four → ℕ → Four
-stored ys z i = (set (z .0) i (getD ys i none .code), set (z .1) i (getD ys i none .flags), set (z .2) i (getD ys i none .balance), set (z .3) i (getD ys i none .limit))
+stored ys z i = (set (z .0) i (getD ys i none .code), set (z .1) i (getD ys i none .flags), set (z .2) i (getD ys i none .balance), set (z .3) i (getD ys i none .sublimit))
 
 module _ {M : Type 1} (𝓤 : URA M) (H : Heap 𝓤) (A : Atoms 𝓤) (W : Given 𝓤 H A) (at-mem : Memory → SProp 𝓤) (run : Routine → Fun 𝓤) (κ₀ κ₁ κ₂ κ₃ κ₄ : Lft) (q₀ q₁ q₂ q₃ q₄ : Share) (b₀ o₀ : ℕ) (γ₀ : GName) (ys : List Account) (b₁ o₁ : ℕ) (γ₁ : GName) (ws₁ : List ℕ) (b₂ o₂ : ℕ) (γ₂ : GName) (ws₂ : List ℕ) (b₃ o₃ : ℕ) (γ₃ : GName) (ws₃ : List ℕ) (b₄ o₄ : ℕ) (γ₄ : GName) (ws₄ : List ℕ)
     (long : Long ys ws₁ ws₂ ws₃ ws₄) (g₀ : Room T.the-row (length ys)) (g₁ : Room u64 (length ws₁)) (g₂ : Room u64 (length ws₂)) (g₃ : Room u64 (length ws₃)) (g₄ : Room u64 (length ws₄)) where
@@ -125,7 +125,7 @@ module _ {M : Type 1} (𝓤 : URA M) (H : Heap 𝓤) (A : Atoms 𝓤) (W : Given
     At i z = ‵ (row T.the-row q′ ys b₀ o₀) ∷ ‵ (row u64 fullShare (z .0) b₁ o₁) ∷ ‵ (row u64 fullShare (z .1) b₂ o₂) ∷ ‵ (row u64 fullShare (z .2) b₃ o₃) ∷ ‵ (row u64 fullShare (z .3) b₄ o₄) ∷ ‵ (fat fullShare word l₆ 0 (vint w64 i)) ∷ ‵ (froom tyBool l₇ 0) ∷ ‵ (froom word l₈ 0) ∷ ‵ (froom tyPtr l₉ 0) ∷ ‵ (froom word l₁₀ 0) ∷ ‵ (froom word l₁₁ 0) ∷ ‵ (froom tyPtr l₁₂ 0) ∷ ‵ (froom tyPtr l₁₃ 0) ∷ ‵ (froom tyPtr l₁₄ 0) ∷ ‵ (froom tyPtr l₁₅ 0) ∷ ‵ (froom tyPtr l₁₆ 0) ∷ ‵ (froom tyPtr l₁₇ 0) ∷ ‵ (froom tyPtr l₁₈ 0) ∷ Frame
 
     abbrev Facts : ℕ → ℕ → Four → Type 0
-    Facts t i z = (i + t ≡ 64) × (length (z .0) ≡ 64) × (length (z .1) ≡ 64) × (length (z .2) ≡ 64) × (length (z .3) ≡ 64) × (take i (z .0) ≡ take i (codesOf ys)) × (take i (z .1) ≡ take i (flagsOf ys)) × (take i (z .2) ≡ take i (balancesOf ys)) × (take i (z .3) ≡ take i (limitsOf ys))
+    Facts t i z = (i + t ≡ 64) × (length (z .0) ≡ 64) × (length (z .1) ≡ 64) × (length (z .2) ≡ 64) × (length (z .3) ≡ 64) × (take i (z .0) ≡ take i (codesOf ys)) × (take i (z .1) ≡ take i (flagsOf ys)) × (take i (z .2) ≡ take i (balancesOf ys)) × (take i (z .3) ≡ take i (sublimitsOf ys))
 
     abbrev Inv : ℕ → SProp 𝓤
     Inv t = ex 𝓤 (λ (i : ℕ). ex 𝓤 (λ (z : Four). guard 𝓤 (Facts t i z) (⋆ 𝓤 H A (At i z))))
@@ -190,7 +190,7 @@ module _ {M : Type 1} (𝓤 : URA M) (H : Heap 𝓤) (A : Atoms 𝓤) (W : Given
         rewrite ! 17 (λ (p : ℕ). ‵ (fat fullShare tyPtr l₁₈ 0 (vptr b₄ p))) (sym (place-is 8 o₄ i)) refl $
         move ! (4 ∷ []) $ elem-out ! u64 (Is u64) (shows 𝓤 H A u64) (uint-vals w64) (uint-tells w64) fullShare (z .3) i 0 b₄ o₄ (in₄ (longs .3)) (λ _.
         assigns ! (of-opd ! (load ! (from ! (stop !)) (look ! 11 refl))) (from ! (hop ! (look ! 19 refl) (stop !))) (store ! 0 refl (tt, record { fits = fit₄ h₄ })) $
-        move ! (1 ∷ []) $ drop ! $ owned ! u64 (Is u64) (uint-makes 𝓤 H A W w64) (getD ys i none .limit) _ (refl, fit₄ h₄) $ move ! (1 ∷ 0 ∷ 2 ∷ []) $ elem-put ! u64 fullShare (z .3) i (getD ys i none .limit) (vint w64 (getD ys i none .limit) ∷ []) b₄ o₄ (in₄ (longs .3)) $
+        move ! (1 ∷ []) $ drop ! $ owned ! u64 (Is u64) (uint-makes 𝓤 H A W w64) (getD ys i none .sublimit) _ (refl, fit₄ h₄) $ move ! (1 ∷ 0 ∷ 2 ∷ []) $ elem-put ! u64 fullShare (z .3) i (getD ys i none .sublimit) (vint w64 (getD ys i none .sublimit) ∷ []) b₄ o₄ (in₄ (longs .3)) $
         assigns-last ! (bin ! (load ! (from ! (stop !)) (look ! 5 refl)) (lit ! tt) (record { fits = next-fits })) (from ! (stop !)) (store ! 5 refl (tt, record { fits = next-fits })) $
         forget ! 6 refl $ forget ! 7 refl $ forget ! 8 refl $ forget ! 9 refl $ forget ! 10 refl $ forget ! 11 refl $ forget ! 12 refl $ forget ! 13 refl $ forget ! 14 refl $ forget ! 15 refl $ forget ! 16 refl $ forget ! 17 refl $ rewrite ! 5 (λ (j : ℕ). ‵ (fat fullShare word l₆ 0 (vint w64 j))) (add-one i) refl $
         keep ! (1 ∷ 4 ∷ 3 ∷ 2 ∷ 0 ∷ 5 ∷ 6 ∷ 7 ∷ 8 ∷ 9 ∷ 10 ∷ 11 ∷ 12 ∷ 13 ∷ 14 ∷ 15 ∷ 16 ∷ 17 ∷ 18 ∷ 19 ∷ 20 ∷ 21 ∷ 22 ∷ 23 ∷ 24 ∷ 25 ∷ 26 ∷ 27 ∷ 28 ∷ 29 ∷ 30 ∷ 31 ∷ 32 ∷ 33 ∷ 34 ∷ 35 ∷ 36 ∷ 37 ∷ 38 ∷ 39 ∷ 40 ∷ 41 ∷ 42 ∷ 43 ∷ 44 ∷ 45 ∷ 46 ∷ 47 ∷ 48 ∷ 49 ∷ 50 ∷ 51 ∷ 52 ∷ 53 ∷ 54 ∷ 55 ∷ []) $ by ! k))))))))
@@ -219,7 +219,7 @@ module _ {M : Type 1} (𝓤 : URA M) (H : Heap 𝓤) (A : Atoms 𝓤) (W : Given
         fit₃ : Is T.the-row (getD ys i none) (vals (getD ys i none)) → getD ys i none .balance < 2 ^ 64
         fit₃ g = LL.owed T.the-type T′.the-laws (getD ys i none) _ g .1 .1 .0 .1
 
-        fit₄ : Is T.the-row (getD ys i none) (vals (getD ys i none)) → getD ys i none .limit < 2 ^ 64
+        fit₄ : Is T.the-row (getD ys i none) (vals (getD ys i none)) → getD ys i none .sublimit < 2 ^ 64
         fit₄ g = LL.owed T.the-type T′.the-laws (getD ys i none) _ g .1 .1 .1 .0 .1
 
         fit-row : i * 32 < 2 ^ 64
@@ -257,13 +257,13 @@ module _ {M : Type 1} (𝓤 : URA M) (H : Heap 𝓤) (A : Atoms 𝓤) (W : Given
     turn-at : (t i : ℕ) (z : Four) → Facts t i z → ent 𝓤 (⋆ 𝓤 H A (At i z)) (Wp 𝓤 H C Λ En body.turn-1 (afterTurn 𝓤 H (Below t) Left))
     turn-at zero i z fs =
         let over : i ≡ 64 = omega (arith, fs .0) in
-        ends i z (Below zero) (omega (arith, fs .0)) (fs .1 ∙ sym (long .codes-long)) (fs .2 ∙ sym (long .flags-long)) (fs .3 ∙ sym (long .balances-long)) (fs .4 ∙ sym (long .limits-long))
-        (record { codes-are = whole-row i (z .0) (codesOf ys) over (fs .1) (length-map ys (λ (a : Account). a .code) ∙ long .row-long) (fs .5); flags-are = whole-row i (z .1) (flagsOf ys) over (fs .2) (length-map ys (λ (a : Account). a .flags) ∙ long .row-long) (fs .6); balances-are = whole-row i (z .2) (balancesOf ys) over (fs .3) (length-map ys (λ (a : Account). a .balance) ∙ long .row-long) (fs .7); limits-are = whole-row i (z .3) (limitsOf ys) over (fs .4) (length-map ys (λ (a : Account). a .limit) ∙ long .row-long) (fs .8) })
+        ends i z (Below zero) (omega (arith, fs .0)) (fs .1 ∙ sym (long .codes-long)) (fs .2 ∙ sym (long .flags-long)) (fs .3 ∙ sym (long .balances-long)) (fs .4 ∙ sym (long .sublimits-long))
+        (record { codes-are = whole-row i (z .0) (codesOf ys) over (fs .1) (length-map ys (λ (a : Account). a .code) ∙ long .row-long) (fs .5); flags-are = whole-row i (z .1) (flagsOf ys) over (fs .2) (length-map ys (λ (a : Account). a .flags) ∙ long .row-long) (fs .6); balances-are = whole-row i (z .2) (balancesOf ys) over (fs .3) (length-map ys (λ (a : Account). a .balance) ∙ long .row-long) (fs .7); sublimits-are = whole-row i (z .3) (sublimitsOf ys) over (fs .4) (length-map ys (λ (a : Account). a .sublimit) ∙ long .row-long) (fs .8) })
     turn-at (suc t) i z fs =
         let small : i < 64 = omega (arith, fs .0) in
         let inside : i < length ys = omega (arith, fs .0, long .row-long) in
         more i z (Below (suc t)) small (fs .1, fs .2, fs .3, fs .4)
-        (below t (suc i) (stored ys z i) (omega (arith, fs .0), length-set (z .0) i _ ∙ fs .1, length-set (z .1) i _ ∙ fs .2, length-set (z .2) i _ ∙ fs .3, length-set (z .3) i _ ∙ fs .4, column (λ (a : Account). a .code) ys (z .0) i inside (omega (arith, fs .0, fs .1)) (fs .5), column (λ (a : Account). a .flags) ys (z .1) i inside (omega (arith, fs .0, fs .2)) (fs .6), column (λ (a : Account). a .balance) ys (z .2) i inside (omega (arith, fs .0, fs .3)) (fs .7), column (λ (a : Account). a .limit) ys (z .3) i inside (omega (arith, fs .0, fs .4)) (fs .8)))
+        (below t (suc i) (stored ys z i) (omega (arith, fs .0), length-set (z .0) i _ ∙ fs .1, length-set (z .1) i _ ∙ fs .2, length-set (z .2) i _ ∙ fs .3, length-set (z .3) i _ ∙ fs .4, column (λ (a : Account). a .code) ys (z .0) i inside (omega (arith, fs .0, fs .1)) (fs .5), column (λ (a : Account). a .flags) ys (z .1) i inside (omega (arith, fs .0, fs .2)) (fs .6), column (λ (a : Account). a .balance) ys (z .2) i inside (omega (arith, fs .0, fs .3)) (fs .7), column (λ (a : Account). a .sublimit) ys (z .3) i inside (omega (arith, fs .0, fs .4)) (fs .8)))
 
     turns : (t : ℕ) → ent 𝓤 (Inv t) (Wp 𝓤 H C Λ En body.turn-1 (afterTurn 𝓤 H (Below t) Left))
     turns t = exE 𝓤 (λ (i : ℕ). ex 𝓤 (λ (z : Four). guard 𝓤 (Facts t i z) (⋆ 𝓤 H A (At i z)))) (λ i.
@@ -272,7 +272,7 @@ module _ {M : Type 1} (𝓤 : URA M) (H : Heap 𝓤) (A : Atoms 𝓤) (W : Given
     loops : ent 𝓤 (⋆ 𝓤 H A (At 0 (ws₁, ws₂, ws₃, ws₄))) (Wp 𝓤 H C Λ En (loop body.turn-1) Left)
     loops =
         via 𝓤 (Inv 64)
-        (via 𝓤 (guard 𝓤 (Facts 64 0 (ws₁, ws₂, ws₃, ws₄)) (⋆ 𝓤 H A (At 0 (ws₁, ws₂, ws₃, ws₄)))) (guardI 𝓤 (Facts 64 0 (ws₁, ws₂, ws₃, ws₄)) (⋆ 𝓤 H A (At 0 (ws₁, ws₂, ws₃, ws₄))) (omega arith, long .codes-long, long .flags-long, long .balances-long, long .limits-long, refl, refl, refl, refl))
+        (via 𝓤 (guard 𝓤 (Facts 64 0 (ws₁, ws₂, ws₃, ws₄)) (⋆ 𝓤 H A (At 0 (ws₁, ws₂, ws₃, ws₄)))) (guardI 𝓤 (Facts 64 0 (ws₁, ws₂, ws₃, ws₄)) (⋆ 𝓤 H A (At 0 (ws₁, ws₂, ws₃, ws₄))) (omega arith, long .codes-long, long .flags-long, long .balances-long, long .sublimits-long, refl, refl, refl, refl))
         (via 𝓤 (ex 𝓤 (λ (u : Four). guard 𝓤 (Facts 64 0 u) (⋆ 𝓤 H A (At 0 u)))) (exI 𝓤 (λ (u : Four). guard 𝓤 (Facts 64 0 u) (⋆ 𝓤 H A (At 0 u))) (ws₁, ws₂, ws₃, ws₄))
         (exI 𝓤 (λ (j : ℕ). ex 𝓤 (λ (u : Four). guard 𝓤 (Facts 64 j u) (⋆ 𝓤 H A (At j u)))) 0)))
         (loop-rule 𝓤 H (W .laws) 𝓣 _<_ (Nat·lt-wfRel .wf) En body.turn-1 Left Inv turns 64)

@@ -46,7 +46,7 @@ use denote.Triple.Table.{entered}
 use denote.Triple.Walked.{says, needs, Stays, stay-slice, stay-dropped, walkOf, goes-slice, goes-dropped, Walks, ends-at, walked, walk-meets}
 use denote.Exit.{yes}
 use Rattle.call_records.specs.declared.Account.{Account}
-use Rattle.call_records.specs.Records.{codesOf, flagsOf, balancesOf, limitsOf, Columns, Long}
+use Rattle.call_records.specs.Records.{codesOf, flagsOf, balancesOf, sublimitsOf, Columns, Long}
 use Rattle.call_records.proofs.Rows.{none, holds, fails, field-stored, whole-row}
 use Rattle.call_records.proofs.Account as T
 use Rattle.call_records.proofs.Account.Laws as T′
@@ -79,7 +79,7 @@ slice₄ = sliceTy (tyRef (named 4) imm word)
 
 -- the record that word i of each column makes
 abbrev made : (ws₁ ws₂ ws₃ ws₄ : List ℕ) → ℕ → Account
-made ws₁ ws₂ ws₃ ws₄ i = record { code = getD ws₁ i 0; flags = getD ws₂ i 0; balance = getD ws₃ i 0; limit = getD ws₄ i 0 }
+made ws₁ ws₂ ws₃ ws₄ i = record { code = getD ws₁ i 0; flags = getD ws₂ i 0; balance = getD ws₃ i 0; sublimit = getD ws₄ i 0 }
 
 module _ {M : Type 1} (𝓤 : URA M) (H : Heap 𝓤) (A : Atoms 𝓤) (W : Given 𝓤 H A) (at-mem : Memory → SProp 𝓤) (run : Routine → Fun 𝓤) (κ₀ κ₁ κ₂ κ₃ κ₄ : Lft) (q₀ q₁ q₂ q₃ q₄ : Share) (b₀ o₀ : ℕ) (γ₀ : GName) (ys : List Account) (b₁ o₁ : ℕ) (γ₁ : GName) (ws₁ : List ℕ) (b₂ o₂ : ℕ) (γ₂ : GName) (ws₂ : List ℕ) (b₃ o₃ : ℕ) (γ₃ : GName) (ws₃ : List ℕ) (b₄ o₄ : ℕ) (γ₄ : GName) (ws₄ : List ℕ)
     (long : Long ys ws₁ ws₂ ws₃ ws₄) (g₀ : Room T.the-row (length ys)) (g₁ : Room u64 (length ws₁)) (g₂ : Room u64 (length ws₂)) (g₃ : Room u64 (length ws₃)) (g₄ : Room u64 (length ws₄)) where
@@ -122,7 +122,7 @@ module _ {M : Type 1} (𝓤 : URA M) (H : Heap 𝓤) (A : Atoms 𝓤) (W : Given
     At i z = ‵ (row T.the-row fullShare z b₀ o₀) ∷ ‵ (row u64 q₁′ ws₁ b₁ o₁) ∷ ‵ (row u64 q₂′ ws₂ b₂ o₂) ∷ ‵ (row u64 q₃′ ws₃ b₃ o₃) ∷ ‵ (row u64 q₄′ ws₄ b₄ o₄) ∷ ‵ (fat fullShare word l₆ 0 (vint w64 i)) ∷ ‵ (froom tyBool l₇ 0) ∷ ‵ (froom word l₈ 0) ∷ ‵ (froom tyPtr l₉ 0) ∷ ‵ (froom word l₁₀ 0) ∷ ‵ (froom word l₁₁ 0) ∷ ‵ (froom tyPtr l₁₂ 0) ∷ ‵ (froom tyPtr l₁₃ 0) ∷ ‵ (froom tyPtr l₁₄ 0) ∷ ‵ (froom tyPtr l₁₅ 0) ∷ ‵ (froom tyPtr l₁₆ 0) ∷ ‵ (froom tyPtr l₁₇ 0) ∷ ‵ (froom tyPtr l₁₈ 0) ∷ Frame
 
     abbrev Facts : ℕ → ℕ → List Account → Type 0
-    Facts t i z = (i + t ≡ 64) × (length z ≡ 64) × (take i (codesOf z) ≡ take i ws₁) × (take i (flagsOf z) ≡ take i ws₂) × (take i (balancesOf z) ≡ take i ws₃) × (take i (limitsOf z) ≡ take i ws₄)
+    Facts t i z = (i + t ≡ 64) × (length z ≡ 64) × (take i (codesOf z) ≡ take i ws₁) × (take i (flagsOf z) ≡ take i ws₂) × (take i (balancesOf z) ≡ take i ws₃) × (take i (sublimitsOf z) ≡ take i ws₄)
 
     abbrev Inv : ℕ → SProp 𝓤
     Inv t = ex 𝓤 (λ (i : ℕ). ex 𝓤 (λ (z : List Account). guard 𝓤 (Facts t i z) (⋆ 𝓤 H A (At i z))))
@@ -199,7 +199,7 @@ module _ {M : Type 1} (𝓤 : URA M) (H : Heap 𝓤) (A : Atoms 𝓤) (W : Given
         in₃ = omega (arith, long .balances-long)
 
         in₄ : i < length ws₄
-        in₄ = omega (arith, long .limits-long)
+        in₄ = omega (arith, long .sublimits-long)
 
         is-made : getD ws₁ i 0 < 2 ^ 64 → getD ws₂ i 0 < 2 ^ 64 → getD ws₃ i 0 < 2 ^ 64 → getD ws₄ i 0 < 2 ^ 64 → Is T.the-row (made ws₁ ws₂ ws₃ ws₄ i) (vals (made ws₁ ws₂ ws₃ ws₄ i))
         is-made c₁ c₂ c₃ c₄ = LL.owes T.the-type T′.the-laws (made ws₁ ws₂ ws₃ ws₄ i) ((refl, c₁), ((refl, c₂), ((refl, c₃), ((refl, c₄), tt))))
@@ -240,12 +240,12 @@ module _ {M : Type 1} (𝓤 : URA M) (H : Heap 𝓤) (A : Atoms 𝓤) (W : Given
     turn-at zero i z fs =
         let over : i ≡ 64 = omega (arith, fs .0) in
         ends i z (Below zero) (omega (arith, fs .0)) (fs .1 ∙ sym (long .row-long))
-        (record { codes-are = sym (whole-row i (codesOf z) ws₁ over (length-map z (λ (a : Account). a .code) ∙ fs .1) (long .codes-long) (fs .2)); flags-are = sym (whole-row i (flagsOf z) ws₂ over (length-map z (λ (a : Account). a .flags) ∙ fs .1) (long .flags-long) (fs .3)); balances-are = sym (whole-row i (balancesOf z) ws₃ over (length-map z (λ (a : Account). a .balance) ∙ fs .1) (long .balances-long) (fs .4)); limits-are = sym (whole-row i (limitsOf z) ws₄ over (length-map z (λ (a : Account). a .limit) ∙ fs .1) (long .limits-long) (fs .5)) })
+        (record { codes-are = sym (whole-row i (codesOf z) ws₁ over (length-map z (λ (a : Account). a .code) ∙ fs .1) (long .codes-long) (fs .2)); flags-are = sym (whole-row i (flagsOf z) ws₂ over (length-map z (λ (a : Account). a .flags) ∙ fs .1) (long .flags-long) (fs .3)); balances-are = sym (whole-row i (balancesOf z) ws₃ over (length-map z (λ (a : Account). a .balance) ∙ fs .1) (long .balances-long) (fs .4)); sublimits-are = sym (whole-row i (sublimitsOf z) ws₄ over (length-map z (λ (a : Account). a .sublimit) ∙ fs .1) (long .sublimits-long) (fs .5)) })
     turn-at (suc t) i z fs =
         let small : i < 64 = omega (arith, fs .0) in
         let inside : i < length z = omega (arith, fs .0, fs .1) in
         more i z (Below (suc t)) small (fs .1)
-        (below t (suc i) (set z i (made ws₁ ws₂ ws₃ ws₄ i)) (omega (arith, fs .0), length-set z i _ ∙ fs .1, field-stored (λ (a : Account). a .code) z ws₁ i (made ws₁ ws₂ ws₃ ws₄ i) inside (omega (arith, fs .0, long .codes-long)) refl (fs .2), field-stored (λ (a : Account). a .flags) z ws₂ i (made ws₁ ws₂ ws₃ ws₄ i) inside (omega (arith, fs .0, long .flags-long)) refl (fs .3), field-stored (λ (a : Account). a .balance) z ws₃ i (made ws₁ ws₂ ws₃ ws₄ i) inside (omega (arith, fs .0, long .balances-long)) refl (fs .4), field-stored (λ (a : Account). a .limit) z ws₄ i (made ws₁ ws₂ ws₃ ws₄ i) inside (omega (arith, fs .0, long .limits-long)) refl (fs .5)))
+        (below t (suc i) (set z i (made ws₁ ws₂ ws₃ ws₄ i)) (omega (arith, fs .0), length-set z i _ ∙ fs .1, field-stored (λ (a : Account). a .code) z ws₁ i (made ws₁ ws₂ ws₃ ws₄ i) inside (omega (arith, fs .0, long .codes-long)) refl (fs .2), field-stored (λ (a : Account). a .flags) z ws₂ i (made ws₁ ws₂ ws₃ ws₄ i) inside (omega (arith, fs .0, long .flags-long)) refl (fs .3), field-stored (λ (a : Account). a .balance) z ws₃ i (made ws₁ ws₂ ws₃ ws₄ i) inside (omega (arith, fs .0, long .balances-long)) refl (fs .4), field-stored (λ (a : Account). a .sublimit) z ws₄ i (made ws₁ ws₂ ws₃ ws₄ i) inside (omega (arith, fs .0, long .sublimits-long)) refl (fs .5)))
 
     turns : (t : ℕ) → ent 𝓤 (Inv t) (Wp 𝓤 H C Λ En body.turn-1 (afterTurn 𝓤 H (Below t) Left))
     turns t = exE 𝓤 (λ (i : ℕ). ex 𝓤 (λ (z : List Account). guard 𝓤 (Facts t i z) (⋆ 𝓤 H A (At i z)))) (λ i.

@@ -8,14 +8,14 @@ use Rattle.cli_book.proofs.read_banks.Statement.{statement}
 use Rattle.cli_book.proofs.read_banks.Tie as tie
 
 abbrev Inv-loop : tie.InvT-loop
-Inv-loop s at row codes₀ flags₀ balances₀ limits₀ n₀ here₀ codes flags balances limits n here = Holding s at row codes flags balances limits n here
+Inv-loop s at row codes₀ flags₀ balances₀ limits₀ n₀ here₀ codes flags balances sublimits n here = Holding s at row codes flags balances sublimits n here
 
 abbrev μ-loop : tie.MeasureT-loop
-μ-loop s at row codes₀ flags₀ balances₀ limits₀ n₀ here₀ codes flags balances limits n here = 64 - n
+μ-loop s at row codes₀ flags₀ balances₀ limits₀ n₀ here₀ codes flags balances sublimits n here = 64 - n
 
 loop-holds : tie.Need-loop-holds Inv-loop μ-loop
 unfolding banksAt
-loop-holds c = record { room = omega arith; codes-size = refl; flags-size = refl; balances-size = refl; limits-size = refl; same = refl }
+loop-holds c = record { room = omega arith; codes-size = refl; flags-size = refl; balances-size = refl; sublimits-size = refl; same = refl }
 
 read-bank-requires : tie.Need-read-bank-requires Inv-loop μ-loop
 read-bank-requires c κs = search needs
@@ -47,11 +47,11 @@ mul-balances c = search needs
 array-write-balances : tie.Need-array-write-balances Inv-loop μ-loop
 array-write-balances c = search needs
 
-mul-limits : tie.Need-mul-limits Inv-loop μ-loop
-mul-limits c = search needs
+mul-sublimits : tie.Need-mul-sublimits Inv-loop μ-loop
+mul-sublimits c = search needs
 
-array-write-limits : tie.Need-array-write-limits Inv-loop μ-loop
-array-write-limits c = search needs
+array-write-sublimits : tie.Need-array-write-sublimits Inv-loop μ-loop
+array-write-sublimits c = search needs
 
 add-n : tie.Need-add-n Inv-loop μ-loop
 add-n c = search needs
@@ -82,8 +82,8 @@ read-banks-spec =
     array-write-flags
     mul-balances
     array-write-balances
-    mul-limits
-    array-write-limits
+    mul-sublimits
+    array-write-sublimits
     add-n
     loop-less
     loop-again

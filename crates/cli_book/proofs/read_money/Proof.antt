@@ -33,8 +33,8 @@ returns-2 c = search money-2
 read-cents-requires-2 : tie.Need-read-cents-requires-2
 read-cents-requires-2 c κs = search needs
 
-enum-known-limit : tie.Need-enum-known-limit
-enum-known-limit c = search needs
+enum-known-sublimit : tie.Need-enum-known-sublimit
+enum-known-sublimit c = search needs
 
 enum-told-3 : tie.Need-enum-told-3
 enum-told-3 c = search needs
@@ -59,7 +59,7 @@ read-money-spec =
     enum-told-2
     returns-2
     read-cents-requires-2
-    enum-known-limit
+    enum-known-sublimit
     enum-told-3
     returns-3
     returns-4)

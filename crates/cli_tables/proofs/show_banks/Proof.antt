@@ -7,10 +7,10 @@ use Rattle.cli_tables.proofs.orders.at.Reads as at-reads
 use Rattle.cli_tables.proofs.show_bank.Reads as show-bank-reads
 
 abbrev Inv-loop : tie.InvT-loop
-Inv-loop codes flags balances limits n i₀ i = Unit {0}
+Inv-loop codes flags balances sublimits n i₀ i = Unit {0}
 
 abbrev μ-loop : tie.MeasureT-loop
-μ-loop codes flags balances limits n i₀ i = 64 - i
+μ-loop codes flags balances sublimits n i₀ i = 64 - i
 
 loop-holds : tie.Need-loop-holds Inv-loop μ-loop
 loop-holds c = tt

@@ -6,10 +6,10 @@ use Rattle.cli_tables.proofs.orders.next.Reads as next-reads
 use Rattle.cli_tables.proofs.tell.Reads as tell-reads
 
 abbrev Inv-loop : tie.InvT-loop
-Inv-loop codes balances limits batches bins date phase last₀ left₀ last left = Unit {0}
+Inv-loop codes balances sublimits batches bins date phase last₀ left₀ last left = Unit {0}
 
 abbrev μ-loop : tie.MeasureT-loop
-μ-loop codes balances limits batches bins date phase last₀ left₀ last left = left
+μ-loop codes balances sublimits batches bins date phase last₀ left₀ last left = left
 
 next-requires : tie.Need-next-requires Inv-loop μ-loop
 next-requires c κs = search needs

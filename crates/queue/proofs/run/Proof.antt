@@ -9,11 +9,11 @@ use Rattle.queue.proofs.run.Statement.{statement}
 use Rattle.queue.proofs.run.Tie as tie
 
 abbrev Inv-loop : tie.InvT-loop
-Inv-loop quick balances₀ limits batches memory₀ queue₀ waiting tries₀ tried left₀ at₀ balances memory queue tries left at =
-    Inv quick limits batches waiting (test quick (rowPayments batches) (fuel (take waiting queue₀)) (accounts balances₀ limits) memory₀ (take waiting queue₀)) queue₀ tries₀ tried balances memory queue tries left at
+Inv-loop quick balances₀ sublimits batches memory₀ queue₀ waiting tries₀ tried left₀ at₀ balances memory queue tries left at =
+    Inv quick sublimits batches waiting (test quick (rowPayments batches) (fuel (take waiting queue₀)) (accounts balances₀ sublimits) memory₀ (take waiting queue₀)) queue₀ tries₀ tried balances memory queue tries left at
 
 abbrev μ-loop : tie.MeasureT-loop
-μ-loop quick balances₀ limits batches memory₀ queue₀ waiting tries₀ tried left₀ at₀ balances memory queue tries left at = left
+μ-loop quick balances₀ sublimits batches memory₀ queue₀ waiting tries₀ tried left₀ at₀ balances memory queue tries left at = left
 
 loop-holds : tie.Need-loop-holds Inv-loop μ-loop
 loop-holds c = search (needs, start)

@@ -9,11 +9,11 @@ use Rattle.queue.proofs.walk.Statement.{statement}
 use Rattle.queue.proofs.walk.Tie as tie
 
 abbrev Inv-loop : tie.InvT-loop
-Inv-loop quick balances₀ limits batches memory₀ queue₀ waiting tries₀ tried i₀ kept₀ at₀ balances memory queue tries i kept at =
-    Inv quick limits batches waiting (tests.walk quick (rowPayments batches) (accounts balances₀ limits) memory₀ (take waiting queue₀)) queue₀ tries₀ tried balances memory queue tries i kept at
+Inv-loop quick balances₀ sublimits batches memory₀ queue₀ waiting tries₀ tried i₀ kept₀ at₀ balances memory queue tries i kept at =
+    Inv quick sublimits batches waiting (tests.walk quick (rowPayments batches) (accounts balances₀ sublimits) memory₀ (take waiting queue₀)) queue₀ tries₀ tried balances memory queue tries i kept at
 
 abbrev μ-loop : tie.MeasureT-loop
-μ-loop quick balances₀ limits batches memory₀ queue₀ waiting tries₀ tried i₀ kept₀ at₀ balances memory queue tries i kept at =
+μ-loop quick balances₀ sublimits batches memory₀ queue₀ waiting tries₀ tried i₀ kept₀ at₀ balances memory queue tries i kept at =
     waiting - i
 
 loop-holds : tie.Need-loop-holds Inv-loop μ-loop

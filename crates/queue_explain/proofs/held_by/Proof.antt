@@ -11,10 +11,10 @@ use Rattle.queue_explain.proofs.holds_at.Reads as holds-at-reads
 use Rattle.queue_explain.proofs.uncovered_at.Reads as uncovered-at-reads
 
 abbrev Inv-loop : tie.InvT-loop
-Inv-loop balances limits batches first count at₀ left₀ at left = (at + 3 * left ≤ tableLength) × (heldBy (accounts balances limits) (needsOf (paymentsFrom batches first count)) ≡ heldBy (accounts balances limits) (needsOf (paymentsFrom batches at left)))
+Inv-loop balances sublimits batches first count at₀ left₀ at left = (at + 3 * left ≤ tableLength) × (heldBy (accounts balances sublimits) (needsOf (paymentsFrom batches first count)) ≡ heldBy (accounts balances sublimits) (needsOf (paymentsFrom batches at left)))
 
 abbrev μ-loop : tie.MeasureT-loop
-μ-loop balances limits batches first count at₀ left₀ at left = left
+μ-loop balances sublimits batches first count at₀ left₀ at left = left
 
 loop-holds : tie.Need-loop-holds Inv-loop μ-loop
 loop-holds c = search needs

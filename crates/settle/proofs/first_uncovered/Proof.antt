@@ -9,12 +9,12 @@ use Rattle.settle.proofs.first_uncovered.Statement.{statement}
 use Rattle.settle.proofs.first_uncovered.Tie as tie
 
 abbrev Inv-loop : tie.InvT-loop
-Inv-loop balances limits batches place first at₀ left₀ at left =
+Inv-loop balances sublimits batches place first at₀ left₀ at left =
     (at + 3 * left ≤ 11168) × Ranged (paymentsFrom batches at left)
-    × (firstUncovered (accounts balances limits) (needsOf (rowPayments batches place)) ≡ firstUncovered (accounts balances limits) (needsOf (paymentsFrom batches at left)))
+    × (firstUncovered (accounts balances sublimits) (needsOf (rowPayments batches place)) ≡ firstUncovered (accounts balances sublimits) (needsOf (paymentsFrom batches at left)))
 
 abbrev μ-loop : tie.MeasureT-loop
-μ-loop balances limits batches place first at₀ left₀ at left = left
+μ-loop balances sublimits batches place first at₀ left₀ at left = left
 
 mul-first : tie.Need-mul-first Inv-loop μ-loop
 mul-first c = search needs

@@ -26,29 +26,29 @@ use Rattle.tables_rules.proofs.whole.CrossLaws.{rows-count}
 pub past-all : (row : List ℕ) (n : ℕ) → length row ≡ 16 → (r : Bool) → Says (AllZero (take (16 - 2 * n) (drop (2 * n) row))) r → Says (AllZero (drop (2 * n) row)) r
 past-all row n l r s = rw (take-all (16 - 2 * n) (drop (2 * n) row) (omega (arith, length-drop (2 * n) row))) at s
 
-module _ (d : Desk) (codes flags balances limits : List ℕ) where
-  module _ (a : Bool) (s : Says (RightHouse (houseOn d codes flags) balances limits) a) where
-    pub desk-house : not a ≡ true → DeskRules d codes flags balances limits → ⊥
+module _ (d : Desk) (codes flags balances sublimits : List ℕ) where
+  module _ (a : Bool) (s : Says (RightHouse (houseOn d codes flags) balances sublimits) a) where
+    pub desk-house : not a ≡ true → DeskRules d codes flags balances sublimits → ⊥
     desk-house e x = says-no a s e (x .house)
 
     pub desk-few : not a ≡ false → d .n ≤ 8
     desk-few e = omega (arith, says-yes a s e .few-streams, each-length (streamOf (d .streams)) 0 (d .n))
 
     module _ (e : not a ≡ false) (c : Bool) (v : Says (AllZero (drop (2 * d .n) (d .streams))) c) where
-      pub desk-last : not c ≡ false → length (d .streams) ≡ 16 → d .date < 36525 → d .clock < 86400 → 1 ≤ d .n → Says (DeskRules d codes flags balances limits) (leb 1 (d .banks))
+      pub desk-last : not c ≡ false → length (d .streams) ≡ 16 → d .date < 36525 → d .clock < 86400 → 1 ≤ d .n → Says (DeskRules d codes flags balances sublimits) (leb 1 (d .banks))
       desk-last w l f g h =
           byBool (leb 1 (d .banks))
           (λ y. rw y (record { date = f; clock = g; some-streams = h; some-banks = leb-true 1 (d .banks) y; streams-long = l; streams-past = says-yes c v w; house = says-yes a s e }))
           (λ y. rw y (λ x. omega (arith, leb-false 1 (d .banks) y, x .some-banks)))
 
-  pub desk-past : (c : Bool) → Says (AllZero (drop (2 * d .n) (d .streams))) c → not c ≡ true → DeskRules d codes flags balances limits → ⊥
+  pub desk-past : (c : Bool) → Says (AllZero (drop (2 * d .n) (d .streams))) c → not c ≡ true → DeskRules d codes flags balances sublimits → ⊥
   desk-past c v e x = says-no c v e (x .streams-past)
 
-module _ (d : Desk) (codes flags balances limits batches references bins : List ℕ) where
+module _ (d : Desk) (codes flags balances sublimits batches references bins : List ℕ) where
   abbrev t : Tables
-  t = record { codes = codes; flags = flags; balances = balances; limits = limits; batches = batches; references = references; bins = bins }
+  t = record { codes = codes; flags = flags; balances = balances; sublimits = sublimits; batches = batches; references = references; bins = bins }
 
-  pub day-1 : (a : Bool) → Says (DeskRules d codes flags balances limits) a → not a ≡ true → DayTables d t → ⊥
+  pub day-1 : (a : Bool) → Says (DeskRules d codes flags balances sublimits) a → not a ≡ true → DayTables d t → ⊥
   day-1 a s e x = says-no a s e (x .desk)
 
   pub day-2 : (c : Bool) → Says (BatchRules (d .banks) batches) c → not c ≡ true → DayTables d t → ⊥
@@ -57,13 +57,13 @@ module _ (d : Desk) (codes flags balances limits batches references bins : List 
   pub day-3 : (k : Bool) → Says (KnownRules (d .date) references bins) k → not k ≡ true → DayTables d t → ⊥
   day-3 k v e x = says-no k v e (x .known)
 
-  pub day-4 : (a : Bool) → Says (DeskRules d codes flags balances limits) a → not a ≡ false
+  pub day-4 : (a : Bool) → Says (DeskRules d codes flags balances sublimits) a → not a ≡ false
       → (c : Bool) → Says (BatchRules (d .banks) batches) c → not c ≡ false
       → (k : Bool) → Says (KnownRules (d .date) references bins) k → not k ≡ false
       → (r : Bool) → Says (CrossRules (d .date) (d .texts) batches references bins) r → Says (DayTables d t) r
   day-4 a s e c u f k v g r w = says-map r (λ y. record { desk = says-yes a s e; batches = says-yes c u f; known = says-yes k v g; cross = y }) (λ x. x .cross) w
 
-  pub day-banks : (a : Bool) → Says (DeskRules d codes flags balances limits) a → not a ≡ false → d .banks ≤ 64
+  pub day-banks : (a : Bool) → Says (DeskRules d codes flags balances sublimits) a → not a ≡ false → d .banks ≤ 64
   day-banks a s e = says-yes a s e .house .few-banks
 
 pub day-long : (banks : ℕ) (batches : List ℕ) (c : Bool) → Says (BatchRules banks batches) c → not c ≡ false → length batches ≡ 11168

@@ -194,16 +194,16 @@ blank-batches =
     ap batchesIn (sym (none-words (cleared .memory)))
     ∙ ap (λ (e : Engine). e .state .batches) (held cleared refl cleared-memory)
 
-pub blank-tables : (t : Tables) → NoAccounts (t .codes) (t .flags) (t .balances) (t .limits) → NoRows (t .batches) (t .references) (t .bins) → t ≡ tablesOf cleared
+pub blank-tables : (t : Tables) → NoAccounts (t .codes) (t .flags) (t .balances) (t .sublimits) → NoRows (t .batches) (t .references) (t .bins) → t ≡ tablesOf cleared
 unfolding tablesOf
 blank-tables t x y =
-    let e : t ≡ record { codes = t .codes; flags = t .flags; balances = t .balances; limits = t .limits; batches = t .batches; references = t .references; bins = t .bins } = refl in
+    let e : t ≡ record { codes = t .codes; flags = t .flags; balances = t .balances; sublimits = t .sublimits; batches = t .batches; references = t .references; bins = t .bins } = refl in
     e
     ∙ rw (
       blank-is 64 (t .codes) (x .codes-none),
       blank-is 64 (t .flags) (x .flags-none),
       blank-is 64 (t .balances) (x .balances-none),
-      blank-is 64 (t .limits) (x .limits-none),
+      blank-is 64 (t .sublimits) (x .sublimits-none),
       blank-is 11168 (t .batches) (y .batches-none) ∙ sym (none-words (cleared .memory)),
       blank-is 6144 (t .references) (y .references-none) ∙ sym (entries-none 2048),
       blank-is 1536 (t .bins) (y .bins-none) ∙ sym (entries-none 512),
@@ -252,7 +252,7 @@ module _ (d : Desk) (t : Tables) where
           codes-none = is-blank 64 (t .codes) (ap (λ (x : State). x .house .codes) e);
           flags-none = is-blank 64 (t .flags) (ap (λ (x : State). x .house .flags) e);
           balances-none = is-blank 64 (t .balances) (ap (λ (x : State). x .books .balances) e);
-          limits-none = is-blank 64 (t .limits) (ap (λ (x : State). x .books .limits) e);
+          sublimits-none = is-blank 64 (t .sublimits) (ap (λ (x : State). x .books .sublimits) e);
         };
         rows = record {
           batches-none = idle-back r (ap (λ (x : State). x .batches) e);

@@ -32,11 +32,11 @@ pub record NoDay (d : Desk) : Type 0 where
   pub n : d .n ≡ 0
   pub streams : Blank 16 (d .streams)
 
-pub record NoAccounts (codes flags balances limits : List ℕ) : Type 0 where
+pub record NoAccounts (codes flags balances sublimits : List ℕ) : Type 0 where
   pub codes-none : Blank 64 codes
   pub flags-none : Blank 64 flags
   pub balances-none : Blank 64 balances
-  pub limits-none : Blank 64 limits
+  pub sublimits-none : Blank 64 sublimits
 
 pub record NoRows (batches references bins : List ℕ) : Type 0 where
   pub batches-none : Blank 11168 batches
@@ -45,18 +45,18 @@ pub record NoRows (batches references bins : List ℕ) : Type 0 where
 
 pub record NoTables (d : Desk) (t : Tables) : Type 0 where
   pub day : NoDay d
-  pub accounts : NoAccounts (t .codes) (t .flags) (t .balances) (t .limits)
+  pub accounts : NoAccounts (t .codes) (t .flags) (t .balances) (t .sublimits)
   pub rows : NoRows (t .batches) (t .references) (t .bins)
 
 -- the day's scalars and the house
-pub record DeskRules (d : Desk) (codes flags balances limits : List ℕ) : Type 0 where
+pub record DeskRules (d : Desk) (codes flags balances sublimits : List ℕ) : Type 0 where
   pub date : d .date < daysOfCentury
   pub clock : d .clock < secondsOfDay
   pub some-streams : 1 ≤ d .n
   pub some-banks : 1 ≤ d .banks
   pub streams-long : length (d .streams) ≡ 16
   pub streams-past : AllZero (drop (2 * d .n) (d .streams))
-  pub house : RightHouse (houseOn d codes flags) balances limits
+  pub house : RightHouse (houseOn d codes flags) balances sublimits
 
 abbrev pub placesOf : List ℕ → List Place
 placesOf batches = map placeIn (batchRows batches)
@@ -70,7 +70,7 @@ pub record CrossRules (date texts : ℕ) (batches references bins : List ℕ) : 
   pub answered : texts + liveMessages (placesOf batches) ≤ notedToday date (entriesIn 2048 references)
 
 pub record DayTables (d : Desk) (t : Tables) : Type 0 where
-  pub desk : DeskRules d (t .codes) (t .flags) (t .balances) (t .limits)
+  pub desk : DeskRules d (t .codes) (t .flags) (t .balances) (t .sublimits)
   pub batches : BatchRules (d .banks) (t .batches)
   pub known : KnownRules (d .date) (t .references) (t .bins)
   pub cross : CrossRules (d .date) (d .texts) (t .batches) (t .references) (t .bins)

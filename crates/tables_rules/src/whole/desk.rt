@@ -23,11 +23,11 @@ pub fn desk_right(
     codes: &[u64],
     flags: &[u64],
     balances: &[u64],
-    limits: &[u64],
+    sublimits: &[u64],
 ) -> bool
-    ensures { λ r. ⌜ Says (DeskRules desk (now (codes .entry)) (now (flags .entry)) (now (balances .entry)) (now (limits .entry))) r ⌝ }
+    ensures { λ r. ⌜ Says (DeskRules desk (now (codes .entry)) (now (flags .entry)) (now (balances .entry)) (now (sublimits .entry))) r ⌝ }
 {
-    if !tables::house::house_right(desk, codes, flags, balances, limits) {
+    if !tables::house::house_right(desk, codes, flags, balances, sublimits) {
         return false;
     }
     let streams = desk.streams;
@@ -52,14 +52,14 @@ pub fn day_right(
     codes: &[u64],
     flags: &[u64],
     balances: &[u64],
-    limits: &[u64],
+    sublimits: &[u64],
     batches: &[u64],
     references: &[u64],
     bins: &[u64],
 ) -> bool
-    ensures { λ r. ⌜ Says (DayTables desk (record { codes = now (codes .entry); flags = now (flags .entry); balances = now (balances .entry); limits = now (limits .entry); batches = now (batches .entry); references = now (references .entry); bins = now (bins .entry) })) r ⌝ }
+    ensures { λ r. ⌜ Says (DayTables desk (record { codes = now (codes .entry); flags = now (flags .entry); balances = now (balances .entry); sublimits = now (sublimits .entry); batches = now (batches .entry); references = now (references .entry); bins = now (bins .entry) })) r ⌝ }
 {
-    if !desk_right(desk, codes, flags, balances, limits) {
+    if !desk_right(desk, codes, flags, balances, sublimits) {
         return false;
     }
     if !crate::batches::batches_right(batches, desk.banks) {

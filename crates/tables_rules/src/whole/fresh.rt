@@ -39,8 +39,8 @@ fn no_day(desk: Desk) -> bool
     blank(&streams, 16)
 }
 
-fn no_accounts(codes: &[u64], flags: &[u64], balances: &[u64], limits: &[u64]) -> bool
-    ensures { λ r. ⌜ Says (NoAccounts (now (codes .entry)) (now (flags .entry)) (now (balances .entry)) (now (limits .entry))) r ⌝ }
+fn no_accounts(codes: &[u64], flags: &[u64], balances: &[u64], sublimits: &[u64]) -> bool
+    ensures { λ r. ⌜ Says (NoAccounts (now (codes .entry)) (now (flags .entry)) (now (balances .entry)) (now (sublimits .entry))) r ⌝ }
 {
     if !blank(codes, 64) {
         return false;
@@ -51,7 +51,7 @@ fn no_accounts(codes: &[u64], flags: &[u64], balances: &[u64], limits: &[u64]) -
     if !blank(balances, 64) {
         return false;
     }
-    blank(limits, 64)
+    blank(sublimits, 64)
 }
 
 fn no_rows(batches: &[u64], references: &[u64], bins: &[u64]) -> bool
@@ -71,17 +71,17 @@ pub fn none_right(
     codes: &[u64],
     flags: &[u64],
     balances: &[u64],
-    limits: &[u64],
+    sublimits: &[u64],
     batches: &[u64],
     references: &[u64],
     bins: &[u64],
 ) -> bool
-    ensures { λ r. ⌜ Says (NoTables desk (lentWith (now (codes .entry)) (now (flags .entry)) (now (balances .entry)) (now (limits .entry)) (now (batches .entry)) (now (references .entry)) (now (bins .entry)))) r ⌝ }
+    ensures { λ r. ⌜ Says (NoTables desk (lentWith (now (codes .entry)) (now (flags .entry)) (now (balances .entry)) (now (sublimits .entry)) (now (batches .entry)) (now (references .entry)) (now (bins .entry)))) r ⌝ }
 {
     if !no_day(desk) {
         return false;
     }
-    if !no_accounts(codes, flags, balances, limits) {
+    if !no_accounts(codes, flags, balances, sublimits) {
         return false;
     }
     no_rows(batches, references, bins)

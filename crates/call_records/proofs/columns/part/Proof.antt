@@ -5,10 +5,10 @@ use Rattle.call_records.proofs.columns.part.Statement.{statement}
 use Rattle.call_records.proofs.columns.part.Tie as tie
 
 abbrev Inv-loop : tie.InvT-loop
-Inv-loop codes₀ flags₀ balances₀ limits₀ row i₀ codes flags balances limits i = Parting row i codes flags balances limits
+Inv-loop codes₀ flags₀ balances₀ limits₀ row i₀ codes flags balances sublimits i = Parting row i codes flags balances sublimits
 
 abbrev μ-loop : tie.MeasureT-loop
-μ-loop codes₀ flags₀ balances₀ limits₀ row i₀ codes flags balances limits i = 64 - i
+μ-loop codes₀ flags₀ balances₀ limits₀ row i₀ codes flags balances sublimits i = 64 - i
 
 loop-holds : tie.Need-loop-holds Inv-loop μ-loop
 loop-holds c = search (needs, part-start)
@@ -49,17 +49,17 @@ mul-balances-2 c = search needs
 slice-write-balances : tie.Need-slice-write-balances Inv-loop μ-loop
 slice-write-balances c = search needs
 
-mul-limits : tie.Need-mul-limits Inv-loop μ-loop
-mul-limits c = search needs
+mul-sublimits : tie.Need-mul-sublimits Inv-loop μ-loop
+mul-sublimits c = search needs
 
-element-copy-out-limits : tie.Need-element-copy-out-limits Inv-loop μ-loop
-element-copy-out-limits c = search needs
+element-copy-out-sublimits : tie.Need-element-copy-out-sublimits Inv-loop μ-loop
+element-copy-out-sublimits c = search needs
 
-mul-limits-2 : tie.Need-mul-limits-2 Inv-loop μ-loop
-mul-limits-2 c = search needs
+mul-sublimits-2 : tie.Need-mul-sublimits-2 Inv-loop μ-loop
+mul-sublimits-2 c = search needs
 
-slice-write-limits : tie.Need-slice-write-limits Inv-loop μ-loop
-slice-write-limits c = search needs
+slice-write-sublimits : tie.Need-slice-write-sublimits Inv-loop μ-loop
+slice-write-sublimits c = search needs
 
 add-i : tie.Need-add-i Inv-loop μ-loop
 add-i c = search needs
@@ -104,10 +104,10 @@ part-spec =
     element-copy-out-balances
     mul-balances-2
     slice-write-balances
-    mul-limits
-    element-copy-out-limits
-    mul-limits-2
-    slice-write-limits
+    mul-sublimits
+    element-copy-out-sublimits
+    mul-sublimits-2
+    slice-write-sublimits
     add-i
     loop-less
     loop-again

@@ -5,10 +5,10 @@ use Rattle.call_records.proofs.columns.row_of.Statement.{statement}
 use Rattle.call_records.proofs.columns.row_of.Tie as tie
 
 abbrev Inv-loop : tie.InvT-loop
-Inv-loop codes flags balances limits row₀ i₀ row i = Filling row i codes flags balances limits
+Inv-loop codes flags balances sublimits row₀ i₀ row i = Filling row i codes flags balances sublimits
 
 abbrev μ-loop : tie.MeasureT-loop
-μ-loop codes flags balances limits row₀ i₀ row i = 64 - i
+μ-loop codes flags balances sublimits row₀ i₀ row i = 64 - i
 
 loop-holds : tie.Need-loop-holds Inv-loop μ-loop
 loop-holds c = search (needs, fill-start)

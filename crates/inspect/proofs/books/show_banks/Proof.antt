@@ -5,10 +5,10 @@ use Rattle.inspect.proofs.books.show_banks.Statement.{statement}
 use Rattle.inspect.proofs.books.show_banks.Tie as tie
 
 abbrev Inv-loop : tie.InvT-loop
-Inv-loop streams codes flags balances limits n i₀ i = Unit {0}
+Inv-loop streams codes flags balances sublimits n i₀ i = Unit {0}
 
 abbrev μ-loop : tie.MeasureT-loop
-μ-loop streams codes flags balances limits n i₀ i = 64 - i
+μ-loop streams codes flags balances sublimits n i₀ i = 64 - i
 
 loop-holds : tie.Need-loop-holds Inv-loop μ-loop
 loop-holds c = tt

@@ -4,10 +4,10 @@ use Rattle.run_queue.proofs.rows.run.Statement.{statement}
 use Rattle.run_queue.proofs.rows.run.Tie as tie
 
 abbrev Inv-loop : tie.InvT-loop
-Inv-loop numbers count balances₀ limits₀ batches₀ memory₀ queue₀ tries₀ standing₀ lines i₀ balances limits batches memory queue tries standing i = i ≤ lines
+Inv-loop numbers count balances₀ limits₀ batches₀ memory₀ queue₀ tries₀ standing₀ lines i₀ balances sublimits batches memory queue tries standing i = i ≤ lines
 
 abbrev μ-loop : tie.MeasureT-loop
-μ-loop numbers count balances₀ limits₀ batches₀ memory₀ queue₀ tries₀ standing₀ lines i₀ balances limits batches memory queue tries standing i = lines - i
+μ-loop numbers count balances₀ limits₀ batches₀ memory₀ queue₀ tries₀ standing₀ lines i₀ balances sublimits batches memory queue tries standing i = lines - i
 
 loop-holds : tie.Need-loop-holds Inv-loop μ-loop
 loop-holds c = search needs

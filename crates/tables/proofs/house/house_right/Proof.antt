@@ -26,7 +26,7 @@ banks-right-requires c κs =
     let a = c .before .before .before .before .before .before .before .before .before .before .before .before .args in
     let l = c .before .before .before .before .before .before .before in
     let s = c .before .before .before in
-    now-banks (a .desk) (a .codes .now) (a .flags .now) (a .balances .now) (a .limits .now) (l .lengths-right .result) (l .lengths-right .ensures) (c .before .before .before .before .before .before .if1 .left) (s .streams-right .result) (s .streams-right .ensures) (c .before .before .if2 .left) (c .if3 .left)
+    now-banks (a .desk) (a .codes .now) (a .flags .now) (a .balances .now) (a .sublimits .now) (l .lengths-right .result) (l .lengths-right .ensures) (c .before .before .before .before .before .before .if1 .left) (s .streams-right .result) (s .streams-right .ensures) (c .before .before .if2 .left) (c .if3 .left)
 
 returns-4 : tie.Need-returns-4
 returns-4 c = search no-banks
@@ -47,7 +47,7 @@ returns-6 c =
     let s = c .before .before .before .before .before .before .before .before in
     let k = c .before .before .before .before in
     let p = c .before .before in
-    house-last (a .desk) (a .codes .now) (a .flags .now) (a .balances .now) (a .limits .now) (l .lengths-right .result) (l .lengths-right .ensures) (c .before .before .before .before .before .before .before .before .before .before .before .if1 .left) (s .streams-right .result) (s .streams-right .ensures) (c .before .before .before .before .before .before .before .if2 .left) (c .before .before .before .before .before .if3 .left)
+    house-last (a .desk) (a .codes .now) (a .flags .now) (a .balances .now) (a .sublimits .now) (l .lengths-right .result) (l .lengths-right .ensures) (c .before .before .before .before .before .before .before .before .before .before .before .if1 .left) (s .streams-right .result) (s .streams-right .ensures) (c .before .before .before .before .before .before .before .if2 .left) (c .before .before .before .before .before .if3 .left)
     (k .banks-right .result) (p .zero-past .result) (c .money-right .result) (k .banks-right .ensures) (c .before .before .before .if4 .left) (p .zero-past .ensures) (c .before .if5 .left) (c .money-right .ensures)
 
 pub house-right-spec : {M : Type 1} → statement M

@@ -1,4 +1,4 @@
-use Rattle.call.proofs.action.ActLaws.{opening-deed, tick-deed, close-deed, book-deed, message-deed, limit-deed, status-deed, still}
+use Rattle.call.proofs.action.ActLaws.{opening-deed, tick-deed, close-deed, book-deed, message-deed, sublimit-deed, status-deed, still}
 use borrow.Author.Needs.{needs}
 use Rattle.call.proofs.action.acts.act.Statement.{statement}
 use Rattle.call.proofs.action.acts.act.Tie as tie
@@ -84,7 +84,7 @@ same-length-9 : tie.Need-same-length-9
 same-length-9 c = search needs
 
 returns-2 : tie.Need-returns-2
-returns-2 c = λ n. still _ (c .before .before .before .before .before .before .before .before .before .before .before .before .before .before .before .before .before .before .before .before .before .before .args .input .now) _ _ _ _ _ _ _ _ _ _ _ _ (c .before .before .before .before .before .before .before .before .before .before .before .before .before .before .before .before .before .before .before .before .before .before .pre .0) (c .before .before .before .before .before .before .before .before .before .before .before .before .before .before .before .before .before .before .before .before .before .before .args .action) n _ _ _ _ _ _ _ _ _ (limit-deed _ (c .before .before .before .before .before .before .before .before .before .before .before .before .before .before .before .before .before .before .before .before .before .before .args .input .now) _ _ _ _ _ _ _ _ _ _ _ _ (c .before .before .before .before .before .before .before .before .before .before .before .before .before .before .before .before .before .before .before .before .before .before .pre .0) (c .before .before .before .before .before .before .before .before .before .before .before .before .before .before .before .before .before .before .before .before .before .before .args .action) n _ _ _ _ _ (c .before .before .before .before .before .before .before .before .before .action2 .given .1) (c .before .before .before .before .before .sub-limit .ensures)) (c .quiet .ensures)
+returns-2 c = λ n. still _ (c .before .before .before .before .before .before .before .before .before .before .before .before .before .before .before .before .before .before .before .before .before .before .args .input .now) _ _ _ _ _ _ _ _ _ _ _ _ (c .before .before .before .before .before .before .before .before .before .before .before .before .before .before .before .before .before .before .before .before .before .before .pre .0) (c .before .before .before .before .before .before .before .before .before .before .before .before .before .before .before .before .before .before .before .before .before .before .args .action) n _ _ _ _ _ _ _ _ _ (sublimit-deed _ (c .before .before .before .before .before .before .before .before .before .before .before .before .before .before .before .before .before .before .before .before .before .before .args .input .now) _ _ _ _ _ _ _ _ _ _ _ _ (c .before .before .before .before .before .before .before .before .before .before .before .before .before .before .before .before .before .before .before .before .before .before .pre .0) (c .before .before .before .before .before .before .before .before .before .before .before .before .before .before .before .before .before .before .before .before .before .before .args .action) n _ _ _ _ _ (c .before .before .before .before .before .before .before .before .before .action2 .given .1) (c .before .before .before .before .before .sub-limit .ensures)) (c .quiet .ensures)
 
 same-length-10 : tie.Need-same-length-10
 same-length-10 c = search needs

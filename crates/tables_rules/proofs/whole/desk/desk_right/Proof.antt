@@ -28,7 +28,7 @@ returns-5 : tie.Need-returns-5
 returns-5 c = search needs
 
 returns-6 : tie.Need-returns-6
-returns-6 c = desk-last (c .before .before .before .before .before .before .before .before .before .before .before .before .before .before .before .before .before .args .desk) (c .before .before .before .before .before .before .before .before .before .before .before .before .before .before .before .before .before .args .codes .now) (c .before .before .before .before .before .before .before .before .before .before .before .before .before .before .before .before .before .args .flags .now) (c .before .before .before .before .before .before .before .before .before .before .before .before .before .before .before .before .before .args .balances .now) (c .before .before .before .before .before .before .before .before .before .before .before .before .before .before .before .before .before .args .limits .now) (c .before .before .before .before .before .before .before .before .before .before .before .before .house-right .result) (c .before .before .before .before .before .before .before .before .before .before .before .before .house-right .ensures) (c .before .before .before .before .before .before .before .before .before .before .before .if1 .left) (c .before .before .before .before .before .before .before .before .streams-past .result) (c .before .before .before .before .before .before .before .before .streams-past .ensures .0) (c .before .before .before .before .before .before .before .if2 .left) (c .before .before .before .before .before .before .before .before .streams-past .ensures .1) (c .before .before .before .before .before .if3 .left) (c .before .before .before .if4 .left) (c .before .if5 .left)
+returns-6 c = desk-last (c .before .before .before .before .before .before .before .before .before .before .before .before .before .before .before .before .before .args .desk) (c .before .before .before .before .before .before .before .before .before .before .before .before .before .before .before .before .before .args .codes .now) (c .before .before .before .before .before .before .before .before .before .before .before .before .before .before .before .before .before .args .flags .now) (c .before .before .before .before .before .before .before .before .before .before .before .before .before .before .before .before .before .args .balances .now) (c .before .before .before .before .before .before .before .before .before .before .before .before .before .before .before .before .before .args .sublimits .now) (c .before .before .before .before .before .before .before .before .before .before .before .before .house-right .result) (c .before .before .before .before .before .before .before .before .before .before .before .before .house-right .ensures) (c .before .before .before .before .before .before .before .before .before .before .before .if1 .left) (c .before .before .before .before .before .before .before .before .streams-past .result) (c .before .before .before .before .before .before .before .before .streams-past .ensures .0) (c .before .before .before .before .before .before .before .if2 .left) (c .before .before .before .before .before .before .before .before .streams-past .ensures .1) (c .before .before .before .before .before .if3 .left) (c .before .before .before .if4 .left) (c .before .if5 .left)
 
 pub desk-right-spec : {M : Type 1} → statement M
 desk-right-spec =

@@ -10,7 +10,7 @@ use Rattle.chars.specs.declared.Refusal.the-variants.{OutOfRange, UnknownBank}
 use Rattle.settle.specs.Settlement.{accounts}
 use Rattle.book_read.specs.Book.{mostMoney}
 use Rattle.queue.specs.Memory.{wake}
-use Rattle.queue.specs.Promise.{limited}
+use Rattle.queue.specs.Promise.{sublimited}
 use Rattle.model.specs.declared.Answer.the-variants.{Done, Refused}
 use Rattle.model.specs.State.{State}
 use Rattle.model.specs.Messages.{bankPlace, untouched}
@@ -24,9 +24,9 @@ use Rattle.call_plan.specs.rules.Steps.{banksHouse}
 use Rattle.call_plan.proofs.rules.Meets.{bank-any}
 use Rattle.call_change.specs.Changing.{Changed}
 
-pub untouched-so : (s : State) (f : Refusal) (limits m : List ℕ) → s .books .limits ≡ limits → Changed s (untouched s f) (Refused f) (s .batches) limits m m
+pub untouched-so : (s : State) (f : Refusal) (sublimits m : List ℕ) → s .books .sublimits ≡ sublimits → Changed s (untouched s f) (Refused f) (s .batches) sublimits m m
 unfolding woken
-untouched-so s f limits m e = record {
+untouched-so s f sublimits m e = record {
   answered = refl;
   batches = refl;
   books = ap (λ (l : List ℕ). accounts (s .books .balances) l) (sym e);
@@ -43,24 +43,24 @@ module _ (banks : ℕ) (codes : List ℕ) (code : ℕ) (r : Sought) (is : foundB
   pub bank-inside : (k : ℕ) → r ≡ Here k → k < banks
   bank-inside k e = bank-below (banksHouse banks codes []) code k (sym is ∙ rw e)
 
-  module _ (cents : ℕ) (limits m : List ℕ) where
-    pub limit-unknown : r ≡ Nowhere
-        → (s : State) → s .house .banks ≡ banks → s .house .codes ≡ codes → s .books .limits ≡ limits
-        → Changed s (subLimit s code cents) (Refused UnknownBank) (s .batches) limits m m
+  module _ (cents : ℕ) (sublimits m : List ℕ) where
+    pub sublimit-unknown : r ≡ Nowhere
+        → (s : State) → s .house .banks ≡ banks → s .house .codes ≡ codes → s .books .sublimits ≡ sublimits
+        → Changed s (subLimit s code cents) (Refused UnknownBank) (s .batches) sublimits m m
     unfolding subLimit
-    limit-unknown e s b c l = rw (bank-there s b c, e) (untouched-so s UnknownBank limits m l)
+    sublimit-unknown e s b c l = rw (bank-there s b c, e) (untouched-so s UnknownBank sublimits m l)
 
-    pub limit-out : (k : ℕ) → r ≡ Here k → 6400000000000000 < cents
-        → (s : State) → s .house .banks ≡ banks → s .house .codes ≡ codes → s .books .limits ≡ limits
-        → Changed s (subLimit s code cents) (Refused OutOfRange) (s .batches) limits m m
+    pub sublimit-out : (k : ℕ) → r ≡ Here k → 6400000000000000 < cents
+        → (s : State) → s .house .banks ≡ banks → s .house .codes ≡ codes → s .books .sublimits ≡ sublimits
+        → Changed s (subLimit s code cents) (Refused OutOfRange) (s .batches) sublimits m m
     unfolding subLimit
-    limit-out k e h s b c l = rw (bank-there s b c, e, lt-leb cents mostMoney h) (untouched-so s OutOfRange limits m l)
+    sublimit-out k e h s b c l = rw (bank-there s b c, e, lt-leb cents mostMoney h) (untouched-so s OutOfRange sublimits m l)
 
-    pub limit-set : (k : ℕ) → r ≡ Here k → cents ≤ 6400000000000000 → (m′ : List ℕ) → m′ ≡ map (wake (eqb k)) m
-        → (s : State) → s .house .banks ≡ banks → s .house .codes ≡ codes → s .books .limits ≡ limits
-        → Changed s (subLimit s code cents) Done (s .batches) (set limits k cents) m m′
-    unfolding subLimit limited woken
-    limit-set k e h m′ f s b c l =
+    pub sublimit-set : (k : ℕ) → r ≡ Here k → cents ≤ 6400000000000000 → (m′ : List ℕ) → m′ ≡ map (wake (eqb k)) m
+        → (s : State) → s .house .banks ≡ banks → s .house .codes ≡ codes → s .books .sublimits ≡ sublimits
+        → Changed s (subLimit s code cents) Done (s .batches) (set sublimits k cents) m m′
+    unfolding subLimit sublimited woken
+    sublimit-set k e h m′ f s b c l =
         rw (bank-there s b c, e, le-leb cents mostMoney h) (record {
           answered = refl;
           batches = refl;
