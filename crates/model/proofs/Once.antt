@@ -18,7 +18,6 @@ use Rattle.queue.proofs.MemoryLaws.{byBool}
 use Rattle.book_read.specs.Range.{Each}
 use Rattle.model.specs.declared.Phase.{Phase}
 use Rattle.model.specs.declared.Phase.the-variants.{Fresh, Open, Closed}
-use Rattle.model.specs.declared.Action.the-variants.{Close}
 use Rattle.model.specs.declared.Answer.{Answer}
 use Rattle.model.specs.declared.Answer.the-variants.{Done, Refused}
 use Rattle.model.specs.Kinds.{Kind, opens, steps, gives, kindOf, isClose, ownOf}
@@ -232,13 +231,3 @@ answered-once readers ds h r n =
     let i = accounted readers ds in
     let z : timesIn r (awaiting (then ds)) ≡ 0 = ap (timesIn r) (none-left-at-close readers ds h) in
     omega (arith, i .each r, i .once r)
-
--- a close that is not refused closes the day
-closed-judged : (r : Answer) (e : Engine) (c : Call) → r ≡ Done → c .asked .action ≡ Close → judged r e c .engine .state .day .phase ≡ Closed
-unfolding stepped closes
-closed-judged Done e c d h = rw h refl
-closed-judged (Refused r) e c d h = let z : _≡_ {A = ℕ} 0 1 = cc in absurd (omega arith)
-
-pub closed-by-close : (e : Engine) (c : Call) → judge (e .state) c ≡ Done → c .asked .action ≡ Close → call e c .engine .state .day .phase ≡ Closed
-unfolding call
-closed-by-close e c d h = closed-judged (judge (e .state) c) e c d h

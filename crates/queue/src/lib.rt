@@ -8,7 +8,7 @@ ghost use lib.ListN.{length, getD, set, take};
 ghost use Rattle.settle.specs.Payments.{paymentAt, rowPayments};
 ghost use Rattle.settle.specs.Settlement.{accounts};
 ghost use Rattle.settle.specs.Rules.{Ranged, Books, Good};
-ghost use Rattle.queue.specs.Tests.{omits, turned, turn, walk, plainTest, quickTest, test, fuel};
+ghost use Rattle.queue.specs.Tests.{omits, turned, turn, walk, test, fuel};
 ghost use Rattle.queue.specs.Memory.{wake, credited, markedBy, marked, isMarked};
 ghost use Rattle.queue.specs.Rows.{Stands, AllGood, Noted, Walked, Tested, most};
 
@@ -273,62 +273,4 @@ pub fn run(
         }
         left = kept;
     }
-}
-
-// The plain test.
-pub fn plain_test(
-    balances: &mut [u64],
-    sublimits: &[u64],
-    batches: &[u64],
-    memory: &mut [u64],
-    queue: &mut [u64],
-    waiting: usize,
-    tries: &mut [u64],
-    tried: usize,
-) -> Reached
-    requires { ⌜ Books (now balances) (now sublimits) ⌝ }
-    requires { ⌜ AllGood (now batches) (take waiting (now queue)) ⌝ }
-    requires { ⌜ (length (now memory) ≡ 32) × (waiting ≤ length (now queue)) × (tried + most waiting ≤ length (now tries)) ⌝ }
-    ensures { λ r. ⌜ Tested (plainTest (rowPayments (now (batches .entry))) (accounts (now (balances .entry)) (now (sublimits .entry))) (now (memory .entry)) (take waiting (now (queue .entry)))) (now (sublimits .entry)) (now (queue .entry)) waiting (now (tries .entry)) tried (now (balances .exit)) (now (memory .exit)) (now (queue .exit)) (r .waiting) (now (tries .exit)) (r .tried) ⌝ }
-{
-    run(
-        false,
-        balances,
-        sublimits,
-        batches,
-        memory,
-        queue,
-        waiting,
-        tries,
-        tried,
-    )
-}
-
-// The quick test.
-pub fn quick_test(
-    balances: &mut [u64],
-    sublimits: &[u64],
-    batches: &[u64],
-    memory: &mut [u64],
-    queue: &mut [u64],
-    waiting: usize,
-    tries: &mut [u64],
-    tried: usize,
-) -> Reached
-    requires { ⌜ Books (now balances) (now sublimits) ⌝ }
-    requires { ⌜ AllGood (now batches) (take waiting (now queue)) ⌝ }
-    requires { ⌜ (length (now memory) ≡ 32) × (waiting ≤ length (now queue)) × (tried + most waiting ≤ length (now tries)) ⌝ }
-    ensures { λ r. ⌜ Tested (quickTest (rowPayments (now (batches .entry))) (accounts (now (balances .entry)) (now (sublimits .entry))) (now (memory .entry)) (take waiting (now (queue .entry)))) (now (sublimits .entry)) (now (queue .entry)) waiting (now (tries .entry)) tried (now (balances .exit)) (now (memory .exit)) (now (queue .exit)) (r .waiting) (now (tries .exit)) (r .tried) ⌝ }
-{
-    run(
-        true,
-        balances,
-        sublimits,
-        batches,
-        memory,
-        queue,
-        waiting,
-        tries,
-        tried,
-    )
 }

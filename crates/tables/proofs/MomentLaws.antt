@@ -1,6 +1,6 @@
 -- Laws of the moment and the room of a call.
 use Prim.Native.Nat.{ℕ, _+_, _-_, _*_, _/_, _≤_, _<_}
-use mathlib.Core.Path.{_≡_, refl, sym, _∙_}
+use mathlib.Core.Path.{_≡_, sym, _∙_}
 use mathlib.Core.Bool.{Bool, true, false, not, _&&_}
 use mathlib.Core.List.{List}
 use native.Mathlib.Omega.{arith}
@@ -26,15 +26,9 @@ use Rattle.model.specs.declared.Answer.the-variants.{Done, Refused}
 use Rattle.model.specs.Days.{rightDate, banksOf, closingText}
 use Rattle.model.specs.Kinds.{isOpening}
 use Rattle.model.specs.Calls.{rightClock, rightDay, judge}
-use Rattle.model.specs.State.{withClock}
 use Rattle.tables.specs.declared.Desk.{Desk}
 use Rattle.tables.specs.Rows.{Tables, stateIn, streamsOn}
-use Rattle.tables.specs.Moment.{dayOn, movedTo, Needs, Roomy, Judged}
-
--- (a): the day of the moved desk
-pub moved-day : (d : Desk) (clock : ℕ) (t : Tables) → stateIn (movedTo d clock) t .day ≡ withClock (stateIn d t .day) clock
-unfolding stateIn
-moved-day d clock t = refl
+use Rattle.tables.specs.Moment.{dayOn, Needs, Roomy, Judged}
 
 -- ---- the clock
 

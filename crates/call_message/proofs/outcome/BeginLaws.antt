@@ -9,7 +9,7 @@ use lib.ListN.{length, getD, set, replicate}
 use Rattle.chars.specs.Words.{member}
 use Rattle.codes.specs.declared.Code.{Code}
 use Rattle.request_read.specs.declared.terms.Activation.{Activation}
-use Rattle.request_read.specs.declared.terms.Activation.the-variants.{AtOnce, Minute}
+use Rattle.request_read.specs.declared.terms.Activation.the-variants.{Minute}
 use Rattle.request_read.specs.declared.whole.Reading.{Reading}
 use Rattle.settle.specs.Settlement.{Accounts}
 use Rattle.settle.specs.Rules.{Distinct}
@@ -118,9 +118,6 @@ module _ (d : Desk) (codes flags : List ℕ) (t q : List ℕ) (nq : ℕ) (w : Li
       }
 
 -- ---- the row of a new batch
-
-pub at-once-word : (a : Activation) → a ≡ AtOnce → activationIn 0 ≡ a
-at-once-word a e = sym e
 
 pub minute-word : (a : Activation) (m : ℕ) → a ≡ Minute m → activationIn (m + 1) ≡ a
 minute-word a m e = let g : m + 1 ≡ suc m = omega arith in rw g (sym e)

@@ -4,7 +4,6 @@ use mathlib.Core.Path.{_≡_, refl}
 use mathlib.Core.Bool.{true, false}
 use mathlib.Core.List.{List}
 use lib.Dec.{eqb}
-use Rattle.codes.specs.declared.Code.{Code}
 use Rattle.request_read.specs.declared.whole.Reading.{Reading}
 use Rattle.request_read.specs.declared.whole.Outcome.{Outcome as Read}
 use Rattle.request_read.specs.declared.whole.Outcome.the-variants.{Settlement, Recall, Refused as Unread}
@@ -15,11 +14,7 @@ use Rattle.model.specs.Messages.{Acted, today, reference, bin, streamCode, stre
 use Rattle.model.proofs.Seeking.{byFound}
 use Rattle.call_plan.specs.declared.plan.Plan.{Plan}
 use Rattle.call_plan.specs.plan.Plans.{sentOn, notedOn, settlementOn, recallOn, planOn}
-use Rattle.call_message.specs.outcome.Acting.{notedAt, knownBy, actedWith, actedBy}
-
-note-at : (today : ℕ) (code : Code) (es : List Entry) (q : ℕ) → vacant today es ≡ at q → note today code es ≡ notedAt today code q es
-unfolding note
-note-at today code es q e = rw e
+use Rattle.call_message.specs.outcome.Acting.{knownBy, actedWith, actedBy}
 
 module _ (s : State) (r : Reading) where
   abbrev rs : List Entry

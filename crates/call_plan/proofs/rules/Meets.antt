@@ -20,15 +20,13 @@ use Rattle.settle.specs.Payments.{Payment, payment, paymentAt, paymentsFrom, ba
 use Rattle.model.specs.declared.Answer.{Answer}
 use Rattle.model.specs.declared.Answer.the-variants.{Done, Refused}
 use Rattle.model.specs.State.{Found, at, nowhere, House, State, paymentsOf}
-use Rattle.model.specs.Messages.{firstBroken, bankPlace, streamPlace, isSuspended, isMember, lineRules, messageRules, sameActivation, hasNumber, banksIn}
+use Rattle.model.specs.Messages.{firstBroken, bankPlace, isSuspended, isMember, lineRules, messageRules, sameActivation, hasNumber, banksIn}
 use Rattle.model.proofs.Seeking.{bank-below}
 use Rattle.tables.specs.Rows.{word, activationIn, messagesIn, batchIn}
-use Rattle.tables.specs.declared.Desk.{Desk}
-use Rattle.tables.specs.House.{houseOn}
 use Rattle.tables.proofs.Rowing.{Fits}
 use Rattle.call_orders.specs.Heads.{Neat}
 use Rattle.call_orders.proofs.Bridge.{live-row}
-use Rattle.call_plan.specs.rules.Steps.{banksHouse, streamsHouse, standingOf, lineOn, onDone, linesOn, marked, sameWord, numbered, headOn, messageOn, Counted, stateOf}
+use Rattle.call_plan.specs.rules.Steps.{banksHouse, standingOf, onDone, linesOn, marked, sameWord, numbered, headOn, messageOn, Counted, stateOf}
 
 -- ---- marks: 1 at the places that are taken, 0 at the others
 
@@ -192,10 +190,6 @@ pub bank-any : (h : House) (code : ℕ) → bankPlace (banksHouse (h .banks) (h 
 unfolding bankPlace
 bank-any h code = refl
 
-pub stream-any : (d : Desk) (codes flags : List ℕ) (code : ℕ) → streamPlace (streamsHouse (d .streams) (d .n)) code ≡ streamPlace (houseOn d codes flags) code
-unfolding streamPlace
-stream-any d codes flags code = refl
-
 messages-many : (row : List ℕ) (i j n : ℕ) → length (messagesIn row i j n) ≡ n
 unfolding messagesIn
 messages-many row i j zero = refl
@@ -212,15 +206,3 @@ counted row l n h f =
       payments = g .1;
       same = g .0;
     }
-
--- one payment: the four rules of its own
-pub line-meet : (s : State) (r : Reading) (stream : ℕ) → s .house .banks ≤ 64 → (m taken : List ℕ) (l : Line) → Marks m taken
-    → lineOn (standingOf (s .house .banks) (s .house .codes) (s .house .flags) stream (l .bank .number)) m ≡ firstBroken (lineRules s r stream taken (l ∷ []))
-unfolding linesOn
-line-meet s r stream few m taken l k =
-    alone (lineOn (standingOf (s .house .banks) (s .house .codes) (s .house .flags) stream (l .bank .number)) m)
-    ∙ lines-meet s r stream few m taken (l ∷ []) k
-  where
-    alone : (a : Answer) → a ≡ onDone a Done
-    alone Done = refl
-    alone (Refused f) = refl
