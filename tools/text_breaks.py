@@ -2,7 +2,7 @@
 """Where and why a text breaks, as `inspect` must tell it.
 
     text_breaks.py request|response FILE..          prints what inspect prints of texts that are refused
-    text_breaks.py split request|response FOLDER    writes the texts of crates/.._runs/stdin that are refused, each into a file
+    text_breaks.py split request|response FOLDER    writes the texts of crates/run_../stdin that are refused, each into a file
 
 The reader here is written from document 01, by the tags that may stand where a line begins, and shares nothing with the crates.
 """
@@ -142,7 +142,7 @@ def told(kind, raw):
 
 
 def split(kind, folder):
-    with open("crates/%s_runs/stdin" % kind, "rb") as file:
+    with open("crates/run_%ss/stdin" % kind, "rb") as file:
         rest, n = file.read(), 0
     while rest:
         size = int(rest[:5])
