@@ -1,7 +1,7 @@
 /* The table rules of document 01 over the words as they are lent (docs/FORMAT.md; R1 to R15 of docs/DECISIONS.md). */
 #include <string.h>
 
-#include "tests/engine/plain.h"
+#include "plain.h"
 
 /* A digit is 1, a letter of A-Z 2. */
 static const uint8_t kind[256] = {
@@ -155,14 +155,8 @@ int plain_find(const plain_index *x, const uint64_t code[2]) {
     return -1;
 }
 
-static void add(plain_index *x, const uint64_t code[2], int place) {
-    size_t s = slot_of(code);
-    while (x->slots[s]) s = (s + 1) % 4096;
-    x->slots[s] = (uint16_t)(place + 1);
-}
-
-
-static inline __attribute__((always_inline)) int entries_right(const uint64_t (*entries)[3], int n, uint64_t today, int references, plain_index *x, uint64_t *noted) {
+static inline __attribute__((always_inline)) int entries_right(const uint64_t (*entries)[3], int n, uint64_t today, int references, plain_index *x,
+                                                               uint64_t *noted) {
     memset(x->slots, 0, sizeof x->slots);
     x->entries = entries;
     x->free = -1;
