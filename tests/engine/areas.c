@@ -3,6 +3,7 @@
 
 #include <stdio.h>
 #include <stdlib.h>
+#include <string.h>
 #include <sys/mman.h>
 #include <ucontext.h>
 #include <unistd.h>
@@ -49,13 +50,18 @@ struct exchange *map_exchange(int file, int fresh, struct areas *areas) {
     return p;
 }
 
-void on_small_stack(void (*run)(void)) {
+size_t on_small_stack(size_t bytes, void (*run)(void)) {
+    enum { UNTOUCHED = 0xA5 };
     ucontext_t here, there;
-    size_t at = 0;
+    size_t at = 0, whole = in_pages(bytes), left = 0;
+    uint8_t *lowest = region(whole - MARGIN, -1, &at) - whole;
+    memset(lowest, UNTOUCHED, bytes);
     if (getcontext(&there)) stop("getcontext");
-    there.uc_stack.ss_sp = region(STACK - MARGIN, -1, &at) - STACK;
-    there.uc_stack.ss_size = STACK;
+    there.uc_stack.ss_sp = lowest;
+    there.uc_stack.ss_size = bytes;
     there.uc_link = &here;
     makecontext(&there, run, 0);
     if (swapcontext(&here, &there)) stop("swapcontext");
+    while (left < bytes && lowest[left] == UNTOUCHED) left++;
+    return bytes - left;
 }

@@ -5,8 +5,8 @@
 
 #include "ask.h"
 
-/* Bytes before each thing lent that must stay; the whole stack of a call. */
-enum { MARGIN = 64, STACK = 65536 };
+/* Bytes before each thing lent that must stay. */
+enum { MARGIN = 64 };
 
 /* Each thing ends where the pages begin that nobody may touch, so that a shorter buffer, row or text begins later. */
 struct areas {
@@ -27,6 +27,7 @@ struct areas make_areas(void);
 /* In a file, behind the exchange; `fresh` makes the file as long as it must be. */
 struct exchange *map_exchange(int file, int fresh, struct areas *areas);
 
-void on_small_stack(void (*run)(void));
+/* Runs on a stack of so many bytes, below which nobody may touch anything: how many of them were touched. */
+size_t on_small_stack(size_t bytes, void (*run)(void));
 
 #endif

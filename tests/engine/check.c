@@ -338,6 +338,9 @@ static int tables(const char *in, const char *out) {
     return n < 100;
 }
 
+/* The plain engine is compiled with sanitizers, which take more of a stack. */
+enum { PLAIN_STACK = 65536 };
+
 int main(int argc, char **argv) {
     if (argc == 4 && strcmp(argv[1], "tables") == 0) return tables(argv[2], argv[3]);
     if (argc < 3) return 2;
@@ -356,7 +359,7 @@ int main(int argc, char **argv) {
 
     struct timespec start, end;
     clock_gettime(CLOCK_MONOTONIC, &start);
-    on_small_stack(days);
+    on_small_stack(PLAIN_STACK, days);
     clock_gettime(CLOCK_MONOTONIC, &end);
     if (exchange) end_beside();
     if (shown) show((double)(end.tv_sec - start.tv_sec) + 1e-9 * (double)(end.tv_nsec - start.tv_nsec));

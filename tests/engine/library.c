@@ -1,7 +1,9 @@
 /*
  * The library's engine for check.c, as a program of its own: for each byte at 0 the call that the exchange in the file at 3 asks for, on what is lent
- * there, by the functions of include/purmagheli.h; then a byte at 1. Each call is made on a small stack.
+ * there, by the functions of include/purmagheli.h; then a byte at 1. Each call is made on the stack that docs/OPERATING.md says is enough. With a
+ * word behind its name it says at the end how much of that stack was touched.
  */
+#include <stdio.h>
 #include <unistd.h>
 
 #include "areas.h"
@@ -37,8 +39,12 @@ static void serve(void) {
     }
 }
 
-int main(void) {
+enum { CALL_STACK = 16384 };
+
+int main(int argc, char **argv) {
+    (void)argv;
     exchange = map_exchange(3, 0, &areas);
-    on_small_stack(serve);
+    size_t touched = on_small_stack(CALL_STACK, serve);
+    if (argc > 1) fprintf(stderr, "stack: %zu of %d bytes touched\n", touched, CALL_STACK);
     return 0;
 }
