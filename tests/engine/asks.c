@@ -300,6 +300,39 @@ static void break_text(struct ask *a) {
     }
 }
 
+/* Where the n-th line behind 119 begins, the text's end included, around from the first; 0 if the text has no such line. */
+static size_t line_behind_119(const struct ask *a, uint64_t n) {
+    size_t begins[80], lines = 0, at = 0;
+    while (at + 5 <= a->length && memcmp(a->text + at, ":119:", 5)) at++;
+    while (++at < a->length && lines < 80)
+        if (a->text[at - 2] == '\r' && a->text[at - 1] == '\n') begins[lines++] = at;
+    if (lines < 80) begins[lines++] = a->length;
+    return lines > 1 ? begins[n % lines] : 0;
+}
+
+/* A fault behind 119: the text cut where a line begins or within it, a line left out or doubled, an empty value, 113 after CR, bytes behind 203. */
+static void break_part(struct ask *a) {
+    uint64_t n = chance(64);
+    size_t at = line_behind_119(a, n), next = line_behind_119(a, n + 1), size = next > at ? next - at : 0;
+    char line[64];
+    if (size > sizeof line || at == 0) return;
+    memcpy(line, a->text + at, size);
+    switch (chance(8)) {
+    case 0: a->length = at; break;
+    case 1: a->length = at + chance(size + 1); break;
+    case 2: put_bytes(a, at, size, "", 0); break;
+    case 3: put_bytes(a, at, 0, line, size); break;
+    case 4:
+        if (size > 7) put_bytes(a, at + 5, size - 7, "", 0);
+        break;
+    case 5:
+        if (size > 5 && memcmp(line, ":102:", 5) == 0) put_bytes(a, at, 0, ":113:AAA \r\n", 11);
+        break;
+    case 6: put_bytes(a, a->length, 0, ":203:1\r\n", 1 + chance(8)); break;
+    default: break_letters(a);
+    }
+}
+
 /* ---- books */
 
 static void store(uint8_t *p, uint64_t v, int n) {
@@ -441,6 +474,7 @@ static void ask_message(const plain_engine *e, struct ask *a) {
         if (d->stream[i].code == plain_code4(p->bin)) a->sender = d->stream[i].administrator;
     if (once(50)) a->sender = once(2) ? a->sender + 256 : chance(300);
     if (once(25)) break_text(a);
+    else if (once(p->count > 1 ? 12 : 50)) break_part(a);
 }
 
 /* A live batch by chance, or a null pointer. */

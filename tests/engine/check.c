@@ -277,7 +277,7 @@ static void days(void) {
 /* Every number that document 01 lists for a call or a text was met. */
 static int all_met(void) {
     static const uint8_t listed[] = {0, 1, 2, 4, 5, 7, 11, 12, 13, 14, 15, 73, 74, 76, 77, 78, 80, 81, 84, 87, 88};
-    static const uint8_t in_texts[] = {0, 1, 2, 3, 74, 76, 77, 78, 84, 86, 87};
+    static const uint8_t in_texts[] = {0, 1, 2, 3, 74, 76, 77, 78, 80, 81, 84, 86, 87};
     int missed = broken_tables == 0;
     for (size_t i = 0; i < sizeof listed; i++)
         if (!answers[listed[i]]) missed = printf("tests/engine: no call was answered %02d\n", listed[i]);

@@ -54,7 +54,8 @@ pub fn perform(
             at: 0,
             texts: desk.texts,
         },
-        Plan::Repeated(p) => answering::repeat(
+        Plan::Rejects(p, f) => answering::reject(
+            f,
             batches,
             queue,
             nq,

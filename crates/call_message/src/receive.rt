@@ -28,7 +28,7 @@ fn note_plan(
 {
     match plan {
         Plan::Untouched(_) => {}
-        Plan::Repeated(_) => {}
+        Plan::Rejects(_, _) => {}
         Plan::Alone(q) => call_plan::entries::note(references, q, today, reference),
         Plan::Comes(_, _, q) => call_plan::entries::note(references, q, today, reference),
         Plan::Begins(_, _, q, k) => {

@@ -1,4 +1,4 @@
-// What is to be done with a message that was read: steps 2 to 5, before anything is changed.
+// What is to be done with a message that was read: steps 1 to 5, before anything is changed.
 pub mod finding;
 
 use crate::rules::places;
@@ -6,22 +6,25 @@ use chars::Refusal;
 use codes::Code;
 use request_read::whole::Head;
 use request_read::whole::Outcome;
+use request_read::whole::Reached;
 use tables::Desk;
 use tables::Sought;
+use text_fields::Break;
 ghost use mathlib.Core.Path.{_≡_};
 ghost use Prim.Native.Nat.{ℕ, _≤_, _<_};
 ghost use lib.ListN.{length};
+ghost use Rattle.model.specs.Messages.{isBrokenPart};
 ghost use Rattle.tables.specs.Rows.{entriesIn, streamsOn};
 ghost use Rattle.tables.specs.Seeking.{foundBy};
 ghost use Rattle.call_orders.specs.Stages.{seen, placesIn};
-ghost use Rattle.call_plan.specs.plan.Plans.{repeatedOn, knownOn, newOn, notedOn, settlementOn, recallOn, sentOn, Lookable, planOn};
+ghost use Rattle.call_plan.specs.plan.Plans.{rejectsOn, knownOn, newOn, notedOn, settlementOn, recallOn, brokenOn, sentOn, Lookable, planOn};
 
 // What becomes of a message. The numbers are places: of a batch, of its stream, and the free ones that its reference and its BIN take.
 pub enum Plan {
     // It is refused, touches no batch and is not noted.
     Untouched(Refusal),
-    // Its reference is used, and the batch that it is for is ended.
-    Repeated(usize),
+    // It is refused and not noted, and the batch that it is for is ended with its number.
+    Rejects(usize, Refusal),
     // It is noted, and refused alone.
     Alone(usize),
     // It comes to a batch that is being assembled: batch, stream, reference.
@@ -40,13 +43,13 @@ pub enum Sent {
     Not(Refusal),
 }
 
-// "For a 131 whose BIN is being assembled, that batch is rejected with 74."
-fn on_repeated(assembling: Sought) -> Plan
-    ensures { λ r. ⌜ r ≡ repeatedOn (foundBy assembling) ⌝ }
+// A 131 that is refused and not noted, by the batch that its BIN is assembling.
+fn on_refused(assembling: Sought, refusal: Refusal) -> Plan
+    ensures { λ r. ⌜ r ≡ rejectsOn (foundBy assembling) refusal ⌝ }
 {
     match assembling {
-        Sought::Here(p) => Plan::Repeated(p),
-        Sought::Nowhere => Plan::Untouched(Refusal::UsedReference),
+        Sought::Here(p) => Plan::Rejects(p, refusal),
+        Sought::Nowhere => Plan::Untouched(refusal),
     }
 }
 
@@ -115,7 +118,7 @@ fn settlement_plan(
     let assembling = finding::assembling(batches, queue, nq, pending, nw, bin);
     let l = crate::entries::look(references, 2048, today, reference);
     if l.used {
-        return on_repeated(assembling);
+        return on_refused(assembling, Refusal::UsedReference);
     }
     let free = l.free;
     match free {
@@ -172,7 +175,55 @@ fn sender_stream(desk: Desk, sender: u64, code: u64) -> Sent
     }
 }
 
-// Steps 2 to 5 of a message, by its outcome and head.
+// "where step 1 fails in a 131 after 22A and 119 were read well", and no field is missing.
+fn is_broken_part(head: Head, b: Break) -> bool
+    ensures { λ r. ⌜ r ≡ isBrokenPart head b ⌝ }
+{
+    let subtype = head.subtype;
+    if subtype.number != 131 {
+        return false;
+    }
+    let address = head.address;
+    let reached = address.reached;
+    match reached {
+        Reached::Nothing => false,
+        Reached::Stream => false,
+        Reached::Bin => !b.missing,
+    }
+}
+
+// Step 1: "the stream is known, the sender is its administrator and that BIN is being assembled, the batch ends with the same code".
+fn broken_plan(
+    desk: Desk,
+    sender: u64,
+    head: Head,
+    b: Break,
+    batches: &[u64],
+    queue: &[u64],
+    nq: usize,
+    pending: &[u64],
+    nw: usize,
+) -> Plan
+    requires { ⌜ desk .n ≤ 8 ⌝ }
+    requires { ⌜ (length (now batches) ≡ 11168) × (nq ≤ length (now queue)) × (nw ≤ length (now pending)) ⌝ }
+    ensures { λ r. ⌜ r ≡ brokenOn (streamsOn desk) sender head b (seen (now (batches .entry)) (now (queue .entry)) nq (now (pending .entry)) nw) ⌝ }
+{
+    let refusal = b.refusal;
+    if !is_broken_part(head, b) {
+        return Plan::Untouched(refusal);
+    }
+    let address = head.address;
+    let stream = address.stream;
+    let named = address.bin;
+    let assembling = finding::assembling(batches, queue, nq, pending, nw, named.code);
+    let from = sender_stream(desk, sender, stream.number);
+    match from {
+        Sent::In(_) => on_refused(assembling, refusal),
+        Sent::Not(_) => Plan::Untouched(refusal),
+    }
+}
+
+// Steps 1 to 5 of a message, by its outcome and head.
 pub fn choose(
     desk: Desk,
     sender: u64,
@@ -198,8 +249,7 @@ pub fn choose(
     let reference = by.code;
     match outcome {
         Outcome::Refused(b) => {
-            let f = b.refusal;
-            Plan::Untouched(f)
+            broken_plan(desk, sender, head, b, batches, queue, nq, pending, nw)
         }
         Outcome::Settlement => {
             let from = sender_stream(desk, sender, stream.number);

@@ -1,6 +1,5 @@
--- Steps 1 to 3 of a message: texts that touch no batch, and used references. Administrator 5 has PROP, 7 has CARD.
+-- Steps 1 to 3 of a message: texts that touch no batch, and used references (broken parts: DaysBroken). Administrator 5 has PROP, 7 has CARD.
 use Prim.Native.Nat.{ℕ}
-use Prim.Native.String.{String}
 use mathlib.Core.Path.{_≡_, refl}
 use mathlib.Core.List.{List, [], _∷_, _++_}
 use Rattle.chars.specs.Words.{bytes}
@@ -12,11 +11,8 @@ use Rattle.model.proofs.Stories.{asked, says, stream, flagged, request,
 abbrev opens : Call
 opens = asked 9 0 0 Opening (bookBytes 9895 (stream "CARD" 7 ∷ stream "PROP" 5 ∷ []) (flagged "AAAA" 6 10000 0 ∷ flagged "BBBB" 6 0 0 ∷ []))
 
-abbrev lettered : String → List ℕ
-lettered letters = request "S2" "PROP0001" "02/02" (alone (dr "BBBB" "1," letters))
-
 -- S1 is the first of two messages. Until S2 comes nothing touches its batch: a stranger with the used reference 73, a stream that is not in the book
--- 87 before 73 and 74, the used reference from another administrator 74, or in a recall; a broken line 87, another sub type 88, wrong letters 80, 81, 87
+-- 87 before 73 and 74, the used reference from another administrator 74, or in a recall; another sub type 88, a text that ends before its BIN 87
 abbrev no-batch-touched-calls : List Call
 no-batch-touched-calls =
     opens
@@ -26,14 +22,9 @@ no-batch-touched-calls =
     ∷ asked 10 0 3 (Message 6) (request "S1" "NOPE0001" "01/01" (pays "AAAA" "BBBB" "1," "AAA "))
     ∷ asked 10 0 4 (Message 7) (request "S1" "CARD0001" "01/01" (pays "AAAA" "BBBB" "1," "AAA "))
     ∷ says 10 0 5 (recallOf "S1" "PROP0001")
-    ∷ says 10 0 6 (request "S2" "PROP0001" "02/01" (alone (cr "BBBB" "1,")))
-    ∷ says 10 0 7 (bytes ":20:S2\r\n:12:132\r\n:77E:\r\n:22A:PROP\r\n:119:PROP0001\r\n")
-    ∷ says 10 0 8 (lettered "XXX1")
-    ∷ says 10 0 9 (lettered "AXX1")
-    ∷ says 10 0 10 (lettered "AAX1")
-    ∷ says 10 0 11 (lettered "AAA1")
-    ∷ says 10 0 12 (lettered "XAA")
-    ∷ says 10 0 13 (request "S2" "PROP0001" "02/02" (alone (cr "BBBB" "1,")))
+    ∷ says 10 0 6 (bytes ":20:S2\r\n:12:132\r\n:77E:\r\n:22A:PROP\r\n:119:PROP0001\r\n")
+    ∷ says 10 0 7 (bytes ":20:S2\r\n:12:131\r\n:77E:\r\n:22A:PROP\r\n")
+    ∷ says 10 0 8 (request "S2" "PROP0001" "02/02" (alone (cr "BBBB" "1,")))
     ∷ []
 
 pub no-batch-touched : plays no-batch-touched-calls
@@ -44,14 +35,9 @@ pub no-batch-touched : plays no-batch-touched-calls
     ∷ quiet 87 (10000 ∷ 0 ∷ [])
     ∷ quiet 74 (10000 ∷ 0 ∷ [])
     ∷ quiet 74 (10000 ∷ 0 ∷ [])
-    ∷ quiet 87 (10000 ∷ 0 ∷ [])
     ∷ quiet 88 (10000 ∷ 0 ∷ [])
-    ∷ quiet 80 (10000 ∷ 0 ∷ [])
-    ∷ quiet 81 (10000 ∷ 0 ∷ [])
-    ∷ quiet 81 (10000 ∷ 0 ∷ [])
     ∷ quiet 87 (10000 ∷ 0 ∷ [])
-    ∷ quiet 87 (10000 ∷ 0 ∷ [])
-    ∷ line 0 (reply132 "1" "S1" "PROP0001" "0\r\n:13E:270203100013" ++ reply132 "2" "S2" "PROP0001" "0\r\n:13E:270203100013") (1 ∷ []) (9900 ∷ 100 ∷ [])
+    ∷ line 0 (reply132 "1" "S1" "PROP0001" "0\r\n:13E:270203100008" ++ reply132 "2" "S2" "PROP0001" "0\r\n:13E:270203100008") (1 ∷ []) (9900 ∷ 100 ∷ [])
     ∷ []
 unfolding plays
 no-batch-touched = refl

@@ -25,7 +25,7 @@ use Rattle.model.specs.Kinds.{Own, receives, changesSublimit, changesSta
 use Rattle.model.specs.State.{Found, at, nowhere, onFound, seek, isFree, Batch, Place, free, live, onLive, Batches, Known, State, placeAt, placeMessages, paymentsAt, withPlace}
 use Rattle.model.specs.Memory.{isUsed, vacant}
 use Rattle.model.specs.Replies.{Reply, settlement, recall, repliesTo}
-use Rattle.model.specs.Messages.{SubType, is131, is133, bySubType, today, reference, bin, streamCode, isKnown, firstBatch, withBin, assembling, waiting, isThere, referenceFits, binFits, fits, withReference, streamPlace, administrator, bankPlace, Acted, bank, place, leaving, rejecting, ended, toTail, isComplete, isEven, completed, firstBroken, messageRules, onText, onSender, repeated, onBin, onRules, admit, withMessage, recalling, message}
+use Rattle.model.specs.Messages.{SubType, is131, is133, bySubType, today, reference, bin, streamCode, isKnown, firstBatch, withBin, assembling, waiting, isThere, referenceFits, binFits, fits, withReference, streamPlace, administrator, bankPlace, Acted, bank, place, leaving, rejecting, ended, toTail, isComplete, isEven, completed, firstBroken, messageRules, isBrokenPart, brokenPart, onText, onSender, repeated, onBin, onRules, admit, withMessage, recalling, message}
 use Rattle.model.specs.Changes.{subLimit, hasDebit, withLetter, status}
 use Rattle.model.specs.Calls.{act}
 use Rattle.model.proofs.Truth.{or-second, and-true}
@@ -132,10 +132,18 @@ module _ (s : State) (r : Reading) where
   readAs is131 = Settlement
   readAs is133 = Recall
 
-  did-text : {next : SubType → Acted} (o : Read) → r .outcome ≡ o → ((t : SubType) → r .outcome ≡ readAs t → Told (next t)) → Told (onText s r o next)
-  did-text Settlement e f = f is131 e
-  did-text Recall e f = f is133 e
-  did-text (Unread b) e f = idle _
+  did-broken : (sender : ℕ) (f : Refusal) → Told (brokenPart s r sender f)
+  unfolding brokenPart
+  did-broken sender f =
+      by-found Told (streamPlace (s .house) (streamCode s r)) (idle _) (λ i e.
+      by-cond Told (eqb sender (administrator (s .house) i))
+      (λ _. by-found Told (assembling (s .batches) (bin s r)) (idle _) (λ p g. repeats p (bin s r) f (is-assembling (s .batches) (bin s r) p g)))
+      (λ _. idle _))
+
+  did-text : {next : SubType → Acted} (sender : ℕ) (o : Read) → r .outcome ≡ o → ((t : SubType) → r .outcome ≡ readAs t → Told (next t)) → Told (onText s r sender o next)
+  did-text sender Settlement e f = f is131 e
+  did-text sender Recall e f = f is133 e
+  did-text sender (Unread b) e f = by-cond Told (isBrokenPart (r .head) b) (λ _. did-broken sender (b .refusal)) (λ _. idle _)
 
   did-sender : {next : ℕ → Acted} (sender : ℕ) → ((stream : ℕ) → Told (next stream)) → Told (onSender s r sender next)
   unfolding onSender
@@ -156,7 +164,7 @@ module _ (s : State) (r : Reading) where
   pub did-message : (sender : ℕ) → Told (message s sender r)
   unfolding message
   did-message sender =
-      did-text (r .outcome) refl (λ t i.
+      did-text sender (r .outcome) refl (λ t i.
       did-sender sender (λ stream.
       by-cond Told (isUsed (today s) (reference s r) (s .known .references)) (λ _. did-repeated t) (λ u.
       by-cond Told (fits s r t) (λ f. did-noted t stream i u f) (λ _. idle _))))

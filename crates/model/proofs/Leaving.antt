@@ -26,11 +26,11 @@ use Rattle.model.specs.Kinds.{Kind, isClose, Own, receives, changesSubli
 use Rattle.model.specs.State.{Found, at, nowhere, onFound, seek, isFree, Batch, Place, free, live, onLive, Batches, Known, State, placeAt, paymentsAt, paymentsOf, withPlace}
 use Rattle.model.specs.Memory.{isUsed}
 use Rattle.model.specs.Joining.{keep}
-use Rattle.model.specs.Messages.{is131, is133, bySubType, Acted, Rule, firstBroken, streamPlace, administrator, bankPlace, assembling, waiting, ended, untouched, rejecting, today, reference, bin, streamCode, lineRules, banksIn, lines, lineBank, messageRules, withMessage, isComplete, isEven, completed, onText, onSender, repeated, fits, onReference, onRoom, onBin, onRules, admit, firstBatch, withBin, isKnown, recalling, withReference, message}
+use Rattle.model.specs.Messages.{is131, is133, bySubType, Acted, Rule, firstBroken, streamPlace, administrator, bankPlace, assembling, waiting, ended, untouched, rejecting, today, reference, bin, streamCode, lineRules, banksIn, lines, lineBank, messageRules, withMessage, isComplete, isEven, completed, isBrokenPart, brokenPart, onText, onSender, repeated, fits, onReference, onRoom, onBin, onRules, admit, firstBatch, withBin, isKnown, recalling, withReference, message}
 use Rattle.model.specs.Changes.{subLimit, hasDebit, status}
 use Rattle.model.specs.Calls.{Call, Engine, Result, judge, begun, act, goesOn, closes, stepped, performed, judged, call}
 use Rattle.model.specs.Answered.{acted, outcome}
-use Rattle.model.specs.LeftBehind.{ownEnded, settlementLeft, recallLeft, textLeft, leftBy, finished, LeftBehind}
+use Rattle.model.specs.LeftBehind.{ownEnded, settlementLeft, recallLeft, partLeft, textLeft, leftBy, finished, LeftBehind}
 use Rattle.model.proofs.Refusals.{not-done}
 use Rattle.model.proofs.Counting.{times}
 use Rattle.model.proofs.Truth.{or-false}
@@ -206,11 +206,26 @@ module _ (s : State) (r : Reading) (h : Stood (s .house .banks) (s .batches)) wh
       (λ _. by-cond (recallLeft s r) (fits s r is133) (λ _. recalling-left) (λ _. left-at (recallLeft s r) NoRoom _ refl refl)))
       (λ _. left-at (recallLeft s r) WrongSender _ refl refl))
 
+  part-left : (sender : ℕ) (f : Refusal) → Left (partLeft s r sender) (brokenPart s r sender f)
+  unfolding brokenPart
+  part-left sender f =
+      by-found (partLeft s r sender) (streamPlace (s .house) (streamCode s r))
+      (λ e. left-at (partLeft s r sender) f _ refl (rw e refl))
+      (λ i e. by-cond (partLeft s r sender) (eqb sender (administrator (s .house) i))
+      (λ y. by-found (partLeft s r sender) (assembling (s .batches) (bin s r))
+      (λ a. left-at (partLeft s r sender) f _ refl (rw (e, y, a) refl))
+      (λ p a. left-at (partLeft s r sender) f _ refl (rw (e, y, a, assembled-order (bin s r) p a) refl)))
+      (λ y. left-at (partLeft s r sender) f _ refl (rw (e, y) refl)))
+
+  unread-left : (sender : ℕ) (f : Refusal) (t : Bool) → Left (λ q. cond t (partLeft s r sender q) (untouched s q)) (cond t (brokenPart s r sender f) (untouched s f))
+  unread-left sender f true = part-left sender f
+  unread-left sender f false = left-at (λ q. untouched s q) f _ refl refl
+
   text-left : (sender : ℕ) (o : Read)
-      → Left (textLeft s r o) (onText s r o (λ t. onSender s r sender (λ stream. onReference s r t (onRoom s r t (λ k. bySubType t (onBin s r k (admit s r stream)) (recalling s r k))))))
+      → Left (textLeft s r sender o) (onText s r sender o (λ t. onSender s r sender (λ stream. onReference s r t (onRoom s r t (λ k. bySubType t (onBin s r k (admit s r stream)) (recalling s r k))))))
   text-left sender Settlement = settlement-left sender
   text-left sender Recall = recall-left sender
-  text-left sender (Unread b) = left-at (λ q. untouched s q) (b .refusal) _ refl refl
+  text-left sender (Unread b) = unread-left sender (b .refusal) (isBrokenPart (r .head) b)
 
   -- ---- changes
 

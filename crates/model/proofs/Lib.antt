@@ -3,6 +3,7 @@ pub mod DaysRemembered
 pub mod DaysRoom
 pub mod DaysRules
 pub mod DaysSenders
+pub mod DaysBroken
 pub mod DaysRecalls
 pub mod DaysActivation
 pub mod DaysChanges

@@ -42,7 +42,7 @@ use Rattle.model.specs.State.{seekFrom}
 use Rattle.model.specs.Memory.{isUsed, vacant, note}
 use Rattle.model.specs.Replies.{repliesTo, textOf as engine-textOf, textsFrom}
 use Rattle.model.specs.Joining.{keep, insert, byTime, join}
-use Rattle.model.specs.Messages.{firstBroken as engine-firstBroken, streamPlace, bankPlace as engine-bankPlace, ended, assembling, waiting, linePayments, lineRules, messageRules, onSender, onBin, completed, admit, recalling, message}
+use Rattle.model.specs.Messages.{firstBroken as engine-firstBroken, streamPlace, bankPlace as engine-bankPlace, ended, assembling, waiting, linePayments, lineRules, messageRules, brokenPart, onSender, onBin, completed, admit, recalling, message}
 use Rattle.model.specs.Changes.{subLimit, hasDebit, withEsa, relabel, relettered, status}
 use Rattle.model.specs.Ending.{emptied, afterTest, settledReplies, closeReplies}
 use Rattle.model.specs.Days.{opened, openingAnswer, closingText}
@@ -148,7 +148,7 @@ told r = line (answerNumber (r .answer)) (r .out) (r .tries) (take 2 (r .engine 
 
 -- what is told of calls from an engine on, and of a day from a fresh start. To unfold either is to unfold the engine and all below it.
 unfoldable pub goes : Engine → List Call → List Line
-unfolding isDigit isLetter isCode digitValue packOn shortAt longOf longAt unpacked named shortText spelled longText before codeBefore wordOf sumWords blockSum february months daysIn isTrue dayOf monthDay dateOf isRemembered clockOf hasBegun minuteOf hhmmOf secondOf hhmmssOf begins litAt run codesAt codeAt digits digitsAt numberAt lineEnd lineEndAt textOf codeOf forbiddenAt referenceAt numeralAt wordAt binAt numbered numbersAt countIn dateAt timeAt sideAt hundredths amountAt countAt isStatus isFourth judgedAt lettersAt fieldAt activationAt termsAt bankAt creditAt debitAt paymentAt moreAt paymentsOn paymentsAt namedAt addressAt settlementAt recallAt messageAt requestAt digitsOf headText batchText settledText rejectedText settlementText recallText firstBroken little headRight zerosAt unusedRight headerRight checkRight entriesRight dateIn streamRight bitsPast bankRight lengthRight streamsCounted streamRules banksCounted book-codeBefore bankRules bankBlocks bankPlace bankCount totalRight bookRules bookCheck dayIn streamsIn banksIn littleOf streamBytes bankBytes sealed streamBlock bankBlock bankBlocksOf blocksFor bookBytes covered payment settle-paymentAt paymentsFrom needsOf firstUncovered paid settled debits credits creditedBy credited wake some again omits remember tried turn walk test forgotten Payer sublimited seekFrom isUsed vacant note repliesTo engine-textOf textsFrom keep insert byTime join engine-firstBroken streamPlace engine-bankPlace ended assembling waiting linePayments lineRules messageRules onSender onBin completed admit recalling message subLimit hasDebit withEsa relabel relettered status emptied afterTest settledReplies closeReplies opened openingAnswer closingText judge begun act woken tested replies left lastReplies goesOn closes stepped call engine-run
+unfolding isDigit isLetter isCode digitValue packOn shortAt longOf longAt unpacked named shortText spelled longText before codeBefore wordOf sumWords blockSum february months daysIn isTrue dayOf monthDay dateOf isRemembered clockOf hasBegun minuteOf hhmmOf secondOf hhmmssOf begins litAt run codesAt codeAt digits digitsAt numberAt lineEnd lineEndAt textOf codeOf forbiddenAt referenceAt numeralAt wordAt binAt numbered numbersAt countIn dateAt timeAt sideAt hundredths amountAt countAt isStatus isFourth judgedAt lettersAt fieldAt activationAt termsAt bankAt creditAt debitAt paymentAt moreAt paymentsOn paymentsAt namedAt addressAt settlementAt recallAt messageAt requestAt digitsOf headText batchText settledText rejectedText settlementText recallText firstBroken little headRight zerosAt unusedRight headerRight checkRight entriesRight dateIn streamRight bitsPast bankRight lengthRight streamsCounted streamRules banksCounted book-codeBefore bankRules bankBlocks bankPlace bankCount totalRight bookRules bookCheck dayIn streamsIn banksIn littleOf streamBytes bankBytes sealed streamBlock bankBlock bankBlocksOf blocksFor bookBytes covered payment settle-paymentAt paymentsFrom needsOf firstUncovered paid settled debits credits creditedBy credited wake some again omits remember tried turn walk test forgotten Payer sublimited seekFrom isUsed vacant note repliesTo engine-textOf textsFrom keep insert byTime join engine-firstBroken streamPlace engine-bankPlace ended assembling waiting linePayments lineRules messageRules brokenPart onSender onBin completed admit recalling message subLimit hasDebit withEsa relabel relettered status emptied afterTest settledReplies closeReplies opened openingAnswer closingText judge begun act woken tested replies left lastReplies goesOn closes stepped call engine-run
 goes e calls = map told (engine-run e calls)
 
 unfoldable pub plays : List Call → List Line

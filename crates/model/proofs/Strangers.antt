@@ -18,7 +18,7 @@ use Rattle.model.specs.declared.Answer.{Answer}
 use Rattle.model.specs.declared.Answer.the-variants.{Done, Refused}
 use Rattle.model.specs.Kinds.{receives, changesSublimit, changesStatus, ownOf}
 use Rattle.model.specs.State.{Found, at, nowhere, onFound, State}
-use Rattle.model.specs.Messages.{SubType, is131, is133, Acted, streamCode, streamPlace, administrator, untouched, leaving, onText, onSender, message}
+use Rattle.model.specs.Messages.{SubType, is131, is133, Acted, streamCode, streamPlace, administrator, untouched, leaving, isBrokenPart, brokenPart, onText, onSender, message}
 use Rattle.model.specs.Calls.{Call, Engine, Result, judge, begun, act, tested, replies, left, goesOn, stepped, judged, call}
 use Rattle.model.specs.Promises.{Alike, Stranger, asking}
 
@@ -52,10 +52,20 @@ module _ (s : State) (sender : ℕ) (r : Reading) (h : Stranger s sender r) wher
   sent-idle next = by-stream (streamPlace (s .house) (streamCode s r)) refl
       (λ i e. by-sender (eqb sender (administrator (s .house) i)) (λ y. absurd (h i e (eqb-true sender (administrator (s .house) i) y))) (record { fault = WrongSender; same = refl }))
 
-  text-idle : {next : SubType → Acted} (o : Read) → ((t : SubType) → Idle s (next t)) → Idle s (onText s r o next)
+  idle-found : {d : Acted} {k : ℕ → Acted} (f : Found) → streamPlace (s .house) (streamCode s r) ≡ f → Idle s d → ((i : ℕ) → streamPlace (s .house) (streamCode s r) ≡ at i → Idle s (k i))
+      → Idle s (onFound f d k)
+  idle-found (at i) e d g = g i e
+  idle-found nowhere e d g = d
+
+  part-idle : (f : Refusal) → Idle s (brokenPart s r sender f)
+  unfolding brokenPart
+  part-idle f = idle-found (streamPlace (s .house) (streamCode s r)) refl (record { fault = f; same = refl })
+      (λ i e. by-sender (eqb sender (administrator (s .house) i)) (λ y. absurd (h i e (eqb-true sender (administrator (s .house) i) y))) (record { fault = f; same = refl }))
+
+  text-idle : {next : SubType → Acted} (o : Read) → ((t : SubType) → Idle s (next t)) → Idle s (onText s r sender o next)
   text-idle Settlement f = f is131
   text-idle Recall f = f is133
-  text-idle (Unread b) f = record { fault = b .refusal; same = refl }
+  text-idle (Unread b) f = by-sender (isBrokenPart (r .head) b) (λ _. part-idle (b .refusal)) (record { fault = b .refusal; same = refl })
 
   pub strangers-touch-nothing : Idle s (message s sender r)
   unfolding message

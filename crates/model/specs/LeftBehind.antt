@@ -19,7 +19,7 @@ use Rattle.model.specs.declared.Answer.the-variants.{Done, Refused}
 use Rattle.model.specs.Kinds.{steps, kindOf, Own, receives, changesSublimit, changesStatus, nothing, ownOf}
 use Rattle.model.specs.State.{onFound, seek, isFree, Message, free, Known, State, placeAt, placeMessages, placeBin}
 use Rattle.model.specs.Replies.{settlement, recall, repliesTo}
-use Rattle.model.specs.Messages.{Acted, place, leaving, untouched, isThere, streamPlace, assembling, reference, bin, streamCode, isKnown, withReference, withBin, arrived}
+use Rattle.model.specs.Messages.{Acted, place, leaving, untouched, isThere, streamPlace, administrator, isBrokenPart, assembling, reference, bin, streamCode, isKnown, withReference, withBin, arrived}
 use Rattle.model.specs.Calls.{Call, Engine, Result, judge, begun, tested, goesOn}
 
 module _ (s : State) (r : Reading) where
@@ -45,30 +45,39 @@ module _ (s : State) (r : Reading) where
       (λ p. batchEnded q p (placeMessages (placeAt (s .batches) p) ++ (arrived s r ∷ [])) (placeBin (placeAt (s .batches) p)) (withReference s r)))
       (onFound (seek isFree (s .batches .places)) (untouched s q) (λ p. batchEnded q p (arrived s r ∷ []) (bin s r) (withBin s r (withReference s r))))
 
+  -- the batch that the BIN is assembling ends, and nothing is noted; where none is, nothing is touched
+  abbrev pub assembledEnded : Refusal → Acted
+  assembledEnded q =
+      onFound (assembling (s .batches) (bin s r)) (untouched s q) (λ p. batchEnded q p (placeMessages (placeAt (s .batches) p)) (bin s r) (s .known))
+
   -- a 131: 01, and what breaks a rule of step 5 (87 only where the stream is in the book), ends its batch; 74 ends the batch being assembled, and notes
   -- nothing; 73 and 04 leave "clock, queue test"
   abbrev pub settlementLeft : Refusal → Acted
   settlementLeft q =
       cond (member (numberOf q) (1 ∷ 76 ∷ 77 ∷ 78 ∷ 84 ∷ [])) (ownEnded q)
       (cond (eqb (numberOf q) 87) (cond (isThere (streamPlace (s .house) (streamCode s r))) (ownEnded q) (untouched s q))
-      (cond (eqb (numberOf q) 74)
-      (onFound (assembling (s .batches) (bin s r)) (untouched s q) (λ p. batchEnded q p (placeMessages (placeAt (s .batches) p)) (bin s r) (s .known)))
-      (untouched s q)))
+      (cond (eqb (numberOf q) 74) (assembledEnded q) (untouched s q)))
 
   -- a 133: with 02 its "reference is noted and its 134 written"; all other numbers leave "clock, queue test"
   abbrev pub recallLeft : Refusal → Acted
   recallLeft q =
       cond (eqb (numberOf q) 2) (leaving s (Refused q) (recall (reference s r) (Kept (numberOf q)) ∷ []) [] (s .batches) (withReference s r)) (untouched s q)
 
-  -- a text that is broken touches no batch
-  abbrev pub textLeft : Read → Refusal → Acted
-  textLeft Settlement q = settlementLeft q
-  textLeft Recall q = recallLeft q
-  textLeft (Unread b) q = untouched s q
+  -- 80, 81 and 87 of step 1 in a part that is broken after its BIN was read well: "the batch ends with the same code" if its administrator sent it
+  abbrev pub partLeft : (sender : ℕ) → Refusal → Acted
+  partLeft sender q =
+      onFound (streamPlace (s .house) (streamCode s r)) (untouched s q) (λ i.
+      cond (eqb sender (administrator (s .house) i)) (assembledEnded q) (untouched s q))
+
+  -- 80, 81, 87 and 88 of step 1 in any other text: "touches no batch"
+  abbrev pub textLeft : (sender : ℕ) → Read → Refusal → Acted
+  textLeft sender Settlement q = settlementLeft q
+  textLeft sender Recall q = recallLeft q
+  textLeft sender (Unread b) q = cond (isBrokenPart (r .head) b) (partLeft sender q) (untouched s q)
 
   -- a change that is refused leaves "clock, queue test"; a tick and the close are not refused
   abbrev pub leftBy : Own → Refusal → Acted
-  leftBy (receives sender) q = textLeft (r .outcome) q
+  leftBy (receives sender) q = textLeft sender (r .outcome) q
   leftBy (changesSublimit code cents) q = untouched s q
   leftBy (changesStatus code bin letter) q = untouched s q
   leftBy nothing q = untouched s q

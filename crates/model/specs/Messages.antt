@@ -15,7 +15,11 @@ use Rattle.request_read.specs.declared.terms.Activation.the-variants.{AtOnce, M
 use Rattle.request_read.specs.declared.payments.Payment.{Payment as Line}
 use Rattle.request_read.specs.declared.whole.Outcome.{Outcome as Read}
 use Rattle.request_read.specs.declared.whole.Outcome.the-variants.{Settlement, Recall, Refused as Unread}
+use Rattle.request_read.specs.declared.whole.Head.{Head}
 use Rattle.request_read.specs.declared.whole.Reading.{Reading}
+use Rattle.request_read.specs.declared.whole.Reached.{Reached}
+use Rattle.request_read.specs.declared.whole.Reached.the-variants.{Nothing, Stream as ToStream, Bin as ToBin}
+use Rattle.text_fields.specs.declared.Break.{Break}
 use Rattle.book_read.specs.Accounts.{Stream}
 use Rattle.settle.specs.Payments.{Payment, payment, bankOf}
 use Rattle.settle.specs.Settlement.{Accounts}
@@ -126,6 +130,17 @@ isComplete b = eqb (length (b .messages)) (b .count)
 abbrev pub isEven : Batch → Bool
 isEven b = eqb (credits (paymentsOf (b .messages))) (debits (paymentsOf (b .messages)))
 
+-- "22A and 119 were read well"
+abbrev pub hasAddress : Reached → Bool
+hasAddress Nothing = false
+hasAddress ToStream = false
+hasAddress ToBin = true
+
+-- "where step 1 fails in a 131 after 22A and 119 were read well"; but not by "a missing mandatory field (the text's end where a tag should stand, or,
+-- where a line begins, anything but a tag expected there, save 113 after CR)"
+abbrev pub isBrokenPart : Head → Break → Bool
+isBrokenPart h b = eqb (h .subtype .number) 131 && (hasAddress (h .address .reached) && not (b .missing))
+
 -- what an accepted text is: "131 or 133"
 pub data SubType : Type 0 where
   is131 : SubType
@@ -163,12 +178,25 @@ module _ (s : State) (r : Reading) where
   abbrev pub streamCode : ℕ
   streamCode = r .head .address .stream .number
 
-  -- ---- 1. "Tags and values in text order: the first break gives 87 .. No batch is touched."
+  -- the batch that the BIN is assembling is rejected with a number; the message that ends it is not noted
+  abbrev pub rejectAssembled : Refusal → Acted
+  rejectAssembled f =
+      onFound (assembling (s .batches) bin) (untouched s f) (λ p.
+      rejecting s f p (s .batches) (placeMessages (placeAt (s .batches) p)) bin (s .known))
 
-  abbrev pub onText : Read → (SubType → Acted) → Acted
-  onText Settlement next = next is131
-  onText Recall next = next is133
-  onText (Unread b) next = untouched s (b .refusal)
+  -- ---- 1. "Tags and values in text order: the first break gives 87 .. No batch is touched." Ticket 1: "From now on, where step 1 fails in a 131
+  -- after 22A and 119 were read well, the stream is known, the sender is its administrator and that BIN is being assembled, the batch ends with the
+  -- same code. A fault before that point, or a missing mandatory field (..), touches no batch".
+
+  unfoldable pub brokenPart : (sender : ℕ) → Refusal → Acted
+  brokenPart sender f =
+      onFound (streamPlace (s .house) streamCode) (untouched s f) (λ i.
+      cond (eqb sender (administrator (s .house) i)) (rejectAssembled f) (untouched s f))
+
+  abbrev pub onText : (sender : ℕ) → Read → (SubType → Acted) → Acted
+  onText sender Settlement next = next is131
+  onText sender Recall next = next is133
+  onText sender (Unread b) next = cond (isBrokenPart (r .head) b) (brokenPart sender (b .refusal)) (untouched s (b .refusal))
 
   -- ---- 2. "Stream not in the book 87; sender not that stream's administrator 73. No batch is touched."
 
@@ -181,9 +209,7 @@ module _ (s : State) (r : Reading) where
   -- rejected with 74."
 
   abbrev pub repeated : SubType → Acted
-  repeated is131 =
-      onFound (assembling (s .batches) bin) (untouched s UsedReference) (λ p.
-      rejecting s UsedReference p (s .batches) (placeMessages (placeAt (s .batches) p)) bin (s .known))
+  repeated is131 = rejectAssembled UsedReference
   repeated is133 = untouched s UsedReference
 
   abbrev pub onReference : SubType → Acted → Acted
@@ -317,7 +343,7 @@ module _ (s : State) (r : Reading) where
 -- a text from a sender
 unfoldable pub message : State → (sender : ℕ) → Reading → Acted
 message s sender r =
-    onText s r (r .outcome) (λ t.
+    onText s r sender (r .outcome) (λ t.
     onSender s r sender (λ stream.
     onReference s r t
     (onRoom s r t (λ k.

@@ -5,6 +5,7 @@ use mathlib.Core.Bool.{Bool, true, false, _&&_, cond, false≢true}
 use mathlib.Core.List.{List, [], _∷_, _++_}
 use lib.Dec.{eqb, leb}
 use Rattle.chars.specs.Words.{bytes, member, Says}
+use Rattle.chars.specs.declared.Refusal.{Refusal}
 use Rattle.chars.specs.declared.Refusal.the-variants.{BrokenTables, WrongMoment}
 use Rattle.codes.specs.declared.Code.{Code}
 use Rattle.text_values.proofs.Alike.{by-cond}
@@ -23,7 +24,7 @@ use Rattle.model.specs.declared.Answer.{Answer}
 use Rattle.model.specs.declared.Answer.the-variants.{Done, Refused}
 use Rattle.model.specs.State.{Found, at, nowhere, onFound, seek, Day, Batch, Place, free, live, Batches, Known, State, isFree, onLive, placeAt, paymentsAt}
 use Rattle.model.specs.Memory.{isUsed}
-use Rattle.model.specs.Messages.{SubType, is131, is133, bySubType, Acted, Rule, firstBroken, streamPlace, administrator, bankPlace, assembling, waiting, today, reference, bin, streamCode, lineRules, messageRules, isComplete, isEven, completed, onText, onSender, repeated, fits, withReference, onBin, onRules, admit, isKnown, recalling, message}
+use Rattle.model.specs.Messages.{SubType, is131, is133, bySubType, Acted, Rule, firstBroken, streamPlace, administrator, bankPlace, assembling, waiting, today, reference, bin, streamCode, lineRules, messageRules, isComplete, isEven, completed, isBrokenPart, rejectAssembled, brokenPart, onText, onSender, repeated, fits, withReference, onBin, onRules, admit, isKnown, recalling, message}
 use Rattle.model.specs.Kinds.{Kind, opens, steps, gives, kindOf, Own, receives, changesSublimit, changesStatus, nothing, ownOf}
 use Rattle.model.specs.Changes.{subLimit, hasDebit, status}
 use Rattle.model.specs.Days.{isLater, checked, openingAnswer}
@@ -133,19 +134,28 @@ module _ (s : State) (r : Reading) where
   noted-other is131 stream k = bin-other stream k
   noted-other is133 stream k = recalling-other k
 
+  assembled-other : (q : Refusal) → Other q → OtherActed (rejectAssembled s r q)
+  assembled-other q h = by-found OtherActed (assembling (s .batches) (bin s r)) h (λ p. h)
+
   repeated-other : (t : SubType) → OtherActed (repeated s r t)
-  repeated-other is131 = by-found OtherActed (assembling (s .batches) (bin s r)) refl (λ p. refl)
+  repeated-other is131 = assembled-other _ refl
   repeated-other is133 = refl
 
-  text-other : (next : SubType → Acted) (o : Read) → OtherOutcome o → ((t : SubType) → OtherActed (next t)) → OtherActed (onText s r o next)
-  text-other next Settlement h f = f is131
-  text-other next Recall h f = f is133
-  text-other next (Unread b) h f = h
+  part-other : (sender : ℕ) (q : Refusal) → Other q → OtherActed (brokenPart s r sender q)
+  unfolding brokenPart
+  part-other sender q h =
+      by-found OtherActed (streamPlace (s .house) (streamCode s r)) h (λ i.
+      by-cond OtherActed (eqb sender (administrator (s .house) i)) (assembled-other q h) h)
+
+  text-other : (next : SubType → Acted) (sender : ℕ) (o : Read) → OtherOutcome o → ((t : SubType) → OtherActed (next t)) → OtherActed (onText s r sender o next)
+  text-other next sender Settlement h f = f is131
+  text-other next sender Recall h f = f is133
+  text-other next sender (Unread b) h f = by-cond OtherActed (isBrokenPart (r .head) b) (part-other sender (b .refusal) h) h
 
   message-other : (sender : ℕ) → OtherReading r → OtherActed (message s sender r)
   unfolding message onSender
   message-other sender h =
-      text-other _ (r .outcome) h (λ t.
+      text-other _ sender (r .outcome) h (λ t.
       by-found OtherActed (streamPlace (s .house) (streamCode s r)) refl (λ i.
       by-cond OtherActed (eqb sender (administrator (s .house) i))
       (by-cond OtherActed (isUsed (today s) (reference s r) (s .known .references)) (repeated-other t)

@@ -1,2 +1,3 @@
 pub mod ShutOut
 pub mod Errors
+pub mod BrokenParts

@@ -8,7 +8,7 @@ use borrow.Author.Tests.{lt-ltb}
 use lib.ListN.{length}
 use Rattle.chars.specs.Refusals.{numberOf}
 use Rattle.chars.specs.declared.Refusal.{Refusal}
-use Rattle.chars.specs.declared.Refusal.the-variants.{NothingThere, Recalled as WasRecalled, UsedReference, Malformed}
+use Rattle.chars.specs.declared.Refusal.the-variants.{NothingThere, Recalled as WasRecalled, Malformed}
 use Rattle.codes.specs.declared.Code.{Code}
 use Rattle.request_read.specs.declared.whole.Reading.{Reading}
 use Rattle.response_write.specs.Values.{isAnswer}
@@ -32,7 +32,7 @@ use Rattle.call_orders.specs.Stages.{seen}
 use Rattle.call_texts.specs.Writing.{Wrote, Room, Legible, repliesAt}
 use Rattle.call_texts.proofs.Laws.{wrote-none, wrote-then, room-first, room-rest, room-of, legible}
 use Rattle.call_plan.specs.declared.plan.Plan.{Plan}
-use Rattle.call_plan.specs.declared.plan.Plan.the-variants.{Untouched, Repeated, Alone, RecallsNone, Recalls}
+use Rattle.call_plan.specs.declared.plan.Plan.the-variants.{Untouched, Rejects, Alone, RecallsNone, Recalls}
 use Rattle.tables.specs.declared.Desk.{Desk}
 use Rattle.call_message.specs.outcome.Acting.{actedWith}
 use Rattle.call_message.specs.outcome.Doing.{stateOn, Ends, Stays, InRows, Actable, referenceOf, binOf}
@@ -106,6 +106,9 @@ module _ (d : Desk) (codes flags : List ℕ) (t q : List ℕ) (nq : ℕ) (w : Li
       (omega (arith, n, few-there (d .banks) (k .stood .each p), k .room))
       (omega (arith, n, few-there (d .banks) (k .stood .each p), k .few-texts))
 
+  pub rejects-room : (c : Plan) (p : ℕ) (f : Refusal) → c ≡ Rejects p f → Room out 0 (d .texts) (repliesAt t p (Rejected (numberOf f)))
+  rejects-room c p f e = at-room p f
+
   pub alone-fits : (r : Reading) (f : Refusal) → TextGives r → Room out 0 (d .texts) (settlement (referenceOf r) (binOf r) (Rejected (numberOf f)) ∷ [])
   alone-fits r f g = room-of out 0 (d .texts) (settlement (referenceOf r) (binOf r) (Rejected (numberOf f)) ∷ []) ((g .reference, g .bin, rejected-sound f), tt) (omega (arith, k .room)) (omega (arith, k .few-texts))
 
@@ -149,11 +152,11 @@ module _ (d : Desk) (codes flags : List ℕ) (t q : List ℕ) (nq : ℕ) (w : Li
     unfolding actedWith woken
     none-so c j a nq′ nw′ out′ to texts′ e h = rw (e, h .queued, h .pending) (record { answered = h .answered; batches = record { ready = k .ready; is = refl }; memory = refl; replies = h .replies })
 
-    pub repeated-so : (c : Plan) (p : ℕ) (a : Answer) (t′ q′ : List ℕ) (nq′ : ℕ) (w′ : List ℕ) (nw′ : ℕ) (m′ out′ : List ℕ) (to texts′ : ℕ) → c ≡ Repeated p → assembling b (binOf r) ≡ at p
-        → (a ≡ Refused UsedReference) × Ends (repliesAt t p (Rejected (numberOf UsedReference))) b p m out 0 (d .texts) t′ q′ nq′ w′ nw′ m′ out′ to texts′
+    pub rejects-so : (c : Plan) (p : ℕ) (x : Refusal) (a : Answer) (t′ q′ : List ℕ) (nq′ : ℕ) (w′ : List ℕ) (nw′ : ℕ) (m′ out′ : List ℕ) (to texts′ : ℕ) → c ≡ Rejects p x → assembling b (binOf r) ≡ at p
+        → (a ≡ Refused x) × Ends (repliesAt t p (Rejected (numberOf x))) b p m out 0 (d .texts) t′ q′ nq′ w′ nw′ m′ out′ to texts′
         → InRows (actedWith s r z c) m out 0 (d .texts) a t′ q′ nq′ w′ nw′ m′ out′ to texts′
     unfolding actedWith woken
-    repeated-so c p a t′ q′ nq′ w′ nw′ m′ out′ to texts′ e f h =
+    rejects-so c p x a t′ q′ nq′ w′ nw′ m′ out′ to texts′ e f h =
         let g : placeBin (placeAt b p) ≡ binOf r = bin-of (binOf r) (placeAt b p) (is-assembling b (binOf r) p f .there .yes) in
         rw e (record { answered = h .0; batches = h .1 .batches; memory = h .1 .memory; replies = rw g at (h .1 .replies) })
 

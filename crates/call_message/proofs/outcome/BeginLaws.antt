@@ -7,6 +7,7 @@ use native.Mathlib.Omega.{arith}
 use lib.Dec.{eqb}
 use lib.ListN.{length, getD, set, replicate}
 use Rattle.chars.specs.Words.{member}
+use Rattle.chars.specs.declared.Refusal.{Refusal}
 use Rattle.codes.specs.declared.Code.{Code}
 use Rattle.request_read.specs.declared.terms.Activation.{Activation}
 use Rattle.request_read.specs.declared.terms.Activation.the-variants.{Minute}
@@ -31,7 +32,7 @@ use Rattle.call_orders.specs.Arriving.{newRow}
 use Rattle.call_orders.proofs.ArriveLaws.{Placed, placed-so}
 use Rattle.call_plan.proofs.rules.LiveRows.{not-free, live-at, place-in, live-batch, neat-row, placed-became}
 use Rattle.call_plan.specs.declared.plan.Plan.{Plan}
-use Rattle.call_plan.specs.declared.plan.Plan.the-variants.{Repeated, Alone, Comes, Begins, RecallsNone, Recalls}
+use Rattle.call_plan.specs.declared.plan.Plan.the-variants.{Rejects, Alone, Comes, Begins, RecallsNone, Recalls}
 use Rattle.call_message.specs.outcome.Acting.{actedWith}
 use Rattle.call_message.specs.outcome.Doing.{stateOn, batchAt, InRows, Actable, Takeable, Beginnable, Apt, binOf, referenceOf}
 use Rattle.call_message.proofs.outcome.TakeLaws.{batch-now, live-now, legible-now}
@@ -192,8 +193,8 @@ module _ (d : Desk) (codes flags : List ℕ) (r : Reading) (t q : List ℕ) (nq 
 -- ---- what a plan was chosen for
 
 module _ (b : Batches) (r : Reading) (c : Plan) (h : Apt b r c) where
-  pub apt-repeated : (p : ℕ) → c ≡ Repeated p → assembling b (binOf r) ≡ at p
-  apt-repeated p e = rw e at h
+  pub apt-rejects : (p : ℕ) (f : Refusal) → c ≡ Rejects p f → assembling b (binOf r) ≡ at p
+  apt-rejects p f e = rw e at h
 
   pub apt-alone : (q : ℕ) → c ≡ Alone q → TextGives r
   apt-alone q e = rw e at h

@@ -4,16 +4,17 @@ use mathlib.Core.Path.{_≡_, refl}
 use mathlib.Core.Bool.{true, false}
 use mathlib.Core.List.{List}
 use lib.Dec.{eqb}
+use Rattle.text_fields.specs.declared.Break.{Break}
 use Rattle.request_read.specs.declared.whole.Reading.{Reading}
 use Rattle.request_read.specs.declared.whole.Outcome.{Outcome as Read}
 use Rattle.request_read.specs.declared.whole.Outcome.the-variants.{Settlement, Recall, Refused as Unread}
 use Rattle.queue.proofs.MemoryLaws.{byBool}
 use Rattle.model.specs.State.{at, nowhere, seek, Entry, State, isFree}
 use Rattle.model.specs.Memory.{isUsed, vacant, note}
-use Rattle.model.specs.Messages.{Acted, today, reference, bin, streamCode, streamPlace, administrator, assembling, waiting, is131, is133, bySubType, onText, onSender, onReference, onRoom, onBin, admit, recalling, message}
+use Rattle.model.specs.Messages.{Acted, today, reference, bin, streamCode, streamPlace, administrator, assembling, waiting, is131, is133, bySubType, isBrokenPart, brokenPart, onText, onSender, onReference, onRoom, onBin, admit, recalling, message}
 use Rattle.model.proofs.Seeking.{byFound}
 use Rattle.call_plan.specs.declared.plan.Plan.{Plan}
-use Rattle.call_plan.specs.plan.Plans.{sentOn, notedOn, settlementOn, recallOn, planOn}
+use Rattle.call_plan.specs.plan.Plans.{sentOn, notedOn, settlementOn, recallOn, brokenOn, planOn}
 use Rattle.call_message.specs.outcome.Acting.{knownBy, actedWith, actedBy}
 
 module _ (s : State) (r : Reading) where
@@ -99,9 +100,22 @@ module _ (s : State) (r : Reading) where
 
   abbrev actsAs : (sender : ℕ) → Read → Acted
   actsAs sender o =
-      onText s r o (λ t.
+      onText s r sender o (λ t.
       onSender s r sender (λ stream.
       onReference s r t (onRoom s r t (λ k. bySubType t (onBin s r k (admit s r stream)) (recalling s r k)))))
+
+  broken-so : (sender : ℕ) (k : Break) → actsAs sender (Unread k) ≡ actedBy s r (planAs sender (Unread k))
+  unfolding brokenPart streamPlace sentOn brokenOn knownBy actedWith
+  broken-so sender k =
+      byBool (isBrokenPart (r .head) k)
+      (λ g.
+      byFound (streamPlace (s .house) (streamCode s r))
+      (λ i e.
+      byBool (eqb sender (administrator (s .house) i))
+      (λ f. byFound (assembling (s .batches) (bin s r)) (λ p h. rw (g, e, f, h)) (λ h. rw (g, e, f, h)))
+      (λ f. rw (g, e, f)))
+      (λ e. rw (g, e)))
+      (λ g. rw g)
 
   by-outcome : (sender : ℕ) (o : Read) → actsAs sender o ≡ actedBy s r (planAs sender o)
   unfolding onSender streamPlace sentOn knownBy actedWith
@@ -119,7 +133,7 @@ module _ (s : State) (r : Reading) where
       (λ f. rw (e, f) recalls-so)
       (λ f. rw (e, f)))
       (λ e. rw e)
-  by-outcome sender (Unread b) = refl
+  by-outcome sender (Unread k) = broken-so sender k
 
   pub chosen-acts : (sender : ℕ) → message s sender r ≡ actedBy s r (planAs sender (r .outcome))
   unfolding message

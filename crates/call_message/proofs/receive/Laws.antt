@@ -9,6 +9,7 @@ use lib.ListN.{length, getD, set}
 use lib.Seq.{sets, sets-eq, drop-drop}
 use Rattle.chars.specs.declared.Refusal.{Refusal}
 use Rattle.codes.specs.declared.Code.{Code}
+use Rattle.text_fields.specs.declared.Break.{Break}
 use Rattle.request_read.specs.whole.Request.{requestAt}
 use Rattle.request_read.specs.declared.whole.Reading.{Reading}
 use Rattle.request_read.specs.declared.whole.Outcome.{Outcome as Read}
@@ -23,7 +24,7 @@ use Rattle.model.specs.declared.Answer.{Answer}
 use Rattle.model.specs.declared.Answer.the-variants.{Done, Refused}
 use Rattle.model.specs.State.{at, seek, Batch, Batches, Known, State, isFree, noEntry}
 use Rattle.model.specs.Memory.{isUsed, isVacant, vacant}
-use Rattle.model.specs.Messages.{noStream, assembling, waiting, isComplete, isEven, firstBroken, messageRules, onRules, withMessage, firstBatch, completed, admit, message}
+use Rattle.model.specs.Messages.{noStream, isBrokenPart, assembling, waiting, isComplete, isEven, firstBroken, messageRules, onRules, withMessage, firstBatch, completed, admit, message}
 use Rattle.model.specs.Rules.{isReference}
 use Rattle.model.proofs.Seeking.{byFound, seek-answers}
 use Rattle.model.proofs.Admitting.{TextGives}
@@ -34,10 +35,10 @@ use Rattle.tables.proofs.MemoryLaws.{map-set, entries-long}
 use Rattle.tables.proofs.RowLaws.{put}
 use Rattle.call_orders.specs.Stages.{seen}
 use Rattle.call_plan.specs.declared.plan.Plan.{Plan}
-use Rattle.call_plan.specs.declared.plan.Plan.the-variants.{Untouched, Repeated, Alone, Comes, Begins, RecallsNone, Recalls}
+use Rattle.call_plan.specs.declared.plan.Plan.the-variants.{Untouched, Rejects, Alone, Comes, Begins, RecallsNone, Recalls}
 use Rattle.call_plan.specs.declared.plan.Sent.{Sent}
 use Rattle.call_plan.specs.declared.plan.Sent.the-variants.{In, Not}
-use Rattle.call_plan.specs.plan.Plans.{sentOn, notedOn, settlementOn, recallOn, planOn}
+use Rattle.call_plan.specs.plan.Plans.{sentOn, notedOn, settlementOn, recallOn, brokenOn, planOn}
 use Rattle.call_message.specs.outcome.Acting.{notedAt, knownBy, actedWith, actedBy}
 use Rattle.call_message.specs.outcome.Doing.{stateOn, batchAt, InRows, Actable, Apt, binOf, referenceOf}
 use Rattle.call_message.proofs.outcome.BeginLaws.{comes-takeable}
@@ -77,9 +78,9 @@ module _ (today : ℕ) (r b : Code) (c : Plan) (rs bs : List ℕ) (long : length
   unfolding knownBy
   noted-untouched f e = rw e (record { references = refl; bins = refl })
 
-  pub noted-repeated : (p : ℕ) → c ≡ Repeated p → Noted (knownBy today r b c (knownIn rs bs)) rs bs
+  pub noted-rejects : (p : ℕ) (f : Refusal) → c ≡ Rejects p f → Noted (knownBy today r b c (knownIn rs bs)) rs bs
   unfolding knownBy
-  noted-repeated p e = rw e (record { references = refl; bins = refl })
+  noted-rejects p f e = rw e (record { references = refl; bins = refl })
 
   module _ (q : ℕ) (h : q < 2048) (rs′ : List ℕ) (i : rs′ ≡ sets rs (q * 3) (r .high ∷ r .low ∷ today ∷ [])) where
     reference-noted : entriesIn 2048 rs′ ≡ notedAt today r q (entriesIn 2048 rs)
@@ -180,6 +181,16 @@ module _ (d : Desk) (few : d .n ≤ 8) (b : Batches) (rs bs : List ℕ) (text : 
   bySent (In i) g h = g i refl
   bySent (Not f) g h = h f refl
 
+  broken-good : (sender : ℕ) (k : Break) → Good b r (brokenOn (streamsOn d) sender (r .head) k b)
+  unfolding brokenOn
+  broken-good sender k =
+      byBool (isBrokenPart (r .head) k)
+      (λ e.
+      bySent (sentOn (streamsOn d) sender (r .head .address .stream .number))
+      (λ i f. byFound (assembling b (binOf r)) (λ p g. rw (e, f, g) (g, tt)) (λ g. rw (e, f, g) (tt, tt)))
+      (λ g f. rw (e, f) (tt, tt)))
+      (λ e. rw e (tt, tt))
+
   by-outcome : (sender : ℕ) (o : Read) → r .outcome ≡ o → Good b r (planOn (d .date) (streamsOn d) sender o (r .head) b (entriesIn 2048 rs) (entriesIn 512 bs))
   by-outcome sender Settlement e =
       bySent (sentOn (streamsOn d) sender (r .head .address .stream .number))
@@ -189,7 +200,7 @@ module _ (d : Desk) (few : d .n ≤ 8) (b : Batches) (rs bs : List ℕ) (text : 
       bySent (sentOn (streamsOn d) sender (r .head .address .stream .number))
       (λ i f. rw f (recall-good e))
       (λ g f. rw f (tt, tt))
-  by-outcome sender (Unread k) e = (tt, tt)
+  by-outcome sender (Unread k) e = broken-good sender k
 
   pub chosen-good : (sender : ℕ) (g : Reading) (c : Plan) → g ≡ requestAt text
       → c ≡ planOn (d .date) (streamsOn d) sender (g .outcome) (g .head) b (entriesIn 2048 rs) (entriesIn 512 bs) → Apt b g c × Within c
@@ -218,7 +229,7 @@ module _ (d : Desk) (codes flags : List ℕ) (t q : List ℕ) (nq : ℕ) (w : Li
   known-acted : (n : Accounts) (o k : Known) (r : Reading) (c : Plan) → Apt (seen t q nq w nw) r c → actedWith (on n o) r k c .known ≡ k
   unfolding actedWith
   known-acted n o k r (Untouched f) h = refl
-  known-acted n o k r (Repeated p) h = refl
+  known-acted n o k r (Rejects p f) h = refl
   known-acted n o k r (Alone j) h = refl
   known-acted n o k r (Comes p i j) h =
       rw (comes-takeable d codes flags t q nq w nw out able r p (h .0) (h .1) (h .2) .there)

@@ -3,7 +3,7 @@ use Prim.Native.Nat.{ℕ}
 use mathlib.Core.List.{List, [], _∷_}
 use lib.ListN.{set}
 use Rattle.chars.specs.Refusals.{numberOf}
-use Rattle.chars.specs.declared.Refusal.the-variants.{NothingThere, Recalled as WasRecalled, UsedReference, Malformed}
+use Rattle.chars.specs.declared.Refusal.the-variants.{NothingThere, Recalled as WasRecalled, Malformed}
 use Rattle.codes.specs.declared.Code.{Code}
 use Rattle.request_read.specs.declared.whole.Reading.{Reading}
 use Rattle.response_write.specs.declared.Outcome.the-variants.{Rejected}
@@ -13,7 +13,7 @@ use Rattle.model.specs.State.{Entry, Known, State, live, onLive, placeAt, place
 use Rattle.model.specs.Replies.{settlement, recall, repliesTo}
 use Rattle.model.specs.Messages.{Acted, place, leaving, untouched, rejecting, today, reference, bin, ended, firstBatch, admit}
 use Rattle.call_plan.specs.declared.plan.Plan.{Plan}
-use Rattle.call_plan.specs.declared.plan.Plan.the-variants.{Untouched, Repeated, Alone, Comes, Begins, RecallsNone, Recalls}
+use Rattle.call_plan.specs.declared.plan.Plan.the-variants.{Untouched, Rejects, Alone, Comes, Begins, RecallsNone, Recalls}
 
 -- an entry at a place
 abbrev pub notedAt : (today : ℕ) → Code → ℕ → List Entry → List Entry
@@ -25,7 +25,7 @@ withReferenceAt today code q k = record { references = notedAt today code q (k .
 -- what is noted: "the reference is noted", "A new BIN is noted"
 unfoldable pub knownBy : (today : ℕ) (reference bin : Code) → Plan → Known → Known
 knownBy today r b (Untouched f) k = k
-knownBy today r b (Repeated p) k = k
+knownBy today r b (Rejects p f) k = k
 knownBy today r b (Alone q) k = withReferenceAt today r q k
 knownBy today r b (Comes p i q) k = withReferenceAt today r q k
 knownBy today r b (Begins p i q j) k = record { references = notedAt today r q (k .references); bins = notedAt today b j (k .bins) }
@@ -35,7 +35,7 @@ knownBy today r b (Recalls p q) k = withReferenceAt today r q k
 -- what is done with the batches, with k noted
 unfoldable pub actedWith : State → Reading → Known → Plan → Acted
 actedWith s r k (Untouched f) = leaving s (Refused f) [] [] (s .batches) k
-actedWith s r k (Repeated p) = rejecting s UsedReference p (s .batches) (placeMessages (placeAt (s .batches) p)) (bin s r) k
+actedWith s r k (Rejects p f) = rejecting s f p (s .batches) (placeMessages (placeAt (s .batches) p)) (bin s r) k
 actedWith s r k (Alone q) =
     leaving s (Refused Malformed) (settlement (reference s r) (bin s r) (Rejected (numberOf Malformed)) ∷ []) [] (s .batches) k
 actedWith s r k (Comes p i q) = onLive (placeAt (s .batches) p) (untouched s Malformed) (admit s r i (s .batches) k p)

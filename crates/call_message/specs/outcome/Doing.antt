@@ -29,7 +29,7 @@ use Rattle.call_orders.specs.Stages.{seen, Ready, Became}
 use Rattle.call_plan.specs.rules.Steps.{Counted}
 pub use Rattle.call_plan.specs.rules.Steps.{batchAt}
 use Rattle.call_plan.specs.declared.plan.Plan.{Plan}
-use Rattle.call_plan.specs.declared.plan.Plan.the-variants.{Untouched, Repeated, Alone, Comes, Begins, RecallsNone, Recalls}
+use Rattle.call_plan.specs.declared.plan.Plan.the-variants.{Untouched, Rejects, Alone, Comes, Begins, RecallsNone, Recalls}
 use Rattle.call_texts.specs.Writing.{Wrote, Room, Legible, repliesAt}
 
 -- the state in the middle of a call: its batches stand in the rows
@@ -130,7 +130,7 @@ binOf r = r .head .address .bin .code
 -- what is known of a plan that was chosen
 abbrev pub Apt : Batches → Reading → Plan → Type 0
 Apt b r (Untouched f) = Unit {0}
-Apt b r (Repeated p) = assembling b (binOf r) ≡ at p
+Apt b r (Rejects p f) = assembling b (binOf r) ≡ at p
 Apt b r (Alone q) = TextGives r
 Apt b r (Comes p i q) = (assembling b (binOf r) ≡ at p) × TextGives r × (r .n ≤ 10) × (i ≤ 8)
 Apt b r (Begins p i q j) = (seek isFree (b .places) ≡ at p) × TextGives r × (r .n ≤ 10) × (i ≤ 8)

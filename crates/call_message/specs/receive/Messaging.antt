@@ -7,7 +7,7 @@ use Rattle.model.specs.State.{Known}
 use Rattle.model.specs.Messages.{Acted}
 use Rattle.tables.specs.Rows.{entriesIn}
 use Rattle.call_plan.specs.declared.plan.Plan.{Plan}
-use Rattle.call_plan.specs.declared.plan.Plan.the-variants.{Untouched, Repeated, Alone, Comes, Begins, RecallsNone, Recalls}
+use Rattle.call_plan.specs.declared.plan.Plan.the-variants.{Untouched, Rejects, Alone, Comes, Begins, RecallsNone, Recalls}
 use Rattle.call_message.specs.outcome.Doing.{InRows}
 
 abbrev pub knownIn : (references bins : List ℕ) → Known
@@ -16,7 +16,7 @@ knownIn references bins = record { references = entriesIn 2048 references; bins 
 -- the places of a plan's entries are places of the tables
 abbrev pub Within : Plan → Type 0
 Within (Untouched f) = Unit {0}
-Within (Repeated p) = Unit {0}
+Within (Rejects p f) = Unit {0}
 Within (Alone q) = q < 2048
 Within (Comes p i q) = q < 2048
 Within (Begins p i q j) = (q < 2048) × (j < 512)

@@ -1,4 +1,4 @@
-// Messages that are answered at once: repeated references, messages refused alone, recalls.
+// Messages that end at once: those that are refused and end a batch, those that are refused alone, recalls.
 use crate::outcome::Acted;
 use crate::outcome::ending;
 use chars::Refusal;
@@ -10,7 +10,7 @@ ghost use mathlib.Core.List.{_∷_, [], _++_};
 ghost use Prim.Native.Nat.{ℕ, _≤_, _<_};
 ghost use lib.ListN.{length};
 ghost use Rattle.chars.specs.Refusals.{numberOf};
-ghost use Rattle.chars.specs.declared.Refusal.the-variants.{NothingThere, Recalled as WasRecalled, UsedReference, Malformed};
+ghost use Rattle.chars.specs.declared.Refusal.the-variants.{NothingThere, Recalled as WasRecalled, Malformed};
 ghost use Rattle.response_write.specs.declared.Outcome.the-variants.{Rejected};
 ghost use Rattle.response_write.specs.declared.Answer.the-variants.{Recalled, Kept};
 ghost use Rattle.model.specs.declared.Answer.the-variants.{Done, Refused};
@@ -19,8 +19,9 @@ ghost use Rattle.call_orders.specs.Stages.{seen, Ready};
 ghost use Rattle.call_texts.specs.Writing.{Wrote, Room, Legible, repliesAt};
 ghost use Rattle.call_message.specs.outcome.Doing.{Ends, Stays};
 
-// "For a 131 whose BIN is being assembled, that batch is rejected with 74."
-pub fn repeat(
+// The message is refused and not noted, and the batch that its BIN is assembling ends with the same number: by a broken part, or with 74.
+pub fn reject(
+    refusal: Refusal,
     batches: &mut [u64],
     queue: &mut [u64],
     nq: usize,
@@ -32,12 +33,12 @@ pub fn repeat(
     out: &mut [u8],
 ) -> Acted
     requires { ⌜ Ready (now batches) (now queue) nq (now pending) nw × Legible (now batches) × (place < 32) ⌝ }
-    requires { ⌜ Room (now out) 0 texts (repliesAt (now batches) place (Rejected (numberOf UsedReference))) ⌝ }
-    ensures { λ r. ⌜ (r .answer ≡ Refused UsedReference) × Ends (repliesAt (now (batches .entry)) place (Rejected (numberOf UsedReference))) (seen (now (batches .entry)) (now (queue .entry)) nq (now (pending .entry)) nw) place (now (memory .entry)) (now (out .entry)) 0 texts (now (batches .exit)) (now (queue .exit)) (r .queued) (now (pending .exit)) (r .pending) (now (memory .exit)) (now (out .exit)) (r .at) (r .texts) ⌝ }
+    requires { ⌜ Room (now out) 0 texts (repliesAt (now batches) place (Rejected (numberOf refusal))) ⌝ }
+    ensures { λ r. ⌜ (r .answer ≡ Refused refusal) × Ends (repliesAt (now (batches .entry)) place (Rejected (numberOf refusal))) (seen (now (batches .entry)) (now (queue .entry)) nq (now (pending .entry)) nw) place (now (memory .entry)) (now (out .entry)) 0 texts (now (batches .exit)) (now (queue .exit)) (r .queued) (now (pending .exit)) (r .pending) (now (memory .exit)) (now (out .exit)) (r .at) (r .texts) ⌝ }
 {
     ending::end_with(
-        Refusal::UsedReference,
-        Answer::Refused(Refusal::UsedReference),
+        refusal,
+        Answer::Refused(refusal),
         batches,
         queue,
         nq,

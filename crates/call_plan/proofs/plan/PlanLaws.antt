@@ -1,10 +1,10 @@
 -- What is chosen at each step.
 use Prim.Native.Nat.{ℕ, zero, suc, _+_, _*_, _<_}
 use mathlib.Core.Path.{_≡_, sym, ap, _∙_}
-use mathlib.Core.Bool.{true, false}
+use mathlib.Core.Bool.{Bool, true, false, not}
 use mathlib.Core.List.{List}
 use native.Mathlib.Omega.{arith}
-use borrow.Author.Tests.{eq-eqb, ne-eqb}
+use borrow.Author.Tests.{eq-eqb, ne-eqb, not-true, not-false}
 use lib.Dec.{eqb}
 use lib.ListN.{getD}
 use Rattle.chars.specs.declared.Refusal.{Refusal}
@@ -12,6 +12,7 @@ use Rattle.chars.specs.declared.Refusal.the-variants.{NoRoom, WrongSender, Used
 use Rattle.codes.specs.declared.Code.{Code}
 use Rattle.text_fields.specs.declared.Break.{Break}
 use Rattle.request_read.specs.declared.whole.Head.{Head}
+use Rattle.request_read.specs.declared.whole.Reached.the-variants.{Nothing, Stream as ToStream, Bin as ToBin}
 use Rattle.request_read.specs.declared.whole.Outcome.{Outcome}
 use Rattle.request_read.specs.declared.whole.Outcome.the-variants.{Settlement, Recall, Refused}
 use Rattle.book_read.specs.Accounts.{Stream}
@@ -19,7 +20,7 @@ use Rattle.book_read.specs.Book.{each}
 use Rattle.book_write.specs.Closing.{streamOf}
 use Rattle.book_read.proofs.Filling.{each-length}
 use Rattle.model.specs.State.{at, seek, Place, Batches, Entry, isFree}
-use Rattle.model.specs.Messages.{noStream, streamPlace, assembling, waiting}
+use Rattle.model.specs.Messages.{noStream, isBrokenPart, streamPlace, assembling, waiting}
 use Rattle.model.proofs.Seeking.{seek-answers}
 use Rattle.tables.specs.declared.Desk.{Desk}
 use Rattle.tables.specs.declared.Sought.{Sought}
@@ -30,10 +31,10 @@ use Rattle.call_plan.specs.declared.entries.Looked.{Looked}
 use Rattle.call_plan.specs.entries.Looking.{Looks}
 use Rattle.call_plan.specs.rules.Steps.{streamsHouse}
 use Rattle.call_plan.specs.declared.plan.Plan.{Plan}
-use Rattle.call_plan.specs.declared.plan.Plan.the-variants.{Untouched, Repeated, Alone, Comes, Begins, RecallsNone, Recalls}
+use Rattle.call_plan.specs.declared.plan.Plan.the-variants.{Untouched, Rejects, Alone, Comes, Begins, RecallsNone, Recalls}
 use Rattle.call_plan.specs.declared.plan.Sent.{Sent}
 use Rattle.call_plan.specs.declared.plan.Sent.the-variants.{In, Not}
-use Rattle.call_plan.specs.plan.Plans.{sentOn, repeatedOn, knownOn, newOn, notedOn, settlementOn, recallOn, planOn}
+use Rattle.call_plan.specs.plan.Plans.{sentOn, rejectsOn, knownOn, newOn, notedOn, settlementOn, recallOn, brokenOn, planOn}
 
 -- ---- the sender's stream
 
@@ -75,11 +76,11 @@ module _ (d : Desk) (sender code : ℕ) (s : Sought) (is : foundBy s ≡ streamP
 -- ---- a 131
 
 module _ (s : Sought) where
-  pub repeated-here : (p : ℕ) → s ≡ Here p → Repeated p ≡ repeatedOn (foundBy s)
-  repeated-here p e = rw e
+  pub refused-here : (f : Refusal) (p : ℕ) → s ≡ Here p → Rejects p f ≡ rejectsOn (foundBy s) f
+  refused-here f p e = rw e
 
-  pub repeated-none : s ≡ Nowhere → Untouched UsedReference ≡ repeatedOn (foundBy s)
-  repeated-none e = rw e
+  pub refused-none : (f : Refusal) → s ≡ Nowhere → Untouched f ≡ rejectsOn (foundBy s) f
+  refused-none f e = rw e
 
   module _ (stream q : ℕ) where
     pub known-here : (p : ℕ) → s ≡ Here p → Comes p stream q ≡ knownOn (foundBy s) stream q
@@ -111,7 +112,7 @@ module _ (today : ℕ) (places : List Place) (bins : List Entry) (s : Sought) (s
 
 module _ (today : ℕ) (b : Batches) (references bins : List Entry) (stream : ℕ) (reference bin : Code) (s : Sought) (there : foundBy s ≡ assembling b bin)
     {l : Looked} (is : Looks today reference references l) where
-  pub settlement-used : {c : Plan} → l .used ≡ true → c ≡ repeatedOn (foundBy s) → c ≡ settlementOn today b references bins stream reference bin
+  pub settlement-used : {c : Plan} → l .used ≡ true → c ≡ rejectsOn (foundBy s) UsedReference → c ≡ settlementOn today b references bins stream reference bin
   unfolding settlementOn
   settlement-used e f = f ∙ rw (sym (is .used), e, sym there)
 
@@ -146,11 +147,42 @@ module _ (today : ℕ) (b : Batches) (references : List Entry) (reference bin : 
       unfolding recallOn
       recall-none g = rw (sym (is .used), e, sym (is .free e), f, sym there, g)
 
+-- ---- a broken text
+
+module _ (h : Head) (k : Break) where
+  pub part-other : (h .subtype .number ≡ 131 → ⊥) → false ≡ isBrokenPart h k
+  part-other e = rw (ne-eqb (h .subtype .number) 131 e)
+
+  module _ (e : h .subtype .number ≡ 131) where
+    pub part-nothing : h .address .reached ≡ Nothing → false ≡ isBrokenPart h k
+    part-nothing f = rw (eq-eqb (h .subtype .number) 131 e, f)
+
+    pub part-stream : h .address .reached ≡ ToStream → false ≡ isBrokenPart h k
+    part-stream f = rw (eq-eqb (h .subtype .number) 131 e, f)
+
+    pub part-bin : h .address .reached ≡ ToBin → not (k .missing) ≡ isBrokenPart h k
+    part-bin f = rw (eq-eqb (h .subtype .number) 131 e, f)
+
+module _ (streams : List Stream) (sender : ℕ) (h : Head) (k : Break) (b : Batches) {part : Bool} (is : part ≡ isBrokenPart h k) where
+  pub broken-other : not part ≡ true → Untouched (k .refusal) ≡ brokenOn streams sender h k b
+  unfolding brokenOn
+  broken-other e = rw (sym is, not-true part e)
+
+  module _ (e : not part ≡ false) {s : Sent} (from : s ≡ sentOn streams sender (h .address .stream .number)) where
+    pub broken-not : {f : Refusal} → s ≡ Not f → Untouched (k .refusal) ≡ brokenOn streams sender h k b
+    unfolding brokenOn
+    broken-not g = rw (sym is, not-false part e, sym from, g)
+
+    pub broken-in : {i : ℕ} {c : Plan} (u : Sought) → s ≡ In i → foundBy u ≡ assembling b (h .address .bin .code) → c ≡ rejectsOn (foundBy u) (k .refusal)
+        → c ≡ brokenOn streams sender h k b
+    unfolding brokenOn
+    broken-in u g j l = l ∙ rw (sym is, not-false part e, sym from, g, sym j)
+
 -- ---- any message
 
-pub plan-broken : (today : ℕ) (streams : List Stream) (sender : ℕ) (o : Outcome) (h : Head) (b : Batches) (rs bs : List Entry) (k : Break) → o ≡ Refused k
-    → Untouched (k .refusal) ≡ planOn today streams sender o h b rs bs
-plan-broken today streams sender o h b rs bs k e = rw e
+pub plan-broken : (today : ℕ) (streams : List Stream) (sender : ℕ) (o : Outcome) (h : Head) (b : Batches) (rs bs : List Entry) (k : Break) {c : Plan} → o ≡ Refused k
+    → c ≡ brokenOn streams sender h k b → c ≡ planOn today streams sender o h b rs bs
+plan-broken today streams sender o h b rs bs k e f = f ∙ rw e
 
 module _ (today : ℕ) (streams : List Stream) (sender : ℕ) {o : Outcome} (h : Head) (b : Batches) (rs bs : List Entry) {s : Sent}
     (is : s ≡ sentOn streams sender (h .address .stream .number)) where

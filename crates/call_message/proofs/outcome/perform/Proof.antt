@@ -1,6 +1,6 @@
-use Rattle.chars.specs.declared.Refusal.the-variants.{NothingThere, UsedReference, Malformed}
-use Rattle.call_message.proofs.outcome.BeginLaws.{comes-takeable, comes-so, begins-so, begins-able, apt-repeated, apt-alone, apt-comes, apt-begins, apt-none, apt-recalls, assembling-below, waiting-below}
-use Rattle.call_message.proofs.outcome.AnswerLaws.{act-legible, at-room, alone-fits, kept-fits, recall-fits, untouched-so, alone-so, none-so, repeated-so, recalled-so}
+use Rattle.chars.specs.declared.Refusal.the-variants.{NothingThere, Malformed}
+use Rattle.call_message.proofs.outcome.BeginLaws.{comes-takeable, comes-so, begins-so, begins-able, apt-rejects, apt-alone, apt-comes, apt-begins, apt-none, apt-recalls, assembling-below, waiting-below}
+use Rattle.call_message.proofs.outcome.AnswerLaws.{act-legible, rejects-room, alone-fits, kept-fits, recall-fits, untouched-so, alone-so, none-so, rejects-so, recalled-so}
 use borrow.Author.Needs.{needs}
 use Rattle.call_message.proofs.outcome.perform.Statement.{statement}
 use Rattle.call_message.proofs.outcome.perform.Tie as tie
@@ -9,7 +9,7 @@ use Rattle.call_message.proofs.outcome.perform.Lts as lts
 use Rattle.call_message.proofs.outcome.answering.recall.Reads as recall-reads
 use Rattle.call_message.proofs.outcome.answering.recall_none.Reads as recall-none-reads
 use Rattle.call_message.proofs.outcome.answering.refuse_alone.Reads as refuse-alone-reads
-use Rattle.call_message.proofs.outcome.answering.repeat.Reads as repeat-reads
+use Rattle.call_message.proofs.outcome.answering.reject.Reads as reject-reads
 use Rattle.call_message.proofs.outcome.taking.admit.Reads as admit-reads
 use Rattle.call_message.proofs.outcome.taking.begin.Reads as begin-reads
 
@@ -22,8 +22,8 @@ enum-known-plan-2 : tie.Need-enum-known-plan-2
 enum-known-plan-2 c = search needs
 
 -- src/lib.rt:57:32
-repeat-requires : tie.Need-repeat-requires
-repeat-requires c κs = ((c .before .before .before .before .before .before .before .before .before .before .before .before .before .before .before .before .pre .0 .ready, act-legible _ _ _ _ _ _ _ _ _ (c .before .before .before .before .before .before .before .before .before .before .before .before .before .before .before .before .pre .0), assembling-below _ _ _ _ _ _ _ _ _ (c .before .before .before .before .before .before .before .before .before .before .before .before .before .before .before .before .pre .0) _ _ (apt-repeated _ _ _ (c .before .before .before .before .before .before .before .before .before .before .before .before .before .before .before .before .pre .1) _ (c .before .before .before .before .before .before .plan2 .given .1))), at-room _ _ _ _ _ _ _ _ _ (c .before .before .before .before .before .before .before .before .before .before .before .before .before .before .before .before .pre .0) _ UsedReference)
+reject-requires : tie.Need-reject-requires
+reject-requires c κs = ((c .before .before .before .before .before .before .before .before .before .before .before .before .before .before .before .before .pre .0 .ready, act-legible _ _ _ _ _ _ _ _ _ (c .before .before .before .before .before .before .before .before .before .before .before .before .before .before .before .before .pre .0), assembling-below _ _ _ _ _ _ _ _ _ (c .before .before .before .before .before .before .before .before .before .before .before .before .before .before .before .before .pre .0) _ _ (apt-rejects _ _ _ (c .before .before .before .before .before .before .before .before .before .before .before .before .before .before .before .before .pre .1) _ _ (c .before .before .before .before .before .before .plan2 .given .1))), rejects-room _ _ _ _ _ _ _ _ _ (c .before .before .before .before .before .before .before .before .before .before .before .before .before .before .before .before .pre .0) _ _ _ (c .before .before .before .before .before .before .plan2 .given .1))
 
 -- src/lib.rt:60:23
 enum-known-plan-3 : tie.Need-enum-known-plan-3
@@ -91,7 +91,7 @@ same-length-5 c = search needs
 
 -- src/lib.rt:30:1
 returns-2 : tie.Need-returns-2
-returns-2 c = λ n o z. repeated-so _ _ _ _ _ _ _ _ _ (c .before .before .before .before .before .before .before .before .before .before .before .before .before .before .before .before .before .before .before .before .before .before .before .before .before .before .before .pre .0) _ _ n o z _ _ _ _ _ _ _ _ _ _ _ _ (c .before .before .before .before .before .before .before .before .before .before .before .before .before .before .before .before .before .plan2 .given .1) (apt-repeated _ _ _ (c .before .before .before .before .before .before .before .before .before .before .before .before .before .before .before .before .before .before .before .before .before .before .before .before .before .before .before .pre .1) _ (c .before .before .before .before .before .before .before .before .before .before .before .before .before .before .before .before .before .plan2 .given .1)) (c .before .before .before .before .before .before .before .before .before .before .repeat .ensures)
+returns-2 c = λ n o z. rejects-so _ _ _ _ _ _ _ _ _ (c .before .before .before .before .before .before .before .before .before .before .before .before .before .before .before .before .before .before .before .before .before .before .before .before .before .before .before .pre .0) _ _ n o z _ _ _ _ _ _ _ _ _ _ _ _ _ (c .before .before .before .before .before .before .before .before .before .before .before .before .before .before .before .before .before .plan2 .given .1) (apt-rejects _ _ _ (c .before .before .before .before .before .before .before .before .before .before .before .before .before .before .before .before .before .before .before .before .before .before .before .before .before .before .before .pre .1) _ _ (c .before .before .before .before .before .before .before .before .before .before .before .before .before .before .before .before .before .plan2 .given .1)) (c .before .before .before .before .before .before .before .before .before .before .reject .ensures)
 
 -- src/lib.rt:30:1
 same-length-6 : tie.Need-same-length-6
@@ -187,7 +187,7 @@ perform-spec =
     (tie.spec
     enum-known-plan
     enum-known-plan-2
-    repeat-requires
+    reject-requires
     enum-known-plan-3
     refuse-alone-requires
     enum-known-plan-4

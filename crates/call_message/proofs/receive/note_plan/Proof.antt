@@ -1,4 +1,4 @@
-use Rattle.call_message.proofs.receive.Laws.{within-alone, within-comes, within-begins, within-none, within-recalls, noted-untouched, noted-repeated, noted-alone, noted-comes, noted-begins, noted-none, noted-recalls}
+use Rattle.call_message.proofs.receive.Laws.{within-alone, within-comes, within-begins, within-none, within-recalls, noted-untouched, noted-rejects, noted-alone, noted-comes, noted-begins, noted-none, noted-recalls}
 use native.Mathlib.Omega.{arith}
 use borrow.Author.Needs.{needs}
 use Rattle.call_message.proofs.receive.note_plan.Statement.{statement}
@@ -47,7 +47,7 @@ returns : tie.Need-returns
 returns c = noted-untouched _ _ _ _ _ _ (c .before .before .before .before .pre .0) (c .before .before .before .before .pre .1) _ (c .enum-told .given .1)
 
 returns-2 : tie.Need-returns-2
-returns-2 c = noted-repeated _ _ _ _ _ _ (c .before .before .before .before .pre .0) (c .before .before .before .before .pre .1) _ (c .enum-told2 .given .1)
+returns-2 c = noted-rejects _ _ _ _ _ _ (c .before .before .before .before .pre .0) (c .before .before .before .before .pre .1) _ _ (c .enum-told2 .given .1)
 
 same-length : tie.Need-same-length
 same-length c = search needs

@@ -4,6 +4,7 @@ use Rattle.call_plan.proofs.plan.choose.Statement.{statement}
 use Rattle.call_plan.proofs.plan.choose.Tie as tie
 use Rattle.call_plan.proofs.plan.choose.Reads as reads
 use Rattle.call_plan.proofs.plan.choose.Lts as lts
+use Rattle.call_plan.proofs.plan.broken_plan.Reads as broken-plan-reads
 use Rattle.call_plan.proofs.plan.recall_plan.Reads as recall-plan-reads
 use Rattle.call_plan.proofs.plan.sender_stream.Reads as sender-stream-reads
 use Rattle.call_plan.proofs.plan.settlement_plan.Reads as settlement-plan-reads
@@ -11,6 +12,9 @@ use Rattle.call_plan.proofs.plan.settlement_plan.Reads as settlement-pl
 -- src/lib.rt:200:26
 enum-known-outcome : tie.Need-enum-known-outcome
 enum-known-outcome c = search needs
+
+broken-plan-requires : tie.Need-broken-plan-requires
+broken-plan-requires c κs = search needs
 
 -- src/lib.rt:205:17
 enum-told : tie.Need-enum-told
@@ -77,6 +81,7 @@ choose-spec =
     tie.close
     (tie.spec
     enum-known-outcome
+    broken-plan-requires
     enum-told
     sender-stream-requires
     enum-known-from

@@ -6,7 +6,7 @@ use Rattle.call_plan.proofs.plan.settlement_plan.Reads as reads
 use Rattle.call_plan.proofs.plan.settlement_plan.Lts as lts
 use Rattle.call_plan.proofs.plan.finding.assembling.Reads as assembling-reads
 use Rattle.call_plan.proofs.plan.on_noted.Reads as on-noted-reads
-use Rattle.call_plan.proofs.plan.on_repeated.Reads as on-repeated-reads
+use Rattle.call_plan.proofs.plan.on_refused.Reads as on-refused-reads
 use Rattle.call_plan.proofs.entries.look.Reads as look-reads
 
 -- src/lib.rt:115:9
@@ -18,8 +18,8 @@ look-requires : tie.Need-look-requires
 look-requires c κs = search needs
 
 -- src/lib.rt:118:9
-on-repeated-requires : tie.Need-on-repeated-requires
-on-repeated-requires c κs = search needs
+on-refused-requires : tie.Need-on-refused-requires
+on-refused-requires c κs = search needs
 
 -- src/lib.rt:118:9
 returns : tie.Need-returns
@@ -51,7 +51,7 @@ settlement-plan-spec =
     (tie.spec
     assembling-requires
     look-requires
-    on-repeated-requires
+    on-refused-requires
     returns
     enum-known-free
     on-noted-requires
