@@ -1,10 +1,4 @@
-pub mod Again
-pub mod ByValue
-pub mod ColumnLaws
 pub mod Determined
-pub mod Filling
 pub mod Laws
-pub mod Passed
-pub mod PaymentLaws
 pub mod Refused
 pub mod Rows

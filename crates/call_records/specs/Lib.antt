@@ -1,2 +1,1 @@
-pub mod Payments
 pub mod Records

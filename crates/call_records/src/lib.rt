@@ -1,7 +1,4 @@
 // The calls on accounts that are lent as a row of records.
-pub mod columns;
-pub mod paying;
-
 use call::step::Told;
 use chars::Refusal;
 use model::Action;
@@ -238,72 +235,4 @@ pub fn clear(
         return no_start(desk);
     }
     clear_on(desk, row, batches, references, bins)
-}
-
-// What a call tells, and the row that it leaves.
-pub struct RowTold {
-    pub told: Told,
-    pub row: [Account; 64],
-}
-
-// A call on a row that is passed by value and handed back: the row is lent to `call`.
-pub fn call_row(
-    quick: bool,
-    clock: u64,
-    action: Action,
-    input: &[u8],
-    desk: Desk,
-    mut row: [Account; 64],
-    batches: &mut [u64],
-    references: &mut [u64],
-    bins: &mut [u64],
-    out: &mut [u8],
-    tries: &mut [u64],
-) -> RowTold
-    ensures { λ y. ⌜ Called
-        (lentAs desk (tablesIn row (now (batches .entry)) (now (references .entry)) (now (bins .entry))) (now (out .entry)) (now (tries .entry)))
-        (record { quick = quick; clock = clock; action = action; input = now (input .entry) })
-        (leftAs (y .told .answer) (y .told .written) (y .told .tried) (y .told .desk)
-        (tablesIn (y .row) (now (batches .exit)) (now (references .exit)) (now (bins .exit))) (now (out .exit)) (now (tries .exit))) ⌝ }
-{
-    let told = call(
-        quick,
-        clock,
-        action,
-        input,
-        desk,
-        &mut row,
-        batches,
-        references,
-        bins,
-        out,
-        tries,
-    );
-    RowTold { told, row }
-}
-
-// What a clearing answers, and the row that it leaves.
-pub struct RowStart {
-    pub start: Start,
-    pub row: [Account; 64],
-}
-
-// A clearing of a row that is passed by value and handed back: the row is lent to `clear`.
-pub fn clear_row(
-    desk: Desk,
-    mut row: [Account; 64],
-    batches: &mut [u64],
-    references: &mut [u64],
-    bins: &mut [u64],
-) -> RowStart
-    ensures { λ y. ⌜ Cleared desk
-        (tablesIn row (now (batches .entry)) (now (references .entry)) (now (bins .entry)))
-        (record {
-          answer = y .start .answer;
-          desk = y .start .desk;
-          tables = tablesIn (y .row) (now (batches .exit)) (now (references .exit)) (now (bins .exit));
-        }) ⌝ }
-{
-    let start = clear(desk, &mut row, batches, references, bins);
-    RowStart { start, row }
 }

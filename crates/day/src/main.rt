@@ -265,7 +265,7 @@ fn call(
         return nothing(desk);
     }
     let action = asked.action;
-    call_records::columns::call(
+    call_columns::columns::call(
         quick,
         asked.clock,
         action,
@@ -293,7 +293,7 @@ fn clear(
     references: &mut [u64; 6144],
     bins: &mut [u64; 1536],
 ) -> Told {
-    let start = call_records::columns::clear(
+    let start = call_columns::columns::clear(
         desk,
         codes,
         flags,

@@ -4,7 +4,7 @@ use lib.Seq.{length-take-le}
 use borrow.Author.Needs.{needs}
 use Rattle.day.proofs.call.Statement.{statement}
 use Rattle.day.proofs.call.Tie as tie
-use Rattle.call_records.proofs.columns.call.Reads as call-reads
+use Rattle.call_columns.proofs.columns.call.Reads as call-reads
 use Rattle.day.proofs.nothing.Reads as nothing-reads
 
 nothing-requires : tie.Need-nothing-requires

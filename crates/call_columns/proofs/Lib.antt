@@ -1,0 +1,3 @@
+pub mod ByValue
+pub mod ColumnLaws
+pub mod Filling
