@@ -8,14 +8,18 @@ use model::Phase;
 use tables::Desk;
 ghost use mathlib.Core.Path.{_≡_};
 ghost use Prim.Native.Nat.{_+_, _≤_, _<_};
-ghost use lib.ListN.{length};
+ghost use lib.ListN.{length, take, drop};
+ghost use Rattle.chars.specs.Words.{Says};
+ghost use Rattle.tables.specs.Lent.{Right};
+ghost use Rattle.tables_as_row.specs.RowWords.{phaseBy, deskIn, lentOf, tablesIn, Judged};
 
 const WORDS: usize = 19_584;
 
 // How many words of a table are lent, of those that it has room for.
 fn lent(words: &[u64], table: usize, room: usize) -> usize
     requires { ⌜ (length (now words) ≡ 19584) × (table < 7) ⌝ }
-    ensures { λ r. ⌜ r ≤ room ⌝ }
+    ensures { λ r. ⌜ r ≡ lentOf (now (words .entry)) table room ⌝ }
+    ensures small { λ r. ⌜ r ≤ room ⌝ }
 {
     let n = words[24 + table] as usize;
     if room < n {
@@ -24,16 +28,21 @@ fn lent(words: &[u64], table: usize, room: usize) -> usize
     n
 }
 
-fn phase(x: u64) -> Phase {
-    match x {
-        0 => Phase::Fresh,
-        1 => Phase::Open,
-        _ => Phase::Closed,
+fn phase(x: u64) -> Phase
+    ensures { λ r. ⌜ r ≡ phaseBy x ⌝ }
+{
+    if x == 0 {
+        return Phase::Fresh;
     }
+    if x == 1 {
+        return Phase::Open;
+    }
+    Phase::Closed
 }
 
 fn streams(words: &[u64]) -> [u64; 16]
     requires { ⌜ length (now words) ≡ 19584 ⌝ }
+    ensures { λ r. ⌜ r ≡ take 16 (drop 6 (now (words .entry))) ⌝ }
 {
     let mut row = [0u64; 16];
     let mut i = 0;
@@ -46,6 +55,7 @@ fn streams(words: &[u64]) -> [u64; 16]
 
 fn desk(words: &[u64]) -> Desk
     requires { ⌜ length (now words) ≡ 19584 ⌝ }
+    ensures { λ r. ⌜ r ≡ deskIn (now (words .entry)) ⌝ }
 {
     let row = streams(words);
     let at = phase(words[0]);
@@ -62,6 +72,7 @@ fn desk(words: &[u64]) -> Desk
 
 pub fn right(words: &[u64]) -> bool
     requires { ⌜ length (now words) ≡ 19584 ⌝ }
+    ensures { λ r. ⌜ Says (Right (deskIn (now (words .entry))) (tablesIn (now (words .entry)))) r ⌝ }
 {
     let codes = 32 + lent(words, 0, 65);
     let flags = 128 + lent(words, 1, 65);
@@ -85,7 +96,9 @@ pub fn right(words: &[u64]) -> bool
 
 // 0, or 6 where the row is of another length or its tables break the rules.
 #[no_mangle]
-pub extern "C" fn purmagheli_row_right(words: &[u64]) -> u64 {
+pub extern "C" fn purmagheli_row_right(words: &[u64]) -> u64
+    ensures { λ r. ⌜ Judged (now (words .entry)) r ⌝ }
+{
     if words.len() != WORDS {
         return 6;
     }

@@ -1,10 +1,14 @@
 use Prim.Native.Nat.{_-_, _≤_}
+use mathlib.Core.Path.{_≡_}
+use native.Mathlib.Omega.{arith}
+use lib.ListN.{length, take, drop, length-set}
+use Rattle.tables_as_row.proofs.Laws.{streams-turn, streams-end}
 use borrow.Author.Needs.{needs}
 use Rattle.tables_as_row.proofs.streams.Statement.{statement}
 use Rattle.tables_as_row.proofs.streams.Tie as tie
 
 abbrev Inv-loop : tie.InvT-loop
-Inv-loop words row₀ i₀ row i = i ≤ 16
+Inv-loop words row₀ i₀ row i = (i ≤ 16) × (length row ≡ 16) × (take i row ≡ take i (take 16 (drop 6 words)))
 
 abbrev μ-loop : tie.MeasureT-loop
 μ-loop words row₀ i₀ row i = 16 - i
@@ -34,10 +38,10 @@ loop-less : tie.Need-loop-less Inv-loop μ-loop
 loop-less c = search needs
 
 loop-again : tie.Need-loop-again Inv-loop μ-loop
-loop-again c = search needs
+loop-again c = (search needs, simp length-set (omega arith), search (needs, streams-turn))
 
 returns : tie.Need-returns Inv-loop μ-loop
-returns c = search needs
+returns c = search (needs, streams-end)
 
 pub streams-spec : {M : Type 1} → statement M
 streams-spec =
