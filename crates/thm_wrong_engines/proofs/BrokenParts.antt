@@ -3,7 +3,7 @@ use Prim.Native.Nat.{ℕ}
 use Prim.Native.String.{String}
 use mathlib.Core.Path.{_≡_, refl, sym, ap, _∙_}
 use mathlib.Core.Bool.{cond}
-use mathlib.Core.List.{List, [], _∷_, _++_, map}
+use mathlib.Core.List.{List, [], _∷_, _++_}
 use native.Mathlib.Omega.{arith}
 use lib.ListN.{getD}
 use Rattle.chars.specs.Words.{bytes}
@@ -17,18 +17,19 @@ use Rattle.request_read.specs.declared.whole.Outcome.the-variants.{Settlement, 
 use Rattle.book_write.specs.Closing.{bookBytes}
 use Rattle.model.specs.declared.Action.the-variants.{Opening, Message}
 use Rattle.model.specs.declared.Answer.{Answer}
-use Rattle.model.specs.declared.Answer.the-variants.{Done, Refused}
+use Rattle.model.specs.declared.Answer.the-variants.{Refused}
 use Rattle.model.specs.Answers.{answerNumber}
 use Rattle.model.specs.Kinds.{steps, kindOf, Own, receives, changesSublimit, changesStatus, nothing}
 use Rattle.model.specs.State.{isFree, free, State, noEntry}
 use Rattle.model.specs.Messages.{Acted, message}
-use Rattle.model.specs.Calls.{Call, Engine, Result, judge, act, call}
-use Rattle.model.specs.Course.{start, Deed, calls, course}
+use Rattle.model.specs.Calls.{Call, Engine, Result, act, call}
+use Rattle.model.specs.Course.{course}
 use Rattle.model.specs.LeftBehind.{LeftBehind}
 use Rattle.model.specs.Promises.{Always, Numbered}
 use Rattle.model.proofs.Stories.{asked, says, stream, flagged, request, alone, pays, dr, goes}
-use Rattle.model.proofs.Promises.{numbers-are-right, rows-are-kept}
+use Rattle.model.proofs.Promises.{numbers-are-right}
 use Rattle.thm_wrong_engines.specs.Engines.{callActing}
+use Rattle.thm_wrong_engines.proofs.ShutOut.{deeds, left-by, Refuses, left-one}
 use Rattle.thm_wrong_engines.specs.Breaking.{breaking, rightly, endingNothing, endingByMissing, sparingCredits, endingByStrangers, ending87, notingIt, answeringIt, endingWaiting}
 
 -- with the right action for such a text it is the engine's own action
@@ -88,25 +89,17 @@ secondNoted r = getD (r .engine .state .known .references) 1 noEntry .day
 abbrev texts : Result → ℕ
 texts r = r .engine .state .day .texts
 
-abbrev after : (Engine → Call → Result) → List Call → Engine
-after f cs = course f start (map calls cs)
-
 -- a call that both answer with a number, and by which the right engine shows x and the wrong one y
 record Differs (f : Engine → Call → Result) (cs : List Call) (c : Call) (q : Refusal) (look : Result → ℕ) (x y : ℕ) : Type 0 where
-  moment : judge (after call cs .state) c ≡ Done
   kind : kindOf (c .asked .action) ≡ steps
-  right : call (after call cs) c .answer ≡ Refused q
-  wrong : f (after f cs) c .answer ≡ Refused q
-  right-shows : look (call (after call cs) c) ≡ x
-  wrong-shows : look (f (after f cs) c) ≡ y
+  refuses : Refuses f cs c q
+  right-shows : look (left-by call cs c) ≡ x
+  wrong-shows : look (left-by f cs c) ≡ y
 
 -- by the promise both would leave the same
 same-shown : (f : Engine → Call → Result) (cs : List Call) (c : Call) (q : Refusal) (look : Result → ℕ) (x y : ℕ)
     → Differs f cs c q look x y → Always f LeftBehind → x ≡ y
-same-shown f cs c q look x y d h =
-    sym (d .right-shows)
-    ∙ ap look (rows-are-kept (map calls cs) c (d .moment) (d .kind) q (d .right) ∙ sym (h (map calls cs) c (d .moment) (d .kind) q (d .wrong)))
-    ∙ d .wrong-shows
+same-shown f cs c q look x y d h = sym (d .right-shows) ∙ ap look (sym (left-one f cs c q h (d .kind) (d .refuses))) ∙ d .wrong-shows
 
 -- the engine with another action for broken texts
 abbrev acting : (State → (sender : ℕ) → List ℕ → Break → Acted) → Engine → Call → Result
@@ -118,28 +111,28 @@ record Shown : Type 0 where
   credit-spared : Differs (acting sparingCredits) assembled credit Malformed isLive 0 1
   stranger-ends : Differs (acting endingByStrangers) assembled strange WrongEsa isLive 1 0
   waiting-ends : Differs (acting endingWaiting) queued wrong WrongEsa isLive 1 0
-  right-number : call (after call assembled) wrong .answer ≡ Refused WrongEsa
-  wrong-number : acting ending87 (after (acting ending87) assembled) wrong .answer ≡ Refused Malformed
+  right-number : left-by call assembled wrong .answer ≡ Refused WrongEsa
+  wrong-number : left-by (acting ending87) assembled wrong .answer ≡ Refused Malformed
 
 shown : Shown
 unfolding goes course
 shown = record {
-  nothing-ends = record { moment = refl; kind = refl; right = refl; wrong = refl; right-shows = refl; wrong-shows = refl };
-  missing-ends = record { moment = refl; kind = refl; right = refl; wrong = refl; right-shows = refl; wrong-shows = refl };
-  credit-spared = record { moment = refl; kind = refl; right = refl; wrong = refl; right-shows = refl; wrong-shows = refl };
-  stranger-ends = record { moment = refl; kind = refl; right = refl; wrong = refl; right-shows = refl; wrong-shows = refl };
-  waiting-ends = record { moment = refl; kind = refl; right = refl; wrong = refl; right-shows = refl; wrong-shows = refl };
+  nothing-ends = record { kind = refl; refuses = record { moment = refl; right = refl; wrong = refl }; right-shows = refl; wrong-shows = refl };
+  missing-ends = record { kind = refl; refuses = record { moment = refl; right = refl; wrong = refl }; right-shows = refl; wrong-shows = refl };
+  credit-spared = record { kind = refl; refuses = record { moment = refl; right = refl; wrong = refl }; right-shows = refl; wrong-shows = refl };
+  stranger-ends = record { kind = refl; refuses = record { moment = refl; right = refl; wrong = refl }; right-shows = refl; wrong-shows = refl };
+  waiting-ends = record { kind = refl; refuses = record { moment = refl; right = refl; wrong = refl }; right-shows = refl; wrong-shows = refl };
   right-number = refl;
   wrong-number = refl;
 }
 
 noted-shown : (f : List ℕ → Code) → Differs (acting (λ s sender input. notingIt s sender input f)) assembled wrong WrongEsa secondNoted 0 9895
 unfolding goes course
-noted-shown f = record { moment = refl; kind = refl; right = refl; wrong = refl; right-shows = refl; wrong-shows = refl }
+noted-shown f = record { kind = refl; refuses = record { moment = refl; right = refl; wrong = refl }; right-shows = refl; wrong-shows = refl }
 
 answered-shown : (f : List ℕ → Code) → Differs (acting (λ s sender input. answeringIt s sender input f)) assembled wrong WrongEsa texts 1 2
 unfolding goes course
-answered-shown f = record { moment = refl; kind = refl; right = refl; wrong = refl; right-shows = refl; wrong-shows = refl }
+answered-shown f = record { kind = refl; refuses = record { moment = refl; right = refl; wrong = refl }; right-shows = refl; wrong-shows = refl }
 
 -- ---- each is shut out
 
@@ -161,7 +154,7 @@ waiting-ending-shut-out h = let z : _≡_ {A = ℕ} 1 0 = same-shown _ queued wr
 pub always-87-shut-out : Always (acting ending87) Numbered → ⊥
 always-87-shut-out h =
     let z : _≡_ {A = ℕ} 87 80 =
-    ap answerNumber (sym (shown .wrong-number) ∙ h (map calls assembled) wrong ∙ sym (numbers-are-right (map calls assembled) wrong) ∙ shown .right-number) in
+    ap answerNumber (sym (shown .wrong-number) ∙ h (deeds assembled) wrong ∙ sym (numbers-are-right (deeds assembled) wrong) ∙ shown .right-number) in
     omega arith
 
 pub noting-shut-out : (f : List ℕ → Code) → Always (acting (λ s sender input. notingIt s sender input f)) LeftBehind → ⊥
