@@ -2,7 +2,10 @@
  * The engine's calls beside the plain engine of tests/engine, which does the same tests of the tables: the library, and the plain engine as each of the
  * shared objects that are named, in turns on the same tables. Before each call the tables are copied anew, and that is not timed.
  *
- *     engine PLAIN.so..        medians in microseconds, with the tenth and the ninth decile
+ *     engine PLAIN.so..                          medians in microseconds, with the tenth and the ninth decile
+ *     engine count ROW ENGINE CALLS PLAIN.so..   no time: the tables of a row are copied COUNTED times, with CALLS calls of an engine (0 is the library)
+ *
+ * The second form runs under a program that counts instructions: twice, with COUNTED calls and with none. The difference is that of the calls.
  */
 #define _GNU_SOURCE
 #include <dlfcn.h>
@@ -16,7 +19,7 @@
 #include "../tests/gateway/plain.h"
 #include "purmagheli.h"
 
-enum { TURNS = 1001, MOST_ENGINES = 4, TODAY = 9895, NOON = 43200 };
+enum { TURNS = 1001, COUNTED = 10, MOST_ENGINES = 4, TODAY = 9895, NOON = 43200 };
 
 /* ---- engines */
 
@@ -131,7 +134,22 @@ static void compare(const char *name, const plain_engine *e, const struct ask *a
     }
 }
 
+/* What is counted: a row of the table, an engine and its calls; -1: everything is timed. */
+static long counted_row = -1, counted_engine, counted_calls, row;
+
+static void count(const char *name, const plain_engine *e, const struct ask *a) {
+    for (long i = 0; i < COUNTED; i++) {
+        work = *e;
+        if (i < counted_calls) make_call(engines + counted_engine, &work, a);
+    }
+    puts(name);
+    exit(0);
+}
+
 static void measure(const char *name, const plain_engine *e, const struct ask *a, uint64_t answer) {
+    if (counted_row == row) count(name, e, a);
+    row++;
+    if (counted_row >= 0) return;
     compare(name, e, a, answer);
     for (int i = 0; i < TURNS; i++) {
         for (int k = 0; k < engine_count; k++) {
@@ -257,6 +275,7 @@ static void remember(uint64_t (*entries)[3], int places, const char *form) {
 
 static void measure_references(const plain_engine *empty, const struct ask *message) {
     static const int held[] = {0, 512, 1024, 2047, 2048};
+    static const char *const forms[][2] = {{"HELD%08d", "of 12 characters"}, {"HELDFOR00000%04d", "of 16 characters"}, {"ASX1%08d", "ASX1.., of 12 characters"}};
     static plain_engine e;
     for (int i = 0; i < 5; i++) {
         char name[60];
@@ -265,16 +284,32 @@ static void measure_references(const plain_engine *empty, const struct ask *mess
         snprintf(name, sizeof name, "message, %d references held", held[i]);
         measure(name, &e, message, held[i] == PLAIN_REFERENCES ? 4 : 0);
     }
+    for (int i = 0; i < 3; i++) {
+        char name[60];
+        e = *empty;
+        remember(e.references, 2047, forms[i][0]);
+        snprintf(name, sizeof name, "message, 2047 held %s", forms[i][1]);
+        measure(name, &e, message, 0);
+    }
 }
 
 int main(int argc, char **argv) {
     static plain_engine empty, full, e;
     static struct ask message, a;
-    for (int i = 1; i < argc && engine_count < MOST_ENGINES; i++) load_engine(argv[i]);
-    if (engine_count < 2) return 2;
-    printf("%-44s", "microseconds: median (tenth-ninth decile)");
-    for (int k = 0; k < engine_count; k++) printf(" %-20s", engines[k].name);
-    printf(" library to the best\n");
+    int first = 1;
+    if (argc > 5 && strcmp(argv[1], "count") == 0) {
+        counted_row = strtol(argv[2], 0, 10);
+        counted_engine = strtol(argv[3], 0, 10);
+        counted_calls = strtol(argv[4], 0, 10);
+        first = 5;
+    }
+    for (int i = first; i < argc && engine_count < MOST_ENGINES; i++) load_engine(argv[i]);
+    if (engine_count < 2 || counted_engine >= engine_count) return 2;
+    if (counted_row < 0) {
+        printf("%-44s", "microseconds: median (tenth-ninth decile)");
+        for (int k = 0; k < engine_count; k++) printf(" %-20s", engines[k].name);
+        printf(" library to the best\n");
+    }
 
     open_day(&empty);
     message_of(&message, 9999, 1, 1, 0, 10, 5, -1);
@@ -306,5 +341,5 @@ int main(int argc, char **argv) {
     memset(&e, 0, sizeof e);
     measure("opening, 64 banks, a fresh start", &e, &a, 0);
     measure_references(&empty, &message);
-    return 0;
+    return counted_row < 0 ? 0 : 3;
 }
