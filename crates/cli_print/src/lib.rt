@@ -1,7 +1,6 @@
 // Words and numbers on standard output, as the programs tell them.
 use chars::Refusal;
 use codes::Code;
-use libc::STDOUT_FILENO;
 
 pub fn text(b: &[u8]) {
     cli_files::print(b);
@@ -23,7 +22,9 @@ pub fn end() {
 }
 
 pub fn number(v: u64) {
-    io::print_decimal(STDOUT_FILENO, v);
+    let mut b = [0u8; 20];
+    let n = io::decimal(v, &mut b);
+    text(&b[..n]);
 }
 
 // A name and a number behind it.
