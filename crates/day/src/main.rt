@@ -8,6 +8,7 @@ use cli_files::lines;
 use cli_files::lines::Ahead;
 use cli_files::paths;
 use cli_files::whole;
+use cli_print::Row;
 use cli_script::Line;
 use cli_script::Wanted;
 use libc::STDERR_FILENO;
@@ -130,8 +131,10 @@ fn goes_on(keep_going: bool, number: u64) -> bool {
     if !keep_going {
         return false;
     }
-    cli_print::field(b"line ", number);
-    cli_print::text(b" not a call\n");
+    cli_print::begin()
+        .field(b"line ", number)
+        .text(b" not a call")
+        .print_line();
     cli_files::is_heard()
 }
 
@@ -158,27 +161,28 @@ fn too_long(keep_going: bool, number: u64, name: &[u8]) -> bool {
     goes_on(keep_going, number)
 }
 
-fn tell_command(action: Action) {
+fn command(action: Action) -> Row {
     match action {
-        Action::Opening => cli_print::text(b"open "),
-        Action::Message(_) => cli_print::text(b"message "),
-        Action::SubLimit(_, _) => cli_print::text(b"sublimit "),
-        Action::Status(_, _, _) => cli_print::text(b"status "),
-        Action::Tick => cli_print::text(b"tick "),
-        Action::Close => cli_print::text(b"close "),
-        Action::ClosingBook(_) => cli_print::text(b"closing "),
+        Action::Opening => cli_print::begin().text(b"open "),
+        Action::Message(_) => cli_print::begin().text(b"message "),
+        Action::SubLimit(_, _) => cli_print::begin().text(b"sublimit "),
+        Action::Status(_, _, _) => cli_print::begin().text(b"status "),
+        Action::Tick => cli_print::begin().text(b"tick "),
+        Action::Close => cli_print::begin().text(b"close "),
+        Action::ClosingBook(_) => cli_print::begin().text(b"closing "),
     }
 }
 
-fn tell_tries(tries: &[u64], n: usize) {
-    cli_print::text(b" tries");
+fn tell_tries(before: Row, tries: &[u64], n: usize) -> Row {
+    let mut row = before.text(b" tries");
     let mut i = 0;
     while i < tries.len() {
         if i < n {
-            cli_print::field(b" ", tries[i]);
+            row = row.field(b" ", tries[i]);
         }
         i += 1;
     }
+    row
 }
 
 fn write_beside(name: &[u8], place: Place, path: &[u8], n: usize, book: &[u8]) -> bool {
@@ -262,11 +266,10 @@ fn tell_call(
 ) -> bool {
     let action = asked.action;
     let answer = told.answer;
-    tell_command(action);
-    cli_print::two_digits(answer.number());
-    tell_tries(tries, told.tried);
-    cli_print::field(b" bytes ", told.written as u64);
-    cli_print::end();
+    let row = command(action).two_digits(answer.number());
+    tell_tries(row, tries, told.tried)
+        .field(b" bytes ", told.written as u64)
+        .print_line();
     if !cli_files::is_heard() {
         return false;
     }
@@ -535,9 +538,11 @@ fn perform(
 }
 
 fn tell_clear(answer: Answer) -> bool {
-    cli_print::text(b"clear ");
-    cli_print::two_digits(answer.number());
-    cli_print::text(b" tries bytes 0\n");
+    cli_print::begin()
+        .text(b"clear ")
+        .two_digits(answer.number())
+        .text(b" tries bytes 0")
+        .print_line();
     cli_files::is_heard()
 }
 
