@@ -47,10 +47,21 @@ def run(command):
     return done.returncode, done.stdout.decode("latin-1").replace("\r", "").replace(folder + "/", "/tmp/"), done.stderr.decode("latin-1")
 
 
+def commands_of(block):
+    """The commands behind `$`, each with the lines that it prints."""
+    commands = []
+    for line in block:
+        if line.startswith("$ "):
+            commands.append((line[2:], []))
+        else:
+            commands[-1][1].append(line)
+    return commands
+
+
 def compare(page, command, wanted):
     status, printed, said = run(command)
     # a command that shows a refusal ends with 1
-    if printed.rstrip("\n").split("\n") != wanted and wanted != [""]:
+    if wanted is not None and printed.rstrip("\n") != "\n".join(wanted):
         wrong.append(f"{page}: '{command}' prints:\n{printed}{said}")
     elif status not in (0, 1) or said:
         wrong.append(f"{page}: '{command}' ends with {status}: {said}")
@@ -79,13 +90,14 @@ for page in pages:
     for block in blocks_of(page):
         first = block[0]
         if first.startswith("$ "):
-            compare(page, first[2:], block[1:])
-            count += 1
+            for command, wanted in commands_of(block):
+                compare(page, command, wanted)
+                count += 1
         elif re.match(r"\./|gcc |/tmp/", first):
             for line in block:
                 command = line.split("   ")[0].strip()
                 if not command.startswith(LEFT_OUT):
-                    compare(page, command, [""])
+                    compare(page, command, None)
                     count += 1
         elif re.match(r"script +=|WORD NN|script:\d+:\d+: ", first):
             continue
