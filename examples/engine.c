@@ -6,6 +6,7 @@
  *     /tmp/engine
  */
 #include <stdio.h>
+#include <stdlib.h>
 
 #include "purmagheli.h"
 
@@ -15,8 +16,13 @@ static uint64_t tries[PURMAGHELI_TRIES];
 
 static size_t load(const char *name, uint8_t *bytes) {
     FILE *file = fopen(name, "rb");
-    size_t n = file ? fread(bytes, 1, 4096, file) : 0;
-    if (file) fclose(file);
+    size_t n;
+    if (!file) {
+        perror(name);
+        exit(1);
+    }
+    n = fread(bytes, 1, 4096, file);
+    fclose(file);
     return n;
 }
 

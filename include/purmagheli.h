@@ -307,6 +307,49 @@ uint64_t purmagheli_find_book_fault(const uint8_t *book, size_t book_length, uin
 #define PURMAGHELI_BINS 512
 #define PURMAGHELI_BIN_WORDS 3
 
+/*
+ * The words of a batch's row, for programs that look at the queue. A row that is not in use is zero.
+ *
+ *   PHASE        BATCH_FREE, _ASSEMBLING, _PENDING or _QUEUED
+ *   RANK         its place among the pending or in the queue, from 0
+ *   BIN          two words: the code
+ *   COUNT        how many messages the batch has
+ *   ACTIVATION   0, or the minute of the day plus 1
+ *   MEMORY       of the quick test: 0, or the place of a bank plus 1
+ *   MESSAGES     how many messages are there
+ *   PAYMENTS     how many payments are there
+ *   MESSAGE      message i begins at MESSAGE + i * MESSAGE_WORDS: REFERENCE (two words: the code), NUMBER, SIZE (its payments)
+ *   PAYMENT      payment j begins at PAYMENT + j * PAYMENT_WORDS: BANK (its place), CENTS, LETTERS (as a code; 0 for a credit)
+ */
+#define PURMAGHELI_BATCH_FREE 0
+#define PURMAGHELI_BATCH_ASSEMBLING 1
+#define PURMAGHELI_BATCH_PENDING 2
+#define PURMAGHELI_BATCH_QUEUED 3
+#define PURMAGHELI_BATCH_PHASE 0
+#define PURMAGHELI_BATCH_RANK 1
+#define PURMAGHELI_BATCH_BIN 2
+#define PURMAGHELI_BATCH_COUNT 4
+#define PURMAGHELI_BATCH_ACTIVATION 5
+#define PURMAGHELI_BATCH_MEMORY 6
+#define PURMAGHELI_BATCH_MESSAGES 7
+#define PURMAGHELI_BATCH_PAYMENTS 8
+#define PURMAGHELI_BATCH_MESSAGE 9
+#define PURMAGHELI_BATCH_MESSAGE_WORDS 4
+#define PURMAGHELI_BATCH_MESSAGE_REFERENCE 0
+#define PURMAGHELI_BATCH_MESSAGE_NUMBER 2
+#define PURMAGHELI_BATCH_MESSAGE_SIZE 3
+#define PURMAGHELI_BATCH_PAYMENT 49
+#define PURMAGHELI_BATCH_PAYMENT_WORDS 3
+#define PURMAGHELI_BATCH_PAYMENT_BANK 0
+#define PURMAGHELI_BATCH_PAYMENT_CENTS 1
+#define PURMAGHELI_BATCH_PAYMENT_LETTERS 2
+
+/* The words of a reference's or a BIN's row: the code in two words, and the day on which it was noted, 0 for 1 January 2000. */
+#define PURMAGHELI_REFERENCE_CODE 0
+#define PURMAGHELI_REFERENCE_DAY 2
+#define PURMAGHELI_BIN_CODE 0
+#define PURMAGHELI_BIN_DAY 2
+
 typedef struct {
     uint64_t code, flags, balance, sublimit;
 } purmagheli_bank;

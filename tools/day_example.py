@@ -1,8 +1,8 @@
 #!/usr/bin/env python3
 """The files of examples/day: an opening book, the texts of the administrators and the script of their day, made from document 01.
 
-What the script must print (examples/day/expected-plain, expected-quick) and the closing book of the day (270204.book) come from
-the plain engine, tests/engine/day.c.
+What the script must print (examples/day/expected-plain, expected-quick) and its closing book (expected-book) come from
+the plain engine, tests/engine/day.c. The script writes that book to 270204.book, which is not kept.
 Run it at the top of the repository: python3 tools/day_example.py
 """
 import os
@@ -82,8 +82,8 @@ def call(line):
 
 def send(clock, content, name, sender=None):
     """A message of the stream's administrator, or of another sender."""
-    path = f"{FOLDER}/texts/{name}"
-    FILES[path] = content
+    path = f"texts/{name}"
+    FILES[f"{FOLDER}/{path}"] = content
     stream = content.split(b":22A:")[1][:4].decode()
     call(f"message {seconds(clock)} {sender or dict(STREAMS)[stream]} {path}")
 
@@ -98,7 +98,7 @@ def seconds(clock):
 def morning():
     tell("3 February 2027. Three streams, twelve banks; cents everywhere.")
     call("clear")
-    call(f"open {seconds('09:00:00')} {FOLDER}/{DATE}.book")
+    call(f"open {seconds('09:00:00')} {DATE}.book")
     call("show")
     SCRIPT.append("")
     tell("PROP0001 comes in three parts, out of order. SYDN and HOBA pay 310,000.00; together they have 580,000.00 and sub-limits of 80,000.00, so an engine")
@@ -179,15 +179,15 @@ def evening():
     call(f"tick {seconds('15:00:00')}")
     call(f"close {seconds('16:30:00')}")
     call("show")
-    call(f"closing {seconds('16:31:00')} {DATE} {FOLDER}/270204.book")
-    call(f"closing {seconds('16:31:00')} 270204 {FOLDER}/270204.book")
+    call(f"closing {seconds('16:31:00')} {DATE} 270204.book")
+    call(f"closing {seconds('16:31:00')} 270204 270204.book")
 
 
 def next_day():
     SCRIPT.append("")
     tell("4 February: yesterday's book is refused and the closing book opens it. Yesterday's references and BINs are remembered.")
-    call(f"open {seconds('09:00:00')} {FOLDER}/{DATE}.book")
-    call(f"open {seconds('09:00:00')} {FOLDER}/270204.book")
+    call(f"open {seconds('09:00:00')} {DATE}.book")
+    call(f"open {seconds('09:00:00')} 270204.book")
     send("09:05:00", request("PROPNET000000001", "PROP0007", "01/01", ["DR SYDN 100 |AAA ", "CR HOBA 100"], date="270204"), "used-reference")
     send("09:06:00", request("RURLNET000000012", "RURL0007", "01/01", ["DR TOWN 1 |AAA ", "CR ADEL 1"], date="270204"), "used-bin")
     send("09:07:00", request("PROPNET000000012", "PROP0007", "01/01", ["DR SYDN 100 |AAA ", "CR HOBA 100"], date="270204"), "PROP0007")

@@ -74,6 +74,21 @@ static void open_day(void) {
     must(is(message(33009, 5, "texts/PROP0001-02"), 0, 0, 1) && tries[0] == 0, "the last part");
 }
 
+/* The words that the header names, of PROP0001 in the queue and of its first reference and its BIN. */
+static void named_words(void) {
+    const uint64_t *row = e.batches[0], *first = row + PURMAGHELI_BATCH_MESSAGE, *last = row + PURMAGHELI_BATCH_PAYMENT + 3 * PURMAGHELI_BATCH_PAYMENT_WORDS;
+    uint64_t bin = purmagheli_code_high("PROP0001"), high = purmagheli_code_high("PROPNET000000003"), low = purmagheli_code_low("PROPNET000000003");
+    must(row[PURMAGHELI_BATCH_PHASE] == PURMAGHELI_BATCH_QUEUED && row[PURMAGHELI_BATCH_RANK] == 0 && row[PURMAGHELI_BATCH_BIN] == bin, "a batch's words");
+    must(row[PURMAGHELI_BATCH_COUNT] == 3 && row[PURMAGHELI_BATCH_ACTIVATION] == 0 && row[PURMAGHELI_BATCH_MEMORY] == 6, "its terms and memory");
+    must(row[PURMAGHELI_BATCH_MESSAGES] == 3 && row[PURMAGHELI_BATCH_PAYMENTS] == 4, "what is there of a batch");
+    must(first[PURMAGHELI_BATCH_MESSAGE_REFERENCE] == high && first[PURMAGHELI_BATCH_MESSAGE_REFERENCE + 1] == low, "a message's reference");
+    must(first[PURMAGHELI_BATCH_MESSAGE_NUMBER] == 3 && first[PURMAGHELI_BATCH_MESSAGE_SIZE] == 2, "a message's words");
+    must(last[PURMAGHELI_BATCH_PAYMENT_BANK] == 5 && last[PURMAGHELI_BATCH_PAYMENT_CENTS] == 6000000, "a payment's words");
+    must(last[PURMAGHELI_BATCH_PAYMENT_LETTERS] == purmagheli_code4("A A "), "a payment's letters");
+    must(e.references[0][PURMAGHELI_REFERENCE_CODE] == high && e.references[0][PURMAGHELI_REFERENCE_DAY] == 9895, "a reference's words");
+    must(e.bins[0][PURMAGHELI_BIN_CODE] == bin && e.bins[0][PURMAGHELI_BIN_DAY] == 9895, "a BIN's words");
+}
+
 static void changes(void) {
     uint64_t hoba = purmagheli_code4("HOBA"), high = purmagheli_code_high("PROP0001"), low = purmagheli_code_low("PROP0001");
     must(is(purmagheli_status(&e, 1, 33700, lent, hoba, high, low, 'X'), 80, 0, 0), "a letter that is none");
@@ -123,6 +138,7 @@ static void day(void) {
     must(is(purmagheli_tick(&e, 1, 0, lent), 5, 0, 0), "a tick before the opening");
     must(is(purmagheli_open(&e, 1, 32400, lent, text, load("270203.book") - 1), 11, 0, 0), "a book that is too short");
     open_day();
+    named_words();
     must(e.desk[PURMAGHELI_DESK_PHASE] == PURMAGHELI_PHASE_OPEN && e.desk[PURMAGHELI_DESK_DATE] == 9895 && e.desk[PURMAGHELI_DESK_CLOCK] == 33009, "the desk");
     must(e.desk[PURMAGHELI_DESK_BANKS] == 12 && e.desk[PURMAGHELI_DESK_STREAMS] == 3, "the house");
     must(e.desk[PURMAGHELI_DESK_STREAM] == purmagheli_code4("CARD") && e.desk[PURMAGHELI_DESK_STREAM + 1] == 7, "the first stream");

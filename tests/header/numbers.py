@@ -1,6 +1,7 @@
 #!/usr/bin/env python3
 """The constants of the crates that include/purmagheli.h repeats, as `NAME number`, a line each: those that are public in the sources of c_gateway,
-c_engine and c_version, and the room and the tries of a call. One that is said by others, as `TEXTS * Settlement::LONGEST`, is worked out."""
+c_engine and c_version, the room and the tries of a call, and the words of a batch's row. One that is said by others, as `TEXTS * Settlement::LONGEST`,
+is worked out. Words that the crates name by their place alone come from the tables of docs/FORMAT.md, and tests/engine looks at them."""
 import glob
 import re
 
@@ -32,6 +33,18 @@ def number(path, text):
     return eval(text)
 
 
+# the header's name of a word, and that of `settle::Batch`
+BATCH = {"PHASE": "PHASE", "RANK": "RANK", "BIN": "BIN", "COUNT": "COUNT", "ACTIVATION": "ACTIVATION", "MEMORY": "MEMORY",
+         "MESSAGES": "MESSAGES_THERE", "PAYMENTS": "PAYMENTS_THERE", "MESSAGE": "MESSAGE", "MESSAGE_WORDS": "MESSAGE_WIDTH",
+         "PAYMENT": "PAYMENT", "PAYMENT_WORDS": "PAYMENT_WIDTH"}
+PLACES = {"BATCH": ["FREE", "ASSEMBLING", "PENDING", "QUEUED"], "BATCH_MESSAGE": ["REFERENCE", None, "NUMBER", "SIZE"],
+          "BATCH_PAYMENT": ["BANK", "CENTS", "LETTERS"], "REFERENCE": ["CODE", None, "DAY"], "BIN": ["CODE", None, "DAY"]}
+for name, own in BATCH.items():
+    print(f"BATCH_{name}", number(*said[(None, f"Batch::{own}")]))
+for row, words in PLACES.items():
+    for place, word in enumerate(words):
+        if word:
+            print(f"{row}_{word}", place)
 for path, name in public:
     print(name, number(*said[(path, name)]))
 print("ROOM", number(*said[(ROOM, "ROOM")]))

@@ -6,24 +6,19 @@ pub struct Ahead {
     pub end: usize,
 }
 
-// What is kept of a line: so many bytes, and so many zeros at the beginning of its last word.
+// What is kept of a line: so many bytes, and whether it has more.
 struct Kept {
     n: usize,
-    zeros: usize,
+    is_long: bool,
 }
 
-// A line of n bytes, if the script has one more.
+// A line of n bytes, if the script has one more; or the beginning of a line that is longer than the buffer.
 pub struct Taken {
     pub ahead: Ahead,
     pub n: usize,
     pub is_there: bool,
+    pub is_long: bool,
 }
-
-// No word of more zeros than a file's name may have bytes is more than a number with needless zeros.
-const MOST_ZEROS: usize = 4_096;
-
-// The word began otherwise.
-const NO_ZEROS: usize = 4_097;
 
 fn byte(row: &[u8], i: usize) -> u8 {
     if i < row.len() { row[i] } else { 0 }
@@ -40,59 +35,42 @@ pub fn nothing_ahead() -> Ahead {
 }
 
 // Reads on where nothing is ahead; still nothing is ahead at the end of the script.
-fn read_ahead(fd: i32, buf: &mut [u8], ahead: Ahead) -> Ahead {
+fn read_ahead(name: &[u8], fd: i32, buf: &mut [u8], ahead: Ahead) -> Ahead {
     if ahead.at < ahead.end {
         return ahead;
     }
     let got = libc::read(fd, buf);
     if got < 0 {
-        crate::unreadable(b"script");
+        crate::unreadable(name);
     }
     let end = io::count(got, buf);
     Ahead { at: 0, end }
 }
 
-// The zeros at the beginning of a word, with one byte more.
-fn zeros_with(zeros: usize, b: u8) -> usize {
-    if b == b' ' {
-        return 0;
-    }
-    if b != b'0' {
-        return NO_ZEROS;
-    }
-    if zeros < MOST_ZEROS { zeros + 1 } else { zeros }
-}
-
-// Needless zeros are left out. A line that is past the buffer has a word too long for a call, or too many:
-// a space that follows shows as one at the end.
+// A byte that does not fit is left out.
 fn keep(line: &mut [u8], kept: Kept, b: u8) -> Kept {
-    let zeros = zeros_with(kept.zeros, b);
     let n = kept.n;
-    if zeros == MOST_ZEROS {
-        if kept.zeros == MOST_ZEROS {
-            return kept;
-        }
-    }
     if n < line.len() {
         put_byte(line, n, b);
-        return Kept { n: n + 1, zeros };
+        return Kept {
+            n: n + 1,
+            is_long: false,
+        };
     }
-    if b == b' ' {
-        if 0 < n {
-            put_byte(line, n - 1, b);
-        }
-    }
-    Kept { n, zeros }
+    Kept { n, is_long: true }
 }
 
-// The next line, without its line feed, at the beginning of a buffer.
-pub fn take(fd: i32, buf: &mut [u8], line: &mut [u8], before: Ahead) -> Taken {
+// The next line, without its line feed, at the beginning of a buffer. The script is named where it cannot be read.
+pub fn take(name: &[u8], fd: i32, buf: &mut [u8], line: &mut [u8], before: Ahead) -> Taken {
     let mut ahead = before;
-    let mut kept = Kept { n: 0, zeros: 0 };
+    let mut kept = Kept {
+        n: 0,
+        is_long: false,
+    };
     let mut turns = u64::MAX;
     let mut is_there = false;
     while 0 < turns {
-        ahead = read_ahead(fd, buf, ahead);
+        ahead = read_ahead(name, fd, buf, ahead);
         let at = ahead.at;
         let end = ahead.end;
         if end <= at {
@@ -100,6 +78,7 @@ pub fn take(fd: i32, buf: &mut [u8], line: &mut [u8], before: Ahead) -> Taken {
                 ahead,
                 n: kept.n,
                 is_there,
+                is_long: kept.is_long,
             };
         }
         let b = byte(buf, at);
@@ -110,6 +89,7 @@ pub fn take(fd: i32, buf: &mut [u8], line: &mut [u8], before: Ahead) -> Taken {
                 ahead,
                 n: kept.n,
                 is_there,
+                is_long: kept.is_long,
             };
         }
         kept = keep(line, kept, b);
@@ -119,5 +99,6 @@ pub fn take(fd: i32, buf: &mut [u8], line: &mut [u8], before: Ahead) -> Taken {
         ahead,
         n: kept.n,
         is_there,
+        is_long: kept.is_long,
     }
 }

@@ -1,7 +1,13 @@
 // Words and numbers on standard output, as the programs tell them.
 use chars::Refusal;
 use codes::Code;
-use libc::STDOUT_FILENO;
+ghost use mathlib.Core.Path.{_≡_};
+ghost use lib.ListN.{length};
+
+mod rows;
+
+pub use rows::Row;
+pub use rows::begin;
 
 pub fn text(b: &[u8]) {
     cli_files::print(b);
@@ -23,7 +29,9 @@ pub fn end() {
 }
 
 pub fn number(v: u64) {
-    io::print_decimal(STDOUT_FILENO, v);
+    let mut b = [0u8; 20];
+    let n = io::decimal(v, &mut b);
+    text(&b[..n]);
 }
 
 // A name and a number behind it.
@@ -34,10 +42,7 @@ pub fn field(name: &[u8], v: u64) {
 
 // A name and its value, on a line.
 pub fn line(name: &[u8], value: &[u8]) {
-    text(name);
-    space();
-    text(value);
-    end();
+    begin().text(name).text(b" ").text(value).print_line();
 }
 
 pub fn two_digits(v: u64) {
@@ -82,15 +87,15 @@ fn shown(b: u8) -> u8 {
 }
 
 // The four letters of a debit, a space as a dash.
-pub fn letters(v: u64) {
-    text(
-        &[
-            shown(codes::short_byte(v, 0)),
-            shown(codes::short_byte(v, 1)),
-            shown(codes::short_byte(v, 2)),
-            shown(codes::short_byte(v, 3)),
-        ],
-    );
+fn shown_letters(v: u64) -> [u8; 4]
+    ensures { λ r. ⌜ 4 ≡ length r ⌝ }
+{
+    [
+        shown(codes::short_byte(v, 0)),
+        shown(codes::short_byte(v, 1)),
+        shown(codes::short_byte(v, 2)),
+        shown(codes::short_byte(v, 3)),
+    ]
 }
 
 // An ESA letter, a space as a dash.
@@ -105,8 +110,9 @@ pub fn letter(v: u64) {
 }
 
 pub fn refused(why: Refusal) {
-    text(b"refused ");
-    two_digits(why.number());
-    end();
+    begin()
+        .text(b"refused ")
+        .two_digits(why.number())
+        .print_line();
     cli_files::tell_refusal();
 }

@@ -1,6 +1,6 @@
--- A script of calls, line by line: "A line is words with one space between".
+-- A script of calls, line by line: words with blanks between them, and a comment behind them.
 use Prim.Native.Nat.{ℕ, _+_, _-_, _*_}
-use mathlib.Core.Bool.{Bool, _&&_, _||_, cond}
+use mathlib.Core.Bool.{Bool, false, _&&_, _||_, cond}
 use mathlib.Core.List.{List, [], _∷_}
 use lib.Dec.{eqb, leb}
 use lib.ListN.{length, getD, drop}
@@ -21,6 +21,8 @@ use Rattle.cli_script.specs.declared.Sum.{Sum}
 use Rattle.cli_script.specs.declared.Sum.the-variants.{Value, Over}
 use Rattle.cli_script.specs.declared.Line.{Line}
 use Rattle.cli_script.specs.declared.Line.the-variants.{Skip, Clear, Open, Message, SubLimit, Status, Tick, Close, Closing, Show, Why, NotACall}
+use Rattle.cli_script.specs.declared.Wanted.{Wanted}
+use Rattle.cli_script.specs.declared.Wanted.the-variants.{Command, Clock, Sender, Bank, Cents, BinCode, Letter, Date, FileName, LineEnd}
 
 -- what follows a word that was read, or what stands for one that was not
 abbrev pub onWord : {A : Type 0} → Part → A → (ℕ → ℕ → A) → A
@@ -35,23 +37,47 @@ abbrev pub onBin : {A : Type 0} → Named → A → (Code → ℕ → A) → A
 onBin (Bin c e) d k = k c e
 onBin Unnamed d k = d
 
+abbrev pub onDigits : {A : Type 0} → Fixed → A → (ℕ → ℕ → A) → A
+onDigits (Digits v e) d k = k v e
+onDigits No d k = d
+
 abbrev pub onSum : {A : Type 0} → Sum → A → (ℕ → A) → A
 onSum (Value v) d k = k v
 onSum Over d k = d
 
 -- ---- a word
 
--- where a word ends that has come to a place: at the next space, or with the line
+-- a tab, a space, or the CR of a line that ends with CR LF
+unfoldable pub isBlank : ℕ → Bool
+isBlank b = eqb b 9 || (eqb b 13 || eqb b 32)
+
+-- where the blanks end that have come to a place
+unfoldable pub startFrom : ℕ → List ℕ → ℕ
+startFrom at [] = at
+startFrom at (x ∷ l) = cond (isBlank x) (startFrom (at + 1) l) at
+
+unfoldable pub wordStart : List ℕ → ℕ → ℕ
+wordStart s at = startFrom at (drop at s)
+
+-- where a word ends that has come to a place: at the next blank, or with the line
 unfoldable pub endFrom : ℕ → List ℕ → ℕ
 endFrom at [] = at
-endFrom at (x ∷ l) = cond (eqb x 32) at (endFrom (at + 1) l)
+endFrom at (x ∷ l) = cond (isBlank x) at (endFrom (at + 1) l)
 
 unfoldable pub wordEnd : List ℕ → ℕ → ℕ
 wordEnd s at = endFrom at (drop at s)
 
--- one space and a word, which is not empty
+-- no word begins here: the line ends, or a comment begins with `#`
+unfoldable pub isEnd : List ℕ → ℕ → Bool
+isEnd s at = leb (length s) at || eqb (getD s at 0) 35
+
+-- the next word from a place on
 unfoldable pub wordAt : List ℕ → ℕ → Part
-wordAt s at = onNext (litAt s at (bytes " ")) NoWord (λ a. cond (leb (wordEnd s a) a) NoWord (Word a (wordEnd s a)))
+wordAt s at = cond (isEnd s (wordStart s at)) NoWord (Word (wordStart s at) (wordEnd s (wordStart s at)))
+
+-- the word from a to e is this one
+unfoldable pub isWord : List ℕ → (a e : ℕ) → List ℕ → Bool
+isWord s a e name = onNext (litAt s a name) false (λ x. eqb x e)
 
 unfoldable pub isLong : (a e n : ℕ) → Bool
 isLong a e n = eqb (e - a) n
@@ -65,14 +91,34 @@ unfoldable pub withDigit : ℕ → ℕ → Sum
 withDigit v b =
     cond (isDigit b && leb (10 * v + digitValue b) greatest) (Value (10 * v + digitValue b)) Over
 
--- the number v followed by the digits that stand before the next space
+-- the number v followed by the digits that stand before the next blank
 unfoldable pub numberFrom : (at v : ℕ) → List ℕ → Told
 numberFrom at v [] = Number v at
 numberFrom at v (x ∷ l) =
-    cond (eqb x 32) (Number v at) (onSum (withDigit v x) Untold (λ w. numberFrom (at + 1) w l))
+    cond (isBlank x) (Number v at) (onSum (withDigit v x) Untold (λ w. numberFrom (at + 1) w l))
 
 unfoldable pub numberAt : List ℕ → ℕ → Told
 numberAt s at = onWord (wordAt s at) Untold (λ a e. numberFrom a 0 (drop a s))
+
+-- hours, minutes and seconds as seconds of the day
+unfoldable pub secondsOf : (h m n e : ℕ) → Told
+secondsOf h m n e = cond (leb h 23 && (leb m 59 && leb n 59)) (Number (3600 * h + 60 * m + n) e) Untold
+
+-- two digits and a colon
+unfoldable pub pairAt : List ℕ → ℕ → Told
+pairAt s at = onDigits (digitsOf s at 2) Untold (λ v b. onNext (litAt s b (bytes ":")) Untold (λ c. Number v c))
+
+-- the word from a to e, as HH:MM:SS
+unfoldable pub timeAt : List ℕ → (a e : ℕ) → Told
+timeAt s a e =
+    onNumber (pairAt s a) Untold (λ h b.
+    onNumber (pairAt s b) Untold (λ m c.
+    onDigits (digitsOf s c 2) Untold (λ n d.
+    cond (eqb d e) (secondsOf h m n e) Untold)))
+
+-- a clock: HH:MM:SS, or a number of seconds
+unfoldable pub clockAt : List ℕ → ℕ → Told
+clockAt s at = onWord (wordAt s at) Untold (λ a e. onNumber (timeAt s a e) (numberFrom a 0 (drop a s)) (λ v x. Number v e))
 
 -- "BANK has 4 bytes, BIN 8, LETTER 1, YYMMDD 6, of any value"
 unfoldable pub bankAt : List ℕ → ℕ → Told
@@ -98,81 +144,78 @@ dateAt s at = onWord (wordAt s at) Untold (λ a e. cond (isLong a e 6) (Number (
 
 -- ---- a call
 
--- "a wrong number of words": the last word ends with the line
+-- "a wrong number of words": no word follows the last one
 unfoldable pub ended : List ℕ → ℕ → Line → Line
-ended s e line = cond (leb (length s) e) line NotACall
+ended s e line = cond (isEnd s (wordStart s e)) line (NotACall e LineEnd)
 
 -- "open CLOCK FILE"
 unfoldable pub openAt : List ℕ → ℕ → Line
 openAt s at =
-    onNumber (numberAt s at) NotACall (λ clock a.
-    onWord (wordAt s a) NotACall (λ file e.
+    onNumber (clockAt s at) (NotACall at Clock) (λ clock a.
+    onWord (wordAt s a) (NotACall a FileName) (λ file e.
     ended s e (Open clock file)))
 
 -- "message CLOCK SENDER FILE"
 unfoldable pub messageAt : List ℕ → ℕ → Line
 messageAt s at =
-    onNumber (numberAt s at) NotACall (λ clock a.
-    onNumber (numberAt s a) NotACall (λ sender b.
-    onWord (wordAt s b) NotACall (λ file e.
+    onNumber (clockAt s at) (NotACall at Clock) (λ clock a.
+    onNumber (numberAt s a) (NotACall a Sender) (λ sender b.
+    onWord (wordAt s b) (NotACall b FileName) (λ file e.
     ended s e (Message clock sender file))))
 
 -- "sublimit CLOCK BANK CENTS"
 unfoldable pub sublimitAt : List ℕ → ℕ → Line
 sublimitAt s at =
-    onNumber (numberAt s at) NotACall (λ clock a.
-    onNumber (bankAt s a) NotACall (λ bank b.
-    onNumber (numberAt s b) NotACall (λ cents e.
+    onNumber (clockAt s at) (NotACall at Clock) (λ clock a.
+    onNumber (bankAt s a) (NotACall a Bank) (λ bank b.
+    onNumber (numberAt s b) (NotACall b Cents) (λ cents e.
     ended s e (SubLimit clock bank cents))))
 
 -- "status CLOCK BANK BIN LETTER"
 unfoldable pub statusAt : List ℕ → ℕ → Line
 statusAt s at =
-    onNumber (numberAt s at) NotACall (λ clock a.
-    onNumber (bankAt s a) NotACall (λ bank b.
-    onBin (binAt s b) NotACall (λ bin c.
-    onNumber (letterAt s c) NotACall (λ letter e.
+    onNumber (clockAt s at) (NotACall at Clock) (λ clock a.
+    onNumber (bankAt s a) (NotACall a Bank) (λ bank b.
+    onBin (binAt s b) (NotACall b BinCode) (λ bin c.
+    onNumber (letterAt s c) (NotACall c Letter) (λ letter e.
     ended s e (Status clock bank bin letter)))))
 
 -- "tick CLOCK"
 unfoldable pub tickAt : List ℕ → ℕ → Line
-tickAt s at = onNumber (numberAt s at) NotACall (λ clock e. ended s e (Tick clock))
+tickAt s at = onNumber (clockAt s at) (NotACall at Clock) (λ clock e. ended s e (Tick clock))
 
 -- "close CLOCK"
 unfoldable pub closeAt : List ℕ → ℕ → Line
-closeAt s at = onNumber (numberAt s at) NotACall (λ clock e. ended s e (Close clock))
+closeAt s at = onNumber (clockAt s at) (NotACall at Clock) (λ clock e. ended s e (Close clock))
 
 -- "closing CLOCK YYMMDD FILE"
 unfoldable pub closingAt : List ℕ → ℕ → Line
 closingAt s at =
-    onNumber (numberAt s at) NotACall (λ clock a.
-    onNumber (dateAt s a) NotACall (λ date b.
-    onWord (wordAt s b) NotACall (λ file e.
+    onNumber (clockAt s at) (NotACall at Clock) (λ clock a.
+    onNumber (dateAt s a) (NotACall a Date) (λ date b.
+    onWord (wordAt s b) (NotACall b FileName) (λ file e.
     ended s e (Closing clock date file))))
 
 -- ---- the line
 
--- "empty lines and lines that begin with `#` are skipped"
-unfoldable pub isSkipped : List ℕ → Bool
-isSkipped s = eqb (length s) 0 || eqb (getD s 0 0) 35
+-- the call of the first word, which stands from a to e
+unfoldable pub nextCall : List ℕ → (a e : ℕ) → Line
+nextCall s a e =
+    cond (isWord s a e (bytes "status")) (statusAt s e)
+    (cond (isWord s a e (bytes "tick")) (tickAt s e)
+    (cond (isWord s a e (bytes "close")) (closeAt s e)
+    (cond (isWord s a e (bytes "closing")) (closingAt s e) (NotACall a Command))))
 
-unfoldable pub nextCall : List ℕ → Line
-nextCall s =
-    onNext (litAt s 0 (bytes "status"))
-    (onNext (litAt s 0 (bytes "tick"))
-    (onNext (litAt s 0 (bytes "close"))
-    (onNext (litAt s 0 (bytes "closing")) NotACall (closingAt s)) (closeAt s)) (tickAt s)) (statusAt s)
+unfoldable pub firstCall : List ℕ → (a e : ℕ) → Line
+firstCall s a e =
+    cond (isWord s a e (bytes "open")) (openAt s e)
+    (cond (isWord s a e (bytes "message")) (messageAt s e)
+    (cond (isWord s a e (bytes "sublimit")) (sublimitAt s e) (nextCall s a e)))
 
-unfoldable pub firstCall : List ℕ → Line
-firstCall s =
-    onNext (litAt s 0 (bytes "open"))
-    (onNext (litAt s 0 (bytes "message"))
-    (onNext (litAt s 0 (bytes "sublimit")) (nextCall s) (sublimitAt s)) (messageAt s)) (openAt s)
-
--- what a line asks for
+-- what a line asks for: one without a word is skipped
 unfoldable pub lineIn : List ℕ → Line
 lineIn s =
-    cond (isSkipped s) Skip
-    (onNext (litAt s 0 (bytes "clear"))
-    (onNext (litAt s 0 (bytes "show"))
-    (onNext (litAt s 0 (bytes "why")) (firstCall s) (λ e. ended s e Why)) (λ e. ended s e Show)) (λ e. ended s e Clear))
+    onWord (wordAt s 0) Skip (λ a e.
+    cond (isWord s a e (bytes "clear")) (ended s e Clear)
+    (cond (isWord s a e (bytes "show")) (ended s e Show)
+    (cond (isWord s a e (bytes "why")) (ended s e Why) (firstCall s a e))))

@@ -1,12 +1,14 @@
-// One line of a script: the call that it asks for.
+// One line of a script: the call that it asks for, or where it is none and what was expected there.
 use codes::Code;
 use text_scan::At;
 use text_scan::Fixed;
 ghost use mathlib.Core.Path.{_≡_};
 ghost use lib.ListN.{getD, drop};
-ghost use Rattle.cli_script.specs.Lines.{wordEnd, wordAt, isLong, withDigit, numberFrom, numberAt, bankAt, letterAt, dateAt, binAt, ended, openAt, messageAt, sublimitAt, statusAt, tickAt, closeAt, closingAt, isSkipped, firstCall, nextCall, lineIn};
+ghost use Rattle.cli_script.specs.Lines.{isBlank, wordStart, wordEnd, isEnd, wordAt, isWord, isLong, withDigit, numberFrom, numberAt};
+ghost use Rattle.cli_script.specs.Lines.{secondsOf, pairAt, timeAt, clockAt, bankAt, letterAt, dateAt, binAt, ended, openAt, messageAt, sublimitAt};
+ghost use Rattle.cli_script.specs.Lines.{statusAt, tickAt, closeAt, closingAt, firstCall, nextCall, lineIn};
 
-// What a line asks for. A file's name begins at a place and ends with the line.
+// What a line asks for. A file's name is a word: it begins at a place.
 pub enum Line {
     Skip,
     Clear,
@@ -24,7 +26,22 @@ pub enum Line {
     Closing(u64, u64, usize),
     Show,
     Why,
-    NotACall,
+    // What was expected at the first word from a place on.
+    NotACall(usize, Wanted),
+}
+
+// What a line should have in some place.
+pub enum Wanted {
+    Command,
+    Clock,
+    Sender,
+    Bank,
+    Cents,
+    BinCode,
+    Letter,
+    Date,
+    FileName,
+    LineEnd,
 }
 
 // A word: where it begins, and the place past it.
@@ -55,13 +72,25 @@ const MOST: u64 = 18_446_744_073_709_551_615;
 // A number that is no date.
 const NO_DATE: u64 = 1_000_000;
 
-// Where the word at a place ends: at the next space, or with the line.
-fn word_end(s: &[u8], at: usize) -> usize
-    ensures { λ r. ⌜ r ≡ wordEnd (now (s .entry)) at ⌝ }
+// A CR before the line feed is a blank, too.
+fn is_blank(b: u8) -> bool
+    ensures { λ r. ⌜ r ≡ isBlank b ⌝ }
+{
+    match b {
+        b'\t' => true,
+        b'\r' => true,
+        b' ' => true,
+        _ => false,
+    }
+}
+
+// The next byte from a place on that is no blank, or the end of the line.
+pub fn word_start(s: &[u8], at: usize) -> usize
+    ensures { λ r. ⌜ r ≡ wordStart (now (s .entry)) at ⌝ }
 {
     let mut i = at;
     while i < s.len() {
-        if s[i] == b' ' {
+        if !is_blank(s[i]) {
             return i;
         }
         i += 1;
@@ -69,18 +98,46 @@ fn word_end(s: &[u8], at: usize) -> usize
     i
 }
 
-// The word after one space.
+// Where the word at a place ends: at the next blank, or with the line.
+pub fn word_end(s: &[u8], at: usize) -> usize
+    ensures { λ r. ⌜ r ≡ wordEnd (now (s .entry)) at ⌝ }
+{
+    let mut i = at;
+    while i < s.len() {
+        if is_blank(s[i]) {
+            return i;
+        }
+        i += 1;
+    }
+    i
+}
+
+// No word begins at this place: the line ends, or a comment begins.
+fn is_end(s: &[u8], at: usize) -> bool
+    ensures { λ r. ⌜ r ≡ isEnd (now (s .entry)) at ⌝ }
+{
+    if at < s.len() { s[at] == b'#' } else { true }
+}
+
+// The next word from a place on.
 fn word(s: &[u8], at: usize) -> Part
     ensures { λ r. ⌜ r ≡ wordAt (now (s .entry)) at ⌝ }
 {
-    let At::Next(a) = text_scan::lit(s, at, b" ") else {
-        return Part::NoWord;
-    };
-    let e = word_end(s, a);
-    if e <= a {
+    let a = word_start(s, at);
+    if is_end(s, a) {
         return Part::NoWord;
     }
-    Part::Word(a, e)
+    Part::Word(a, word_end(s, a))
+}
+
+// Whether a word is this one.
+fn is_word(s: &[u8], a: usize, e: usize, name: &[u8]) -> bool
+    ensures { λ r. ⌜ r ≡ isWord (now (s .entry)) a e (now (name .entry)) ⌝ }
+{
+    let At::Next(x) = text_scan::lit(s, a, name) else {
+        return false;
+    };
+    x == e
 }
 
 // Whether a word has just so many bytes.
@@ -118,7 +175,7 @@ fn number_from(s: &[u8], at: usize) -> Told
     let mut v = 0;
     while i < s.len() {
         let b = s[i];
-        if b == b' ' {
+        if is_blank(b) {
             return Told::Number(v, i);
         }
         let Sum::Value(w) = with_digit(v, b) else {
@@ -136,6 +193,67 @@ fn read_number(s: &[u8], at: usize) -> Told
     let Part::Word(a, _) = word(s, at) else {
         return Told::Untold;
     };
+    number_from(s, a)
+}
+
+// Hours, minutes and seconds as seconds of the day; the word ends at a place.
+fn seconds_of(hours: u64, minutes: u64, seconds: u64, e: usize) -> Told
+    ensures { λ r. ⌜ r ≡ secondsOf hours minutes seconds e ⌝ }
+{
+    if 23 < hours {
+        return Told::Untold;
+    }
+    if 59 < minutes {
+        return Told::Untold;
+    }
+    if 59 < seconds {
+        return Told::Untold;
+    }
+    Told::Number(3600 * hours + 60 * minutes + seconds, e)
+}
+
+// Two digits and a colon.
+fn read_pair(s: &[u8], at: usize) -> Told
+    ensures { λ r. ⌜ r ≡ pairAt (now (s .entry)) at ⌝ }
+{
+    let Fixed::Value(value, b) = text_scan::number(s, at, 2) else {
+        return Told::Untold;
+    };
+    let At::Next(c) = text_scan::lit(s, b, b":") else {
+        return Told::Untold;
+    };
+    Told::Number(value, c)
+}
+
+// A word HH:MM:SS.
+fn read_time(s: &[u8], a: usize, e: usize) -> Told
+    ensures { λ r. ⌜ r ≡ timeAt (now (s .entry)) a e ⌝ }
+{
+    let Told::Number(hours, b) = read_pair(s, a) else {
+        return Told::Untold;
+    };
+    let Told::Number(minutes, c) = read_pair(s, b) else {
+        return Told::Untold;
+    };
+    let Fixed::Value(seconds, d) = text_scan::number(s, c, 2) else {
+        return Told::Untold;
+    };
+    if d == e {
+        return seconds_of(hours, minutes, seconds, e);
+    }
+    Told::Untold
+}
+
+// Seconds of the day, as a number or as HH:MM:SS.
+fn read_clock(s: &[u8], at: usize) -> Told
+    ensures { λ r. ⌜ r ≡ clockAt (now (s .entry)) at ⌝ }
+{
+    let Part::Word(a, e) = word(s, at) else {
+        return Told::Untold;
+    };
+    if let Told::Number(clock, _) = read_time(s, a, e) {
+        return Told::Number(clock, e);
+    }
     number_from(s, a)
 }
 
@@ -204,21 +322,24 @@ fn read_date(s: &[u8], at: usize) -> Told
     Told::Number(date, e)
 }
 
-// A line that ends here, or goes on and is no call.
+// A line without a further word, or one that goes on and is no call.
 fn ended(s: &[u8], at: usize, line: Line) -> Line
     ensures { λ r. ⌜ r ≡ ended (now (s .entry)) at line ⌝ }
 {
-    if at < s.len() { Line::NotACall } else { line }
+    if is_end(s, word_start(s, at)) {
+        return line;
+    }
+    Line::NotACall(at, Wanted::LineEnd)
 }
 
 fn read_open(s: &[u8], at: usize) -> Line
     ensures { λ r. ⌜ r ≡ openAt (now (s .entry)) at ⌝ }
 {
-    let Told::Number(clock, a) = read_number(s, at) else {
-        return Line::NotACall;
+    let Told::Number(clock, a) = read_clock(s, at) else {
+        return Line::NotACall(at, Wanted::Clock);
     };
     let Part::Word(file, e) = word(s, a) else {
-        return Line::NotACall;
+        return Line::NotACall(a, Wanted::FileName);
     };
     ended(s, e, Line::Open(clock, file))
 }
@@ -226,14 +347,14 @@ fn read_open(s: &[u8], at: usize) -> Line
 fn read_message(s: &[u8], at: usize) -> Line
     ensures { λ r. ⌜ r ≡ messageAt (now (s .entry)) at ⌝ }
 {
-    let Told::Number(clock, a) = read_number(s, at) else {
-        return Line::NotACall;
+    let Told::Number(clock, a) = read_clock(s, at) else {
+        return Line::NotACall(at, Wanted::Clock);
     };
     let Told::Number(sender, b) = read_number(s, a) else {
-        return Line::NotACall;
+        return Line::NotACall(a, Wanted::Sender);
     };
     let Part::Word(file, e) = word(s, b) else {
-        return Line::NotACall;
+        return Line::NotACall(b, Wanted::FileName);
     };
     ended(s, e, Line::Message(clock, sender, file))
 }
@@ -241,14 +362,14 @@ fn read_message(s: &[u8], at: usize) -> Line
 fn read_sublimit(s: &[u8], at: usize) -> Line
     ensures { λ r. ⌜ r ≡ sublimitAt (now (s .entry)) at ⌝ }
 {
-    let Told::Number(clock, a) = read_number(s, at) else {
-        return Line::NotACall;
+    let Told::Number(clock, a) = read_clock(s, at) else {
+        return Line::NotACall(at, Wanted::Clock);
     };
     let Told::Number(bank, b) = read_bank(s, a) else {
-        return Line::NotACall;
+        return Line::NotACall(a, Wanted::Bank);
     };
     let Told::Number(cents, e) = read_number(s, b) else {
-        return Line::NotACall;
+        return Line::NotACall(b, Wanted::Cents);
     };
     ended(s, e, Line::SubLimit(clock, bank, cents))
 }
@@ -256,17 +377,17 @@ fn read_sublimit(s: &[u8], at: usize) -> Line
 fn read_status(s: &[u8], at: usize) -> Line
     ensures { λ r. ⌜ r ≡ statusAt (now (s .entry)) at ⌝ }
 {
-    let Told::Number(clock, a) = read_number(s, at) else {
-        return Line::NotACall;
+    let Told::Number(clock, a) = read_clock(s, at) else {
+        return Line::NotACall(at, Wanted::Clock);
     };
     let Told::Number(bank, b) = read_bank(s, a) else {
-        return Line::NotACall;
+        return Line::NotACall(a, Wanted::Bank);
     };
     let Named::Bin(bin, c) = read_bin(s, b) else {
-        return Line::NotACall;
+        return Line::NotACall(b, Wanted::BinCode);
     };
     let Told::Number(letter, e) = read_letter(s, c) else {
-        return Line::NotACall;
+        return Line::NotACall(c, Wanted::Letter);
     };
     ended(s, e, Line::Status(clock, bank, bin, letter))
 }
@@ -274,8 +395,8 @@ fn read_status(s: &[u8], at: usize) -> Line
 fn read_tick(s: &[u8], at: usize) -> Line
     ensures { λ r. ⌜ r ≡ tickAt (now (s .entry)) at ⌝ }
 {
-    let Told::Number(clock, e) = read_number(s, at) else {
-        return Line::NotACall;
+    let Told::Number(clock, e) = read_clock(s, at) else {
+        return Line::NotACall(at, Wanted::Clock);
     };
     ended(s, e, Line::Tick(clock))
 }
@@ -283,8 +404,8 @@ fn read_tick(s: &[u8], at: usize) -> Line
 fn read_close(s: &[u8], at: usize) -> Line
     ensures { λ r. ⌜ r ≡ closeAt (now (s .entry)) at ⌝ }
 {
-    let Told::Number(clock, e) = read_number(s, at) else {
-        return Line::NotACall;
+    let Told::Number(clock, e) = read_clock(s, at) else {
+        return Line::NotACall(at, Wanted::Clock);
     };
     ended(s, e, Line::Close(clock))
 }
@@ -292,76 +413,66 @@ fn read_close(s: &[u8], at: usize) -> Line
 fn read_closing(s: &[u8], at: usize) -> Line
     ensures { λ r. ⌜ r ≡ closingAt (now (s .entry)) at ⌝ }
 {
-    let Told::Number(clock, a) = read_number(s, at) else {
-        return Line::NotACall;
+    let Told::Number(clock, a) = read_clock(s, at) else {
+        return Line::NotACall(at, Wanted::Clock);
     };
     let Told::Number(date, b) = read_date(s, a) else {
-        return Line::NotACall;
+        return Line::NotACall(a, Wanted::Date);
     };
     let Part::Word(file, e) = word(s, b) else {
-        return Line::NotACall;
+        return Line::NotACall(b, Wanted::FileName);
     };
     ended(s, e, Line::Closing(clock, date, file))
 }
 
-// Empty lines, and lines that begin with #.
-fn is_skipped(s: &[u8]) -> bool
-    ensures { λ r. ⌜ r ≡ isSkipped (now (s .entry)) ⌝ }
+fn next_call(s: &[u8], a: usize, e: usize) -> Line
+    ensures { λ r. ⌜ r ≡ nextCall (now (s .entry)) a e ⌝ }
 {
-    if s.len() == 0 {
-        return true;
+    if is_word(s, a, e, b"status") {
+        return read_status(s, e);
     }
-    s[0] == b'#'
+    if is_word(s, a, e, b"tick") {
+        return read_tick(s, e);
+    }
+    if is_word(s, a, e, b"close") {
+        return read_close(s, e);
+    }
+    if is_word(s, a, e, b"closing") {
+        return read_closing(s, e);
+    }
+    Line::NotACall(a, Wanted::Command)
 }
 
-fn next_call(s: &[u8]) -> Line
-    ensures { λ r. ⌜ r ≡ nextCall (now (s .entry)) ⌝ }
+fn first_call(s: &[u8], a: usize, e: usize) -> Line
+    ensures { λ r. ⌜ r ≡ firstCall (now (s .entry)) a e ⌝ }
 {
-    if let At::Next(a) = text_scan::lit(s, 0, b"status") {
-        return read_status(s, a);
+    if is_word(s, a, e, b"open") {
+        return read_open(s, e);
     }
-    if let At::Next(a) = text_scan::lit(s, 0, b"tick") {
-        return read_tick(s, a);
+    if is_word(s, a, e, b"message") {
+        return read_message(s, e);
     }
-    if let At::Next(a) = text_scan::lit(s, 0, b"close") {
-        return read_close(s, a);
+    if is_word(s, a, e, b"sublimit") {
+        return read_sublimit(s, e);
     }
-    if let At::Next(a) = text_scan::lit(s, 0, b"closing") {
-        return read_closing(s, a);
-    }
-    Line::NotACall
+    next_call(s, a, e)
 }
 
-fn first_call(s: &[u8]) -> Line
-    ensures { λ r. ⌜ r ≡ firstCall (now (s .entry)) ⌝ }
-{
-    if let At::Next(a) = text_scan::lit(s, 0, b"open") {
-        return read_open(s, a);
-    }
-    if let At::Next(a) = text_scan::lit(s, 0, b"message") {
-        return read_message(s, a);
-    }
-    if let At::Next(a) = text_scan::lit(s, 0, b"sublimit") {
-        return read_sublimit(s, a);
-    }
-    next_call(s)
-}
-
-// What a line asks for.
+// What a line asks for. A line without a word is skipped.
 pub fn read_line(s: &[u8]) -> Line
     ensures { λ r. ⌜ r ≡ lineIn (now (s .entry)) ⌝ }
 {
-    if is_skipped(s) {
+    let Part::Word(a, e) = word(s, 0) else {
         return Line::Skip;
+    };
+    if is_word(s, a, e, b"clear") {
+        return ended(s, e, Line::Clear);
     }
-    if let At::Next(a) = text_scan::lit(s, 0, b"clear") {
-        return ended(s, a, Line::Clear);
+    if is_word(s, a, e, b"show") {
+        return ended(s, e, Line::Show);
     }
-    if let At::Next(a) = text_scan::lit(s, 0, b"show") {
-        return ended(s, a, Line::Show);
+    if is_word(s, a, e, b"why") {
+        return ended(s, e, Line::Why);
     }
-    if let At::Next(a) = text_scan::lit(s, 0, b"why") {
-        return ended(s, a, Line::Why);
-    }
-    first_call(s)
+    first_call(s, a, e)
 }

@@ -156,6 +156,13 @@ fn compose_file(path: &[u8]) {
 }
 
 fn main() {
+    if cli_files::is_argument(1, b"--help") {
+        cli_files::help(b"usage: compose FILE\n");
+        return;
+    }
+    if !cli_files::has_output() {
+        return;
+    }
     let mut path = io::buffer();
     let count = os::arg_count();
     let n = os::arg(1, &mut path);

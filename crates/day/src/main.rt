@@ -1,17 +1,22 @@
-// ./purmagheli day plain|quick [SCRIPT]: runs the calls of a script, from standard input where none is named,
-// and tells what each of them answers, tries and writes.
+// ./purmagheli day [--keep-going] plain|quick [SCRIPT]: runs the calls of a script and prints what each of them answers, tries and writes. The script
+// comes from standard input if it is - or none is named. day stops at the first line that is not a call, or whose file cannot be read or written,
+// and tells the place and the reason on standard error. With --keep-going it prints "line N not a call" and goes on.
 use call::step::Told;
 use cli_files::Got;
+use cli_files::Place;
 use cli_files::lines;
 use cli_files::lines::Ahead;
+use cli_files::paths;
+use cli_files::whole;
+use cli_print::Row;
 use cli_script::Line;
+use cli_script::Wanted;
 use libc::STDERR_FILENO;
 use libc::STDIN_FILENO;
 use model::Action;
 use model::Answer;
 use model::Phase;
 use tables::Desk;
-use text_scan::At;
 
 // A call: its clock, its action, and where in the line its file's name begins.
 struct Asked {
@@ -27,7 +32,12 @@ enum Deed {
     Show,
     Why,
     Call(Asked),
-    NotACall,
+    // What was expected at the first word from a place on.
+    NotACall(usize, Wanted),
+    // A line of more than 65,536 bytes that is no comment.
+    TooLong,
+    // The file of a call could not be read, and that has been told.
+    Unread,
 }
 
 // A line's deed, and how many bytes of input it has.
@@ -50,13 +60,6 @@ struct Turn {
     desk: Desk,
     ahead: Ahead,
     more: bool,
-}
-
-// Which of the two queue tests.
-enum Test {
-    Plain,
-    Quick,
-    Neither,
 }
 
 fn asks(clock: u64, action: Action, file: usize) -> Deed {
@@ -82,104 +85,247 @@ fn deed_of(line: Line) -> Deed {
         Line::Closing(clock, date, file) => asks(clock, Action::ClosingBook(date), file),
         Line::Show => Deed::Show,
         Line::Why => Deed::Why,
-        Line::NotACall => Deed::NotACall,
+        Line::NotACall(at, wanted) => Deed::NotACall(at, wanted),
     }
 }
 
-fn not_a_call(number: u64) {
-    cli_print::field(b"line ", number);
-    cli_print::text(b" not a call\n");
+fn expected(wanted: Wanted) {
+    match wanted {
+        Wanted::Command => error(
+            b"clear, open, message, sublimit, status, tick, close, closing, show or why",
+        ),
+        Wanted::Clock => error(b"a clock: seconds of the day, or HH:MM:SS"),
+        Wanted::Sender => error(b"the number of the sender"),
+        Wanted::Bank => error(b"a bank of 4 characters"),
+        Wanted::Cents => error(b"whole cents, at most 18446744073709551615"),
+        Wanted::BinCode => error(b"a BIN of 8 characters"),
+        Wanted::Letter => error(b"a letter"),
+        Wanted::Date => error(b"a date of 6 characters, YYMMDD"),
+        Wanted::FileName => error(b"the name of a file"),
+        Wanted::LineEnd => error(b"the end of the line"),
+    }
+}
+
+fn error(wanted: &[u8]) {
+    io::write_all(STDERR_FILENO, b"expected ");
+    io::write_all(STDERR_FILENO, wanted);
+    io::write_all(STDERR_FILENO, b"\n");
+}
+
+// Columns are counted in bytes, from 1 on. A line has at most 65,536 of them.
+fn column_at(at: usize) -> u64 {
+    if at < 65536 { at as u64 + 1 } else { 65537 }
+}
+
+fn place_at(number: u64, at: usize) -> Place {
+    let column = column_at(at);
+    Place {
+        line: number,
+        column,
+    }
+}
+
+// What is told of a line that is no call, after its place if the script ends there. Answers whether it goes on.
+fn goes_on(keep_going: bool, number: u64) -> bool {
     cli_files::tell_refusal();
+    if !keep_going {
+        return false;
+    }
+    cli_print::begin()
+        .field(b"line ", number)
+        .text(b" not a call")
+        .print_line();
+    cli_files::is_heard()
 }
 
-fn tell_command(action: Action) {
+fn not_a_call(
+    keep_going: bool,
+    number: u64,
+    name: &[u8],
+    s: &[u8],
+    at: usize,
+    wanted: Wanted,
+) -> bool {
+    if !keep_going {
+        cli_files::tell_place(name, place_at(number, cli_script::word_start(s, at)));
+        expected(wanted);
+    }
+    goes_on(keep_going, number)
+}
+
+fn too_long(keep_going: bool, number: u64, name: &[u8]) -> bool {
+    if !keep_going {
+        cli_files::tell_place(name, place_at(number, 65536));
+        error(b"the end of the line: it has more than 65,536 bytes");
+    }
+    goes_on(keep_going, number)
+}
+
+fn command(action: Action) -> Row {
     match action {
-        Action::Opening => cli_print::text(b"open "),
-        Action::Message(_) => cli_print::text(b"message "),
-        Action::SubLimit(_, _) => cli_print::text(b"sublimit "),
-        Action::Status(_, _, _) => cli_print::text(b"status "),
-        Action::Tick => cli_print::text(b"tick "),
-        Action::Close => cli_print::text(b"close "),
-        Action::ClosingBook(_) => cli_print::text(b"closing "),
+        Action::Opening => cli_print::begin().text(b"open "),
+        Action::Message(_) => cli_print::begin().text(b"message "),
+        Action::SubLimit(_, _) => cli_print::begin().text(b"sublimit "),
+        Action::Status(_, _, _) => cli_print::begin().text(b"status "),
+        Action::Tick => cli_print::begin().text(b"tick "),
+        Action::Close => cli_print::begin().text(b"close "),
+        Action::ClosingBook(_) => cli_print::begin().text(b"closing "),
     }
 }
 
-fn tell_tries(tries: &[u64], n: usize) {
-    cli_print::text(b" tries");
+fn tell_tries(before: Row, tries: &[u64], n: usize) -> Row {
+    let mut row = before.text(b" tries");
     let mut i = 0;
     while i < tries.len() {
         if i < n {
-            cli_print::field(b" ", tries[i]);
+            row = row.field(b" ", tries[i]);
         }
         i += 1;
     }
+    row
 }
 
-fn write_book(path: &[u8], book: &[u8]) {
-    let fd = os::open_overwrite(path);
-    if fd < 0 {
-        cli_files::unwritable(path);
-        return;
-    }
-    if !io::write_all(fd, book) {
-        cli_files::unwritable(path);
-    }
-    libc::close(fd);
-}
-
-// The name of a file is the rest of the line.
-fn give_book(s: &[u8], file: usize, out: &[u8], n: usize) {
-    if s.len() < file {
-        return;
-    }
-    if n <= out.len() {
-        write_book(&s[file..], &out[..n]);
+fn write_beside(name: &[u8], place: Place, path: &[u8], n: usize, book: &[u8]) -> bool {
+    if n <= path.len() {
+        whole::write(name, place, &path[..n], book)
+    } else {
+        false
     }
 }
 
-// A closing book that is given goes to its file, anything else to standard output.
-fn give(s: &[u8], asked: Asked, answer: Answer, out: &[u8], n: usize) {
+fn write_book(name: &[u8], place: Place, file: &[u8], path: &mut [u8; 4096], book: &[u8]) -> bool {
+    let n = paths::beside(name, file, path);
+    write_beside(name, place, path, n, book)
+}
+
+// Whether a book was written to the file that a line names.
+fn give_file(name: &[u8], place: Place, file: &[u8], book: &[u8]) -> bool {
+    let mut path = io::buffer();
+    write_book(name, place, file, &mut path, book)
+}
+
+fn give_book(name: &[u8], number: u64, s: &[u8], file: usize, out: &[u8], n: usize) -> bool {
+    let end = cli_script::word_end(s, file);
+    if s.len() < end {
+        return false;
+    }
+    if end < file {
+        return false;
+    }
+    if out.len() < n {
+        return false;
+    }
+    give_file(name, place_at(number, file), &s[file..end], &out[..n])
+}
+
+fn give_text(out: &[u8], n: usize) -> bool {
+    cli_print::first(out, n);
+    cli_files::is_heard()
+}
+
+// A closing book that is given goes to its file, anything else to standard output. Answers whether the script goes on.
+fn give(
+    keep_going: bool,
+    number: u64,
+    name: &[u8],
+    s: &[u8],
+    asked: Asked,
+    answer: Answer,
+    out: &[u8],
+    n: usize,
+) -> bool {
     let action = asked.action;
     match action {
         Action::ClosingBook(_) => {
-            if answer.number() == 0 {
-                give_book(s, asked.file, out, n);
+            if answer.number() != 0 {
+                return true;
             }
+            if give_book(name, number, s, asked.file, out, n) {
+                return true;
+            }
+            keep_going
         }
-        Action::Opening => cli_print::first(out, n),
-        Action::Message(_) => cli_print::first(out, n),
-        Action::SubLimit(_, _) => cli_print::first(out, n),
-        Action::Status(_, _, _) => cli_print::first(out, n),
-        Action::Tick => cli_print::first(out, n),
-        Action::Close => cli_print::first(out, n),
+        Action::Opening => give_text(out, n),
+        Action::Message(_) => give_text(out, n),
+        Action::SubLimit(_, _) => give_text(out, n),
+        Action::Status(_, _, _) => give_text(out, n),
+        Action::Tick => give_text(out, n),
+        Action::Close => give_text(out, n),
     }
 }
 
-fn tell_call(s: &[u8], asked: Asked, told: Told, out: &[u8], tries: &[u64]) {
+fn tell_call(
+    keep_going: bool,
+    number: u64,
+    name: &[u8],
+    s: &[u8],
+    asked: Asked,
+    told: Told,
+    out: &[u8],
+    tries: &[u64],
+) -> bool {
     let action = asked.action;
     let answer = told.answer;
-    tell_command(action);
-    cli_print::two_digits(answer.number());
-    tell_tries(tries, told.tried);
-    cli_print::field(b" bytes ", told.written as u64);
-    cli_print::end();
-    give(s, asked, answer, out, told.written);
+    let row = command(action).two_digits(answer.number());
+    tell_tries(row, tries, told.tried)
+        .field(b" bytes ", told.written as u64)
+        .print_line();
+    if !cli_files::is_heard() {
+        return false;
+    }
+    give(
+        keep_going,
+        number,
+        name,
+        s,
+        asked,
+        answer,
+        out,
+        told.written,
+    )
 }
 
-fn read_file(s: &[u8], file: usize, input: &mut [u8]) -> Got {
-    if s.len() < file {
+fn read_path(name: &[u8], place: Place, path: &[u8], n: usize, input: &mut [u8]) -> Got {
+    if path.len() < n {
         return Got::Unread;
     }
-    cli_files::read(&s[file..], input)
+    cli_files::read_at(name, place, &path[..n], input)
+}
+
+fn read_beside(
+    name: &[u8],
+    place: Place,
+    file: &[u8],
+    path: &mut [u8; 4096],
+    input: &mut [u8],
+) -> Got {
+    let n = paths::beside(name, file, path);
+    read_path(name, place, path, n, input)
+}
+
+fn read_named(name: &[u8], place: Place, file: &[u8], input: &mut [u8]) -> Got {
+    let mut path = io::buffer();
+    read_beside(name, place, file, &mut path, input)
+}
+
+fn read_file(name: &[u8], number: u64, s: &[u8], file: usize, input: &mut [u8]) -> Got {
+    let end = cli_script::word_end(s, file);
+    if s.len() < end {
+        return Got::Unread;
+    }
+    if end < file {
+        return Got::Unread;
+    }
+    read_named(name, place_at(number, file), &s[file..end], input)
 }
 
 // The text or the book of a call. A file past the buffer's 65,536 bytes has the answer that these have: a text
 // is read to its 4,096th byte at the most, and a book of more than 2,560 bytes is refused for its length.
-fn read_input(s: &[u8], asked: Asked, input: &mut [u8]) -> Got {
+fn read_input(name: &[u8], number: u64, s: &[u8], asked: Asked, input: &mut [u8]) -> Got {
     let action = asked.action;
     match action {
-        Action::Opening => read_file(s, asked.file, input),
-        Action::Message(_) => read_file(s, asked.file, input),
+        Action::Opening => read_file(name, number, s, asked.file, input),
+        Action::Message(_) => read_file(name, number, s, asked.file, input),
         Action::SubLimit(_, _) => Got::Bytes(0),
         Action::Status(_, _, _) => Got::Bytes(0),
         Action::Tick => Got::Bytes(0),
@@ -188,18 +334,40 @@ fn read_input(s: &[u8], asked: Asked, input: &mut [u8]) -> Got {
     }
 }
 
-// The line's deed, and how many bytes of a call's text or book were read. A file that cannot be read makes it no call.
-fn read_deed(s: &[u8], input: &mut [u8]) -> Read {
+// The line's deed, and how many bytes of a call's text or book were read.
+fn read_deed(name: &[u8], number: u64, s: &[u8], input: &mut [u8]) -> Read {
     let deed = deed_of(cli_script::read_line(s));
     match deed {
-        Deed::Call(asked) => match read_input(s, asked, input) {
+        Deed::Call(asked) => match read_input(name, number, s, asked, input) {
             Got::Unread => Read {
-                deed: Deed::NotACall,
+                deed: Deed::Unread,
                 n: 0,
             },
             Got::Bytes(n) => Read { deed, n },
         },
         _ => Read { deed, n: 0 },
+    }
+}
+
+fn is_comment(s: &[u8]) -> bool {
+    let at = cli_script::word_start(s, 0);
+    if at < s.len() { s[at] == b'#' } else { false }
+}
+
+// A line that is longer than its buffer is no call, whatever its beginning says.
+fn read_line(name: &[u8], number: u64, s: &[u8], is_long: bool, input: &mut [u8]) -> Read {
+    if !is_long {
+        return read_deed(name, number, s, input);
+    }
+    if is_comment(s) {
+        return Read {
+            deed: Deed::Nothing,
+            n: 0,
+        };
+    }
+    Read {
+        deed: Deed::TooLong,
+        n: 0,
     }
 }
 
@@ -214,8 +382,16 @@ fn no_line(ahead: Ahead) -> Next {
 }
 
 // Takes the next line of the script and reads the file that it names.
-fn read_next(fd: i32, buf: &mut [u8], line: &mut [u8], input: &mut [u8], before: Ahead) -> Next {
-    let taken = lines::take(fd, buf, line, before);
+fn read_next(
+    number: u64,
+    name: &[u8],
+    fd: i32,
+    buf: &mut [u8],
+    line: &mut [u8],
+    input: &mut [u8],
+    before: Ahead,
+) -> Next {
+    let taken = lines::take(name, fd, buf, line, before);
     let length = taken.n;
     let ahead = taken.ahead;
     if !taken.is_there {
@@ -224,7 +400,7 @@ fn read_next(fd: i32, buf: &mut [u8], line: &mut [u8], input: &mut [u8], before:
     if line.len() < length {
         return no_line(ahead);
     }
-    let read = read_deed(&line[..length], input);
+    let read = read_line(name, number, &line[..length], taken.is_long, input);
     let deed = read.deed;
     Next {
         deed,
@@ -361,15 +537,20 @@ fn perform(
     }
 }
 
-fn tell_clear(answer: Answer) {
-    cli_print::text(b"clear ");
-    cli_print::two_digits(answer.number());
-    cli_print::text(b" tries bytes 0\n");
+fn tell_clear(answer: Answer) -> bool {
+    cli_print::begin()
+        .text(b"clear ")
+        .two_digits(answer.number())
+        .text(b" tries bytes 0")
+        .print_line();
+    cli_files::is_heard()
 }
 
-// What a line has to tell, once it is done.
+// What a line has to tell, once it is done. Answers whether the script goes on.
 fn tell(
+    keep_going: bool,
     number: u64,
+    name: &[u8],
     line: &[u8],
     length: usize,
     deed: Deed,
@@ -382,19 +563,44 @@ fn tell(
     bins: &[u64; 1536],
     out: &[u8; 33705],
     tries: &[u64; 528],
-) {
+) -> bool {
     let desk = told.desk;
     let answer = told.answer;
+    if line.len() < length {
+        return false;
+    }
     match deed {
-        Deed::Nothing => {}
-        Deed::NotACall => not_a_call(number),
-        Deed::Show => cli_tables::show(desk, codes, flags, balances, sublimits, batches, bins),
-        Deed::Why => cli_tables::tell_why(desk.date, codes, balances, sublimits, batches, bins),
+        Deed::Nothing => true,
+        Deed::NotACall(at, wanted) => not_a_call(
+            keep_going,
+            number,
+            name,
+            &line[..length],
+            at,
+            wanted,
+        ),
+        Deed::TooLong => too_long(keep_going, number, name),
+        Deed::Unread => goes_on(keep_going, number),
+        Deed::Show => {
+            cli_tables::show(desk, codes, flags, balances, sublimits, batches, bins);
+            cli_files::is_heard()
+        }
+        Deed::Why => {
+            cli_tables::tell_why(desk.date, codes, balances, sublimits, batches, bins);
+            cli_files::is_heard()
+        }
         Deed::Clear => tell_clear(answer),
         Deed::Call(asked) => {
-            if length <= line.len() {
-                tell_call(&line[..length], asked, told, out, tries);
-            }
+            tell_call(
+                keep_going,
+                number,
+                name,
+                &line[..length],
+                asked,
+                told,
+                out,
+                tries,
+            )
         }
     }
 }
@@ -402,7 +608,9 @@ fn tell(
 // The next line of the script: read, done and told.
 fn do_next(
     quick: bool,
+    keep_going: bool,
     number: u64,
+    name: &[u8],
     fd: i32,
     buf: &mut [u8; 65536],
     line: &mut [u8; 65536],
@@ -419,7 +627,7 @@ fn do_next(
     out: &mut [u8; 33705],
     tries: &mut [u64; 528],
 ) -> Turn {
-    let next = read_next(fd, buf, line, input, ahead);
+    let next = read_next(number, name, fd, buf, line, input, ahead);
     let deed = next.deed;
     let rest = next.ahead;
     let told = perform(
@@ -438,8 +646,10 @@ fn do_next(
         out,
         tries,
     );
-    tell(
+    let is_well = tell(
+        keep_going,
         number,
+        name,
         line,
         next.length,
         deed,
@@ -457,12 +667,12 @@ fn do_next(
     Turn {
         desk: after,
         ahead: rest,
-        more: next.more,
+        more: next.more && is_well,
     }
 }
 
 // No script has so many lines that the numbers run out.
-fn run(quick: bool, fd: i32) {
+fn run(quick: bool, keep_going: bool, name: &[u8], fd: i32) {
     let mut buf = io::large_buffer();
     let mut line = io::large_buffer();
     let mut input = io::large_buffer();
@@ -491,7 +701,9 @@ fn run(quick: bool, fd: i32) {
         number += 1;
         let turn = do_next(
             quick,
+            keep_going,
             number,
+            name,
             fd,
             &mut buf,
             &mut line,
@@ -515,68 +727,71 @@ fn run(quick: bool, fd: i32) {
 }
 
 fn usage() {
-    io::write_all(STDERR_FILENO, b"usage: day plain|quick [SCRIPT]\n");
+    io::write_all(
+        STDERR_FILENO,
+        b"usage: day [--keep-going] plain|quick [SCRIPT]\n",
+    );
     cli_files::tell_wrong_call();
 }
 
-// Whether a word is just this one.
-fn is_word(word: &[u8], name: &[u8]) -> bool {
-    if let At::Next(e) = text_scan::lit(word, 0, name) {
-        e == word.len()
-    } else {
-        false
+fn run_file(quick: bool, keep_going: bool, path: &[u8]) {
+    if cli_files::is_dash(path) {
+        run(quick, keep_going, b"standard input", STDIN_FILENO);
+        return;
     }
-}
-
-fn test_of(word: &[u8]) -> Test {
-    if is_word(word, b"plain") {
-        return Test::Plain;
-    }
-    if is_word(word, b"quick") {
-        return Test::Quick;
-    }
-    Test::Neither
-}
-
-fn chosen() -> Test {
-    let mut word = [0u8; 16];
-    let n = os::arg(1, &mut word);
-    test_of(&word[..n])
-}
-
-fn run_file(quick: bool, path: &[u8]) {
     let fd = os::open_read(path);
     if fd < 0 {
         cli_files::unreadable(path);
         return;
     }
-    run(quick, fd);
+    run(quick, keep_going, path, fd);
     libc::close(fd);
 }
 
-fn run_script(quick: bool, count: usize) {
-    if count < 3 {
-        run(quick, STDIN_FILENO);
+// The script is the argument at a place, or standard input where there is none.
+fn run_script(quick: bool, keep_going: bool, at: usize, count: usize) {
+    if count <= at {
+        run_file(quick, keep_going, b"-");
         return;
     }
     let mut path = io::buffer();
-    let n = os::arg(2, &mut path);
+    let n = os::arg(at, &mut path);
     if os::errno() != 0 {
         cli_files::unreadable(b"argument");
         return;
     }
-    run_file(quick, &path[..n]);
+    run_file(quick, keep_going, &path[..n]);
 }
 
-fn main() {
-    let count = os::arg_count();
-    if 3 < count {
+// The argument at a place names the queue test, and the one at another the script. There are at most so many.
+fn run_test(keep_going: bool, at: usize, script: usize, most: usize, count: usize) {
+    if most < count {
         usage();
         return;
     }
-    match chosen() {
-        Test::Plain => run_script(false, count),
-        Test::Quick => run_script(true, count),
-        Test::Neither => usage(),
+    if cli_files::is_argument(at, b"plain") {
+        run_script(false, keep_going, script, count);
+        return;
     }
+    if cli_files::is_argument(at, b"quick") {
+        run_script(true, keep_going, script, count);
+        return;
+    }
+    usage();
+}
+
+fn main() {
+    if cli_files::is_argument(1, b"--help") {
+        cli_files::help(b"usage: day [--keep-going] plain|quick [SCRIPT]\n");
+        return;
+    }
+    if !cli_files::has_output() {
+        return;
+    }
+    let count = os::arg_count();
+    if cli_files::is_argument(1, b"--keep-going") {
+        run_test(true, 2, 3, 4, count);
+        return;
+    }
+    run_test(false, 1, 2, 3, count);
 }

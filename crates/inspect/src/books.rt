@@ -2,6 +2,7 @@
 use crate::faults;
 use book_read::Book;
 use book_read::Reading;
+use cli_print::Row;
 
 // The number at a place of a row; 0 past its end.
 fn at(row: &[u64], i: usize) -> u64 {
@@ -9,11 +10,12 @@ fn at(row: &[u64], i: usize) -> u64 {
 }
 
 fn show_stream(code: u64, administrator: u64) {
-    cli_print::text(b"stream ");
-    cli_print::code(code);
-    cli_print::space();
-    cli_print::number(administrator);
-    cli_print::end();
+    cli_print::begin()
+        .text(b"stream ")
+        .code(code)
+        .text(b" ")
+        .number(administrator)
+        .print_line();
 }
 
 fn show_streams(streams: &[u64], n: usize) {
@@ -27,32 +29,34 @@ fn show_streams(streams: &[u64], n: usize) {
 }
 
 // The streams of a bank's bits, in their order.
-fn show_bits(streams: &[u64], bits: u64) {
+fn show_bits(before: Row, streams: &[u64], bits: u64) -> Row {
+    let mut row = before;
     let mut rest = bits;
     let mut i = 0;
     while i < Book::STREAMS {
         if rest % 2 == 1 {
-            cli_print::space();
-            cli_print::code(at(streams, 2 * i));
+            row = row.text(b" ").code(at(streams, 2 * i));
         }
         rest = rest / 2;
         i += 1;
     }
+    row
+}
+
+fn show_standing(row: Row, flags: u64) -> Row {
+    if flags % 2 == 1 {
+        return row.text(b" suspended ");
+    }
+    row.text(b" active ")
 }
 
 fn show_bank(streams: &[u64], code: u64, flags: u64, balance: u64, sublimit: u64) {
-    cli_print::text(b"bank ");
-    cli_print::code(code);
-    if flags % 2 == 1 {
-        cli_print::text(b" suspended ");
-    } else {
-        cli_print::text(b" active ");
-    }
-    cli_print::number(balance);
-    cli_print::space();
-    cli_print::number(sublimit);
-    show_bits(streams, flags / 2);
-    cli_print::end();
+    let named = cli_print::begin().text(b"bank ").code(code);
+    let row = show_standing(named, flags)
+        .number(balance)
+        .text(b" ")
+        .number(sublimit);
+    show_bits(row, streams, flags / 2).print_line();
 }
 
 fn show_banks(
@@ -92,15 +96,14 @@ fn total(balances: &[u64], n: usize) -> u64 {
 }
 
 fn show_head(book: Book) {
-    cli_print::text(b"accepted book\ndate ");
-    cli_print::six_digits(dates::date_of(book.day));
-    cli_print::end();
+    cli_print::begin()
+        .text(b"accepted book\ndate ")
+        .six_digits(dates::date_of(book.day))
+        .print_line();
 }
 
 fn show_total(sum: u64) {
-    cli_print::text(b"total ");
-    cli_print::number(sum);
-    cli_print::end();
+    cli_print::begin().field(b"total ", sum).print_line();
 }
 
 pub fn show(s: &[u8]) {

@@ -36,12 +36,16 @@ fn show_block(spot: Spot) {
     }
 }
 
-// The place of a test, but for one of the whole book, and what is wrong there.
+// The place of a test and what is wrong there.
 fn show_flaw(spot: Spot) {
     let flaw = spot.flaw;
     match flaw {
-        Flaw::WrongLength => cli_print::text(b"the length is not 2 to 5 blocks of 512 bytes"),
-        Flaw::HighTotal => cli_print::text(b"the total of the balances is out of range"),
+        Flaw::WrongLength => cli_print::text(
+            b"at the book: the length is not 2 to 5 blocks of 512 bytes",
+        ),
+        Flaw::HighTotal => cli_print::text(
+            b"at the book: the total of the balances is out of range",
+        ),
         _ => show_block(spot),
     }
     cli_print::end();

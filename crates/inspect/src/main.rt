@@ -7,7 +7,6 @@ mod responses;
 
 use cli_files::Got;
 use libc::STDERR_FILENO;
-use text_scan::At;
 
 // What the files are said to be.
 enum Subject {
@@ -17,23 +16,14 @@ enum Subject {
     Unknown,
 }
 
-// Whether a word is just this one.
-fn is_word(word: &[u8], name: &[u8]) -> bool {
-    if let At::Next(e) = text_scan::lit(word, 0, name) {
-        e == word.len()
-    } else {
-        false
-    }
-}
-
-fn subject_of(word: &[u8]) -> Subject {
-    if is_word(word, b"request") {
+fn asked() -> Subject {
+    if cli_files::is_argument(1, b"request") {
         return Subject::Request;
     }
-    if is_word(word, b"response") {
+    if cli_files::is_argument(1, b"response") {
         return Subject::Response;
     }
-    if is_word(word, b"book") {
+    if cli_files::is_argument(1, b"book") {
         return Subject::Book;
     }
     Subject::Unknown
@@ -87,18 +77,22 @@ fn show_argument(subject: Subject, i: usize) {
 fn show_arguments(subject: Subject, count: usize) {
     let mut i = 2;
     while i < count {
+        if !cli_files::is_heard() {
+            return;
+        }
         show_argument(subject, i);
         i += 1;
     }
 }
 
-fn asked() -> Subject {
-    let mut word = [0u8; 16];
-    let n = os::arg(1, &mut word);
-    subject_of(&word[..n])
-}
-
 fn main() {
+    if cli_files::is_argument(1, b"--help") {
+        cli_files::help(b"usage: inspect request|response|book FILE..\n");
+        return;
+    }
+    if !cli_files::has_output() {
+        return;
+    }
     let count = os::arg_count();
     let subject = asked();
     if count < 3 {

@@ -1,4 +1,5 @@
 // The account of a request.
+use cli_print::Row;
 use request_read::payments::Payment;
 use request_read::terms::Activation;
 use request_read::terms::Terms;
@@ -32,6 +33,14 @@ fn show_terms(s: &[u8], t: Terms) {
     show_activation(s, t);
 }
 
+fn show_side(side: &[u8], cents: u64, bank: u64) -> Row {
+    cli_print::begin()
+        .text(side)
+        .number(cents)
+        .text(b" ")
+        .code(bank)
+}
+
 fn show_payment(p: Payment) {
     let side = p.side;
     let amount = p.amount;
@@ -39,18 +48,11 @@ fn show_payment(p: Payment) {
     let bank = p.bank;
     let debit = side.number != 0;
     if debit {
-        cli_print::text(b"payment DR ");
-    } else {
-        cli_print::text(b"payment CR ");
+        let row = show_side(b"payment DR ", amount.number, bank.number);
+        row.text(b" ").letters(letters.number).print_line();
+        return;
     }
-    cli_print::number(amount.number);
-    cli_print::space();
-    cli_print::code(bank.number);
-    if debit {
-        cli_print::space();
-        cli_print::letters(letters.number);
-    }
-    cli_print::end();
+    show_side(b"payment CR ", amount.number, bank.number).print_line();
 }
 
 fn show_payments(ps: [Payment; 10], n: usize) {

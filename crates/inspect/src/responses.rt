@@ -22,17 +22,19 @@ fn show_number(s: &[u8], p: Parts) {
 }
 
 fn show_settled(day: u64, second: u64) {
-    cli_print::text(b"settled ");
-    cli_print::six_digits(dates::date_of(day));
-    cli_print::space();
-    cli_print::six_digits(clock::hhmmss_of(second));
-    cli_print::end();
+    let row = cli_print::begin()
+        .text(b"settled ")
+        .six_digits(dates::date_of(day));
+    row.text(b" ")
+        .six_digits(clock::hhmmss_of(second))
+        .print_line();
 }
 
 fn show_rejected(number: u64) {
-    cli_print::text(b"rejected ");
-    cli_print::two_digits(number);
-    cli_print::end();
+    cli_print::begin()
+        .text(b"rejected ")
+        .two_digits(number)
+        .print_line();
 }
 
 fn show_settlement(s: &[u8], p: Parts, r: Settlement) {

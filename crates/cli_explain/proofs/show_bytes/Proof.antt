@@ -1,21 +1,22 @@
 use Prim.Native.Nat.{_-_}
-use native.Mathlib.Omega.{arith}
 use borrow.Author.Needs.{needs}
 use lib.ListN.{length}
+use native.Mathlib.Omega.{arith}
 use Rattle.cli_explain.proofs.show_bytes.Statement.{statement}
 use Rattle.cli_explain.proofs.show_bytes.Tie as tie
+use Rattle.cli_explain.proofs.show_byte.Reads as show-byte-reads
 
 abbrev Inv-loop : tie.InvT-loop
-Inv-loop line i₀ i = Unit {0}
+Inv-loop line row₀ i₀ row i = Unit {0}
 
 abbrev μ-loop : tie.MeasureT-loop
-μ-loop line i₀ i = length line - i
+μ-loop line row₀ i₀ row i = length line - i
 
 loop-holds : tie.Need-loop-holds Inv-loop μ-loop
 loop-holds c = tt
 
 shared-slice-read-show-byte : tie.Need-shared-slice-read-show-byte Inv-loop μ-loop
-shared-slice-read-show-byte c = omega arith
+shared-slice-read-show-byte c = search needs
 
 show-byte-requires : tie.Need-show-byte-requires Inv-loop μ-loop
 show-byte-requires c κs = search needs
@@ -30,7 +31,7 @@ loop-again : tie.Need-loop-again Inv-loop μ-loop
 loop-again c = tt
 
 returns : tie.Need-returns Inv-loop μ-loop
-returns c = tt
+returns c = search needs
 
 pub show-bytes-spec : {M : Type 1} → statement M
 show-bytes-spec =

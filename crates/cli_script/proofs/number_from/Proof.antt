@@ -2,10 +2,11 @@ use native.Mathlib.Omega.{arith}
 use mathlib.Core.Path.{refl}
 use lib.ListN.{length}
 use Prim.Native.Nat.{_-_}
-use Rattle.cli_script.proofs.Laws.{Counting, count-there, count-none, count-on, count-line}
+use Rattle.cli_script.proofs.Laws.{Counting, count-on, count-there, count-none, count-line}
 use borrow.Author.Needs.{needs}
 use Rattle.cli_script.proofs.number_from.Statement.{statement}
 use Rattle.cli_script.proofs.number_from.Tie as tie
+use Rattle.cli_script.proofs.is_blank.Reads as is-blank-reads
 use Rattle.cli_script.proofs.with_digit.Reads as with-digit-reads
 
 abbrev Inv-loop : tie.InvT-loop
@@ -19,6 +20,9 @@ loop-holds c = record { same = refl }
 
 shared-slice-read-b : tie.Need-shared-slice-read-b Inv-loop μ-loop
 shared-slice-read-b c = search needs
+
+is-blank-requires : tie.Need-is-blank-requires Inv-loop μ-loop
+is-blank-requires c κs = search needs
 
 returns : tie.Need-returns Inv-loop μ-loop
 returns c = search count-there
@@ -55,6 +59,7 @@ number-from-spec =
     μ-loop
     loop-holds
     shared-slice-read-b
+    is-blank-requires
     returns
     with-digit-requires
     enum-known-w

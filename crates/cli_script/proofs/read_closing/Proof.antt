@@ -1,14 +1,15 @@
 use Rattle.cli_script.proofs.Laws.{closing-1, closing-2, closing-3, closing-4}
 use borrow.Author.Needs.{needs}
+use borrow.Author.Needs.{needs}
 use Rattle.cli_script.proofs.read_closing.Statement.{statement}
 use Rattle.cli_script.proofs.read_closing.Tie as tie
 use Rattle.cli_script.proofs.ended.Reads as ended-reads
+use Rattle.cli_script.proofs.read_clock.Reads as read-clock-reads
 use Rattle.cli_script.proofs.read_date.Reads as read-date-reads
-use Rattle.cli_script.proofs.read_number.Reads as read-number-reads
 use Rattle.cli_script.proofs.word.Reads as word-reads
 
-read-number-requires : tie.Need-read-number-requires
-read-number-requires c κs = search needs
+read-clock-requires : tie.Need-read-clock-requires
+read-clock-requires c κs = search needs
 
 enum-known-clock : tie.Need-enum-known-clock
 enum-known-clock c = search needs
@@ -53,7 +54,7 @@ pub read-closing-spec : {M : Type 1} → statement M
 read-closing-spec =
     tie.close
     (tie.spec
-    read-number-requires
+    read-clock-requires
     enum-known-clock
     enum-told
     returns

@@ -1,13 +1,15 @@
 use Rattle.cli_script.proofs.Laws.{message-1, message-2, message-3, message-4}
 use borrow.Author.Needs.{needs}
+use borrow.Author.Needs.{needs}
 use Rattle.cli_script.proofs.read_message.Statement.{statement}
 use Rattle.cli_script.proofs.read_message.Tie as tie
 use Rattle.cli_script.proofs.ended.Reads as ended-reads
+use Rattle.cli_script.proofs.read_clock.Reads as read-clock-reads
 use Rattle.cli_script.proofs.read_number.Reads as read-number-reads
 use Rattle.cli_script.proofs.word.Reads as word-reads
 
-read-number-requires : tie.Need-read-number-requires
-read-number-requires c κs = search needs
+read-clock-requires : tie.Need-read-clock-requires
+read-clock-requires c κs = search needs
 
 enum-known-clock : tie.Need-enum-known-clock
 enum-known-clock c = search needs
@@ -18,8 +20,8 @@ enum-told c = search needs
 returns : tie.Need-returns
 returns c = search message-1
 
-read-number-requires-2 : tie.Need-read-number-requires-2
-read-number-requires-2 c κs = search needs
+read-number-requires : tie.Need-read-number-requires
+read-number-requires c κs = search needs
 
 enum-known-sender : tie.Need-enum-known-sender
 enum-known-sender c = search needs
@@ -52,11 +54,11 @@ pub read-message-spec : {M : Type 1} → statement M
 read-message-spec =
     tie.close
     (tie.spec
-    read-number-requires
+    read-clock-requires
     enum-known-clock
     enum-told
     returns
-    read-number-requires-2
+    read-number-requires
     enum-known-sender
     enum-told-2
     returns-2

@@ -1,13 +1,14 @@
 use Rattle.cli_script.proofs.Laws.{open-1, open-2, open-3}
 use borrow.Author.Needs.{needs}
+use borrow.Author.Needs.{needs}
 use Rattle.cli_script.proofs.read_open.Statement.{statement}
 use Rattle.cli_script.proofs.read_open.Tie as tie
 use Rattle.cli_script.proofs.ended.Reads as ended-reads
-use Rattle.cli_script.proofs.read_number.Reads as read-number-reads
+use Rattle.cli_script.proofs.read_clock.Reads as read-clock-reads
 use Rattle.cli_script.proofs.word.Reads as word-reads
 
-read-number-requires : tie.Need-read-number-requires
-read-number-requires c κs = search needs
+read-clock-requires : tie.Need-read-clock-requires
+read-clock-requires c κs = search needs
 
 enum-known-clock : tie.Need-enum-known-clock
 enum-known-clock c = search needs
@@ -40,7 +41,7 @@ pub read-open-spec : {M : Type 1} → statement M
 read-open-spec =
     tie.close
     (tie.spec
-    read-number-requires
+    read-clock-requires
     enum-known-clock
     enum-told
     returns

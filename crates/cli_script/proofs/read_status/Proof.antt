@@ -1,15 +1,16 @@
 use Rattle.cli_script.proofs.Laws.{status-1, status-2, status-3, status-4, status-5}
 use borrow.Author.Needs.{needs}
+use borrow.Author.Needs.{needs}
 use Rattle.cli_script.proofs.read_status.Statement.{statement}
 use Rattle.cli_script.proofs.read_status.Tie as tie
 use Rattle.cli_script.proofs.ended.Reads as ended-reads
 use Rattle.cli_script.proofs.read_bank.Reads as read-bank-reads
 use Rattle.cli_script.proofs.read_bin.Reads as read-bin-reads
+use Rattle.cli_script.proofs.read_clock.Reads as read-clock-reads
 use Rattle.cli_script.proofs.read_letter.Reads as read-letter-reads
-use Rattle.cli_script.proofs.read_number.Reads as read-number-reads
 
-read-number-requires : tie.Need-read-number-requires
-read-number-requires c κs = search needs
+read-clock-requires : tie.Need-read-clock-requires
+read-clock-requires c κs = search needs
 
 enum-known-clock : tie.Need-enum-known-clock
 enum-known-clock c = search needs
@@ -66,7 +67,7 @@ pub read-status-spec : {M : Type 1} → statement M
 read-status-spec =
     tie.close
     (tie.spec
-    read-number-requires
+    read-clock-requires
     enum-known-clock
     enum-told
     returns

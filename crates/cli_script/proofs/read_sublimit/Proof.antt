@@ -1,13 +1,15 @@
 use Rattle.cli_script.proofs.Laws.{sublimit-1, sublimit-2, sublimit-3, sublimit-4}
 use borrow.Author.Needs.{needs}
+use borrow.Author.Needs.{needs}
 use Rattle.cli_script.proofs.read_sublimit.Statement.{statement}
 use Rattle.cli_script.proofs.read_sublimit.Tie as tie
 use Rattle.cli_script.proofs.ended.Reads as ended-reads
 use Rattle.cli_script.proofs.read_bank.Reads as read-bank-reads
+use Rattle.cli_script.proofs.read_clock.Reads as read-clock-reads
 use Rattle.cli_script.proofs.read_number.Reads as read-number-reads
 
-read-number-requires : tie.Need-read-number-requires
-read-number-requires c κs = search needs
+read-clock-requires : tie.Need-read-clock-requires
+read-clock-requires c κs = search needs
 
 enum-known-clock : tie.Need-enum-known-clock
 enum-known-clock c = search needs
@@ -30,8 +32,8 @@ enum-told-2 c = search needs
 returns-2 : tie.Need-returns-2
 returns-2 c = search sublimit-2
 
-read-number-requires-2 : tie.Need-read-number-requires-2
-read-number-requires-2 c κs = search needs
+read-number-requires : tie.Need-read-number-requires
+read-number-requires c κs = search needs
 
 enum-known-cents : tie.Need-enum-known-cents
 enum-known-cents c = search needs
@@ -52,7 +54,7 @@ pub read-sublimit-spec : {M : Type 1} → statement M
 read-sublimit-spec =
     tie.close
     (tie.spec
-    read-number-requires
+    read-clock-requires
     enum-known-clock
     enum-told
     returns
@@ -60,7 +62,7 @@ read-sublimit-spec =
     enum-known-bank
     enum-told-2
     returns-2
-    read-number-requires-2
+    read-number-requires
     enum-known-cents
     enum-told-3
     returns-3

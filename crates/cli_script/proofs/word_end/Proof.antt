@@ -1,12 +1,13 @@
-use Rattle.cli_script.specs.Lines.{wordEnd}
 use native.Mathlib.Omega.{arith}
 use mathlib.Core.Path.{refl}
 use lib.ListN.{length}
 use Prim.Native.Nat.{_-_}
-use Rattle.cli_script.proofs.Laws.{Ending, end-there, end-on, end-line}
+use Rattle.cli_script.proofs.Laws.{Ending, end-on, end-there, end-line}
+use Rattle.cli_script.specs.Lines.{wordEnd}
 use borrow.Author.Needs.{needs}
 use Rattle.cli_script.proofs.word_end.Statement.{statement}
 use Rattle.cli_script.proofs.word_end.Tie as tie
+use Rattle.cli_script.proofs.is_blank.Reads as is-blank-reads
 
 abbrev Inv-loop : tie.InvT-loop
 Inv-loop s at i₀ i = Ending s at i
@@ -18,8 +19,11 @@ loop-holds : tie.Need-loop-holds Inv-loop μ-loop
 unfolding wordEnd
 loop-holds c = record { same = refl }
 
-shared-slice-read-if1 : tie.Need-shared-slice-read-if1 Inv-loop μ-loop
-shared-slice-read-if1 c = search needs
+shared-slice-read-is-blank : tie.Need-shared-slice-read-is-blank Inv-loop μ-loop
+shared-slice-read-is-blank c = search needs
+
+is-blank-requires : tie.Need-is-blank-requires Inv-loop μ-loop
+is-blank-requires c κs = search needs
 
 returns : tie.Need-returns Inv-loop μ-loop
 returns c = search end-there
@@ -43,7 +47,8 @@ word-end-spec =
     Inv-loop
     μ-loop
     loop-holds
-    shared-slice-read-if1
+    shared-slice-read-is-blank
+    is-blank-requires
     returns
     add-i
     loop-less

@@ -5,7 +5,7 @@ use borrow.Author.Needs.{needs}
 use Rattle.day.proofs.read_next.Statement.{statement}
 use Rattle.day.proofs.read_next.Tie as tie
 use Rattle.day.proofs.no_line.Reads as no-line-reads
-use Rattle.day.proofs.read_deed.Reads as read-deed-reads
+use Rattle.day.proofs.read_line.Reads as read-line-reads
 use Rattle.cli_files.proofs.lines.take.Reads as take-reads
 
 take-requires : tie.Need-take-requires
@@ -35,14 +35,14 @@ same-length-4 c = search needs
 returns-2 : tie.Need-returns-2
 returns-2 c = search needs
 
-slice-reshare-prefix-read-deed : tie.Need-slice-reshare-prefix-read-deed
-slice-reshare-prefix-read-deed c = search needs
+slice-reshare-prefix-read-line : tie.Need-slice-reshare-prefix-read-line
+slice-reshare-prefix-read-line c = search needs
 
-slice-aggregate-read-deed : tie.Need-slice-aggregate-read-deed
-slice-aggregate-read-deed c = sym (length-take-le _ _ (omega arith))
+slice-aggregate-read-line : tie.Need-slice-aggregate-read-line
+slice-aggregate-read-line c = sym (length-take-le _ _ (omega arith))
 
-read-deed-requires : tie.Need-read-deed-requires
-read-deed-requires c κs = search needs
+read-line-requires : tie.Need-read-line-requires
+read-line-requires c κs = search needs
 
 same-length-5 : tie.Need-same-length-5
 same-length-5 c = search needs
@@ -69,9 +69,9 @@ read-next-spec =
     same-length-3
     same-length-4
     returns-2
-    slice-reshare-prefix-read-deed
-    slice-aggregate-read-deed
-    read-deed-requires
+    slice-reshare-prefix-read-line
+    slice-aggregate-read-line
+    read-line-requires
     same-length-5
     same-length-6
     same-length-7

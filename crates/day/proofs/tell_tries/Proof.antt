@@ -1,17 +1,17 @@
-use native.Mathlib.Omega.{arith}
-use lib.ListN.{length}
-use borrow.Author.Needs.{needs}
 use Prim.Native.Nat.{_-_}
+use borrow.Author.Needs.{needs}
+use lib.ListN.{length}
+use native.Mathlib.Omega.{arith}
 use Rattle.day.proofs.tell_tries.Statement.{statement}
 use Rattle.day.proofs.tell_tries.Tie as tie
-use Rattle.cli_print.proofs.field.Reads as field-reads
-use Rattle.cli_print.proofs.text.Reads as text-reads
+use Rattle.cli_print.proofs.rows.Row.field.Reads as field-reads
+use Rattle.cli_print.proofs.rows.Row.text.Reads as text-reads
 
 abbrev Inv-loop : tie.InvT-loop
-Inv-loop tries n i₀ t5 i = Unit {0}
+Inv-loop tries n row₀ i₀ t7 row i = Unit {0}
 
 abbrev μ-loop : tie.MeasureT-loop
-μ-loop tries n i₀ t5 i = length tries - i
+μ-loop tries n row₀ i₀ t7 row i = length tries - i
 
 slice-aggregate-text : tie.Need-slice-aggregate-text Inv-loop μ-loop
 slice-aggregate-text c = search needs

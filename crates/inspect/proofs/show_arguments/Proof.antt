@@ -13,6 +13,12 @@ abbrev μ-loop : tie.MeasureT-loop
 loop-holds : tie.Need-loop-holds Inv-loop μ-loop
 loop-holds c = tt
 
+is-heard-requires : tie.Need-is-heard-requires Inv-loop μ-loop
+is-heard-requires c κs = search needs
+
+returns : tie.Need-returns Inv-loop μ-loop
+returns c = tt
+
 show-argument-requires : tie.Need-show-argument-requires Inv-loop μ-loop
 show-argument-requires c κs = search needs
 
@@ -25,10 +31,20 @@ loop-less c = omega arith
 loop-again : tie.Need-loop-again Inv-loop μ-loop
 loop-again c = tt
 
-returns : tie.Need-returns Inv-loop μ-loop
-returns c = tt
+returns-2 : tie.Need-returns-2 Inv-loop μ-loop
+returns-2 c = tt
 
 pub show-arguments-spec : {M : Type 1} → statement M
 show-arguments-spec =
     tie.close
-    (tie.spec Inv-loop μ-loop loop-holds show-argument-requires add-i loop-less loop-again returns)
+    (tie.spec
+    Inv-loop
+    μ-loop
+    loop-holds
+    is-heard-requires
+    returns
+    show-argument-requires
+    add-i
+    loop-less
+    loop-again
+    returns-2)

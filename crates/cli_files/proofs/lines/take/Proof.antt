@@ -9,11 +9,11 @@ use Rattle.cli_files.proofs.lines.keep.Reads as keep-reads
 use Rattle.cli_files.proofs.lines.read_ahead.Reads as read-ahead-reads
 
 abbrev Inv-loop : tie.InvT-loop
-Inv-loop fd buf₀ line₀ ahead₀ kept₀ turns₀ is-there₀ buf line ahead kept turns is-there =
+Inv-loop name fd buf₀ line₀ ahead₀ kept₀ turns₀ is-there₀ buf line ahead kept turns is-there =
     (length buf ≡ length buf₀) × (length line ≡ length line₀)
 
 abbrev μ-loop : tie.MeasureT-loop
-μ-loop fd buf₀ line₀ ahead₀ kept₀ turns₀ is-there₀ buf line ahead kept turns is-there = turns
+μ-loop name fd buf₀ line₀ ahead₀ kept₀ turns₀ is-there₀ buf line ahead kept turns is-there = turns
 
 loop-holds : tie.Need-loop-holds Inv-loop μ-loop
 loop-holds c = (refl, refl)
@@ -33,8 +33,8 @@ returns c = search needs
 byte-requires : tie.Need-byte-requires Inv-loop μ-loop
 byte-requires c κs = search needs
 
-add-t17 : tie.Need-add-t17 Inv-loop μ-loop
-add-t17 c = omega arith
+add-t18 : tie.Need-add-t18 Inv-loop μ-loop
+add-t18 c = omega arith
 
 same-length-3 : tie.Need-same-length-3 Inv-loop μ-loop
 same-length-3 c = search needs
@@ -78,7 +78,7 @@ take-spec =
     same-length-2
     returns
     byte-requires
-    add-t17
+    add-t18
     same-length-3
     same-length-4
     returns-2

@@ -5,16 +5,19 @@ use Rattle.inspect.proofs.books.show_bits.Statement.{statement}
 use Rattle.inspect.proofs.books.show_bits.Tie as tie
 
 abbrev Inv-loop : tie.InvT-loop
-Inv-loop streams bits rest₀ i₀ rest i = Unit {0}
+Inv-loop streams bits row₀ rest₀ i₀ t row rest i = Unit {0}
 
 abbrev μ-loop : tie.MeasureT-loop
-μ-loop streams bits rest₀ i₀ rest i = 8 - i
+μ-loop streams bits row₀ rest₀ i₀ t row rest i = 8 - i
 
 loop-holds : tie.Need-loop-holds Inv-loop μ-loop
 loop-holds c = tt
 
-space-requires : tie.Need-space-requires Inv-loop μ-loop
-space-requires c κs = search needs
+slice-aggregate-text : tie.Need-slice-aggregate-text Inv-loop μ-loop
+slice-aggregate-text c = search needs
+
+text-requires : tie.Need-text-requires Inv-loop μ-loop
+text-requires c κs = search needs
 
 mul-at : tie.Need-mul-at Inv-loop μ-loop
 mul-at c = omega arith
@@ -44,7 +47,8 @@ show-bits-spec =
     Inv-loop
     μ-loop
     loop-holds
-    space-requires
+    slice-aggregate-text
+    text-requires
     mul-at
     at-requires
     code-requires
