@@ -29,7 +29,7 @@ extern "C" {
 #endif
 
 /* The version of this header, and of the archive that is linked. It rises with every change that a program can see. */
-#define PURMAGHELI_VERSION 1
+#define PURMAGHELI_VERSION 2
 
 uint64_t purmagheli_version(void);
 
@@ -295,11 +295,12 @@ uint64_t purmagheli_find_book_fault(const uint8_t *book, size_t book_length, uin
 #define PURMAGHELI_PHASE_OPEN 1
 #define PURMAGHELI_PHASE_CLOSED 2
 #define PURMAGHELI_BANKS 64
-#define PURMAGHELI_BANK_WORDS 4
+#define PURMAGHELI_BANK_WORDS 5
 #define PURMAGHELI_BANK_CODE 0
 #define PURMAGHELI_BANK_FLAGS 1
 #define PURMAGHELI_BANK_BALANCE 2
 #define PURMAGHELI_BANK_SUBLIMIT 3
+#define PURMAGHELI_BANK_WAITING 4
 #define PURMAGHELI_BATCHES 32
 #define PURMAGHELI_BATCH_WORDS 349
 #define PURMAGHELI_REFERENCES 2048
@@ -352,6 +353,7 @@ uint64_t purmagheli_find_book_fault(const uint8_t *book, size_t book_length, uin
 
 typedef struct {
     uint64_t code, flags, balance, sublimit;
+    uint64_t waiting; /* the total of the bank's debits in pending and queued batches, in cents */
 } purmagheli_bank;
 
 typedef struct {

@@ -1,5 +1,5 @@
 #!/usr/bin/env python3
-"""Tables that keep the table rules and tables that break just one of them, made from document 01 and docs/FORMAT.md.
+"""Tables that keep the table rules and tables that break just one of them, made from documents 01 and 02 and docs/FORMAT.md.
 
 Writes crates/run_rules/stdin, the tables word by word, and crates/run_rules/stdout, what a test of the rules answers.
 Each case is judged by `broken`, which names the rules that a table breaks; a case is to break
@@ -11,7 +11,7 @@ import sys
 
 MOST = 6_400_000_000_000_000
 TABLES = [("codes", 32, 64), ("flags", 128, 64), ("balances", 224, 64), ("limits", 320, 64),
-          ("batches", 512, 32 * 349), ("references", 11776, 2048 * 3), ("bins", 17984, 512 * 3)]
+          ("batches", 512, 32 * 349), ("references", 11776, 2048 * 3), ("bins", 17984, 512 * 3), ("sheet", 19584, 64)]
 SCALARS = ["phase", "date", "clock", "texts", "banks", "n"]
 CODE = set(b"ABCDEFGHIJKLMNOPQRSTUVWXYZ0123456789")
 DIGIT = set(b"0123456789")
@@ -33,13 +33,14 @@ def letters(text):
 
 
 class State:
-    """What is lent: the desk's scalars, its streams, and the seven tables as lists of words."""
+    """What is lent: the desk's scalars, its streams, and the eight tables as lists of words."""
 
     def __init__(self):
         self.desk = dict.fromkeys(SCALARS, 0)
         self.streams = [0] * 16
         for name, _, n in TABLES:
             setattr(self, name, [0] * n)
+        self.own_sheet = False  # whether a case gives the sheet; else it follows the batches
 
     def words(self):
         w = {i: self.desk[k] for i, k in enumerate(SCALARS)}
@@ -175,6 +176,18 @@ def row_faults(row, banks):
     return bad
 
 
+def totals(s):
+    """Ticket 2: of each bank the total of its debits in pending and queued batches; of places as far as they can be read."""
+    sums = [0] * 64
+    for p in range(len(s.batches) // 349):
+        place = s.batches[349 * p:349 * p + 349]
+        if place[0] in (2, 3):
+            for bank, cents, text in (place[49 + 3 * j:52 + 3 * j] for j in range(min(place[8], 100))):
+                if text and bank < 64:
+                    sums[bank] += cents
+    return sums
+
+
 def broken(s):
     """The rules that desk and tables break, by name."""
     d = s.desk
@@ -224,6 +237,8 @@ def broken(s):
             bad.add(name)
     if d["phase"] == 2 and any(s.batches):
         bad.add("live only on an open day")
+    if s.sheet != totals(s):
+        bad.add("what waits against each bank")
     today = d["date"]
     for table, test, name in ((s.references, is_reference, "reference"), (s.bins, is_bin, "remembered bin")):
         for high, low, day in entries(table):
@@ -277,6 +292,7 @@ def base():
     put_entry(s.references, 21, "OLDER", TODAY - 15)
     put_entry(s.references, 22, "PROPNET000000001", TODAY - 15)
     put_entry(s.references, 2047, "LAST", 0)
+    s.sheet = totals(s)
     return s
 
 
@@ -295,6 +311,7 @@ def case(name, rule):
 def changed(name, rule, **words):
     """One word of a table: codes=(2, 5) sets word 2 of the codes to 5."""
     def change(s):
+        s.own_sheet = "sheet" in words
         for table, (i, v) in words.items():
             if table in SCALARS:
                 raise ValueError(table)
@@ -315,8 +332,16 @@ CASES.append(("the base", None, lambda s: None))
 
 # "lengths 64, 32, 2,048, 512" (R1)
 for table, _, n in TABLES:
-    CASES.append((f"{table}: one word fewer", "lengths", lambda s, t=table: setattr(s, t, getattr(s, t)[:-1])))
-    CASES.append((f"{table}: one word more", "lengths", lambda s, t=table: getattr(s, t).append(0)))
+    def shortened(s, t=table):
+        s.own_sheet = True
+        setattr(s, t, getattr(s, t)[:-1])
+
+    def lengthened(s, t=table):
+        s.own_sheet = True
+        getattr(s, t).append(0)
+
+    CASES.append((f"{table}: one word fewer", "lengths", shortened))
+    CASES.append((f"{table}: one word more", "lengths", lengthened))
 
 # the day's scalars (R6)
 
@@ -646,8 +671,70 @@ def _(s):
     s.batches[-1] = 1
 
 
+# ticket 2: the total of each bank's debits in pending and queued batches: AAAA 70,001 queued and 10 pending, BBBB 4 pending, CCCC 60 queued
+WAITING = "what waits against each bank"
+changed("sheet: a total one more", WAITING, sheet=(0, 70_012))
+changed("sheet: a total one less", WAITING, sheet=(0, 70_010))
+changed("sheet: a pending batch left out", WAITING, sheet=(0, 70_001))
+changed("sheet: a queued batch left out", WAITING, sheet=(0, 10))
+changed("sheet: a batch being assembled counted", WAITING, sheet=(2, 65))
+changed("sheet: credits counted", WAITING, sheet=(4, 70))
+changed("sheet: no total at all", WAITING, sheet=(1, 0))
+changed("sheet: a total of a payer of 0", WAITING, sheet=(3, 1))
+changed("sheet: a total of the first record past the banks", WAITING, sheet=(5, 1))
+changed("sheet: a total of the last record", WAITING, sheet=(63, 1))
+changed("sheet: a total that is right but for 2^32", WAITING, sheet=(0, 70_011 + 2 ** 32))
+
+
+@case("sheet: the totals of two banks exchanged", WAITING)
+def _(s):
+    s.own_sheet = True
+    s.sheet[1], s.sheet[2] = s.sheet[2], s.sheet[1]
+
+
+@case("sheet: a debit of another bank, the totals as they were", WAITING)
+def _(s):
+    s.own_sheet = True
+    s.batches[row(2, 49)] = 3
+
+
+@case("sheet: a debit of another bank, and the totals follow", None)
+def _(s):
+    s.batches[row(2, 49)] = 3
+
+
+@case("sheet: a debit and its credit of other cents, the totals as they were", WAITING)
+def _(s):
+    s.own_sheet = True
+    s.batches[row(31, 50)] = s.batches[row(31, 53)] = 61
+
+
+@case("sheet: a debit and its credit of other cents, and the totals follow", None)
+def _(s):
+    s.batches[row(31, 50)] = s.batches[row(31, 53)] = 61
+
+
+changed("sheet: a debit with other letters", None, batches=(row(31, 51), short("D   ")))
+
+
+@case("sheet: a total on a closed day", WAITING)
+def _(s):
+    s.desk["phase"] = 2
+    s.batches[:] = [0] * len(s.batches)
+    s.own_sheet = True
+    s.sheet[:] = [0, 0, 60] + [0] * 61
+
+
+@case("sheet: the totals of a day that was closed", WAITING)
+def _(s):
+    s.own_sheet = True
+    s.desk["phase"] = 2
+    s.batches[:] = [0] * len(s.batches)
+
+
 # R5: no day yet
 def nothing(s):
+    s.own_sheet = True
     for k in SCALARS:
         s.desk[k] = 0
     s.streams[:] = [0] * 16
@@ -678,6 +765,8 @@ def main():
     for name, rule, change in CASES:
         s = copy.deepcopy(base())
         change(s)
+        if not s.own_sheet:
+            s.sheet = totals(s)
         found = broken(s)
         if found != (set() if rule is None else {rule} if isinstance(rule, str) else set(rule)):
             sys.exit(f"{name}: expected {rule}, found {sorted(found)}")

@@ -807,6 +807,31 @@ static void alter_order(plain_engine *e) {
     b->rank = rank;
 }
 
+/* Ticket 2: one bank's total is a cent more or less, or another word; two banks' are exchanged; a debit's bank or cents change. */
+static void alter_waiting(plain_engine *e, plain_bank *bank) {
+    plain_bank *other = e->banks + chance(PLAIN_BANKS);
+    uint64_t waiting = bank->waiting;
+    plain_batch *b = any_batch(e);
+    plain_payment *p = b->payment + (b->payments && b->payments <= 100 ? chance(b->payments) : 0);
+    switch (chance(5)) {
+    case 0: bank->waiting += 1; break;
+    case 1: bank->waiting -= 1; break;
+    case 2:
+        bank->waiting = other->waiting;
+        other->waiting = waiting;
+        break;
+    case 3:
+        /* As the batch is moved to another bank, the totals may follow it, or not. */
+        if (p->bank < PLAIN_BANKS && once(2)) {
+            e->banks[p->bank].waiting -= p->cents;
+            bank->waiting += p->cents;
+        }
+        p->bank = (uint64_t)(bank - e->banks);
+        break;
+    default: alter_word(&bank->waiting); break;
+    }
+}
+
 /* A balance that makes the total of all the greatest there may be, or a cent more. */
 static void alter_total(plain_engine *e, plain_bank *bank) {
     uint64_t others = 0;
@@ -817,7 +842,7 @@ static void alter_total(plain_engine *e, plain_bank *bank) {
 void alter(plain_engine *e) {
     uint64_t banks = plain_desk_of(e)->banks;
     plain_bank *bank = e->banks + chance(once(3) || banks >= PLAIN_BANKS ? PLAIN_BANKS : banks + 1);
-    switch (chance(10)) {
+    switch (chance(11)) {
     case 0: alter_word(e->desk + chance(6)); break;
     case 1: alter_word(e->desk + chance(22)); break;
     case 2:
@@ -828,6 +853,7 @@ void alter(plain_engine *e) {
     case 4: alter_entries(e->references, PLAIN_REFERENCES, plain_desk_of(e)->date); break;
     case 5: alter_entries(e->bins, PLAIN_BINS, plain_desk_of(e)->date); break;
     case 6: alter_order(e); break;
+    case 7: alter_waiting(e, bank); break;
     default: alter_batch(e, any_batch(e)); break;
     }
 }

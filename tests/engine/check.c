@@ -299,19 +299,19 @@ static void show(double seconds) {
     putchar('\n');
 }
 
-/* ---- the tables of crates/run_rules: words by number, then a name; lengths in the words 24 to 30 */
+/* ---- the tables of crates/run_rules: words by number, then a name; lengths in the words 24 to 31 */
 
 static void take_tables(const uint64_t *w, plain_engine *e) {
     memcpy(e->desk, w, sizeof e->desk);
-    for (int i = 0; i < PLAIN_BANKS; i++) e->banks[i] = (plain_bank){w[32 + i], w[128 + i], w[224 + i], w[320 + i]};
+    for (int i = 0; i < PLAIN_BANKS; i++) e->banks[i] = (plain_bank){w[32 + i], w[128 + i], w[224 + i], w[320 + i], w[19584 + i]};
     memcpy(e->batches, w + 512, sizeof e->batches);
     memcpy(e->references, w + 11776, sizeof e->references);
     memcpy(e->bins, w + 17984, sizeof e->bins);
 }
 
 static int tables(const char *in, const char *out) {
-    static uint64_t words[20000];
-    static const uint64_t lengths[7] = {64, 64, 64, 64, PLAIN_BATCHES * PLAIN_BATCH_WORDS, 3 * PLAIN_REFERENCES, 3 * PLAIN_BINS};
+    static uint64_t words[20608];
+    static const uint64_t lengths[8] = {64, 64, 64, 64, PLAIN_BATCHES * PLAIN_BATCH_WORDS, 3 * PLAIN_REFERENCES, 3 * PLAIN_BINS, 64};
     static plain_index references, bins;
     char line[256], wanted[256], got[300];
     FILE *given = fopen(in, "r"), *told = fopen(out, "r");
@@ -320,7 +320,7 @@ static int tables(const char *in, const char *out) {
         unsigned at;
         uint64_t word;
         char rest;
-        if (sscanf(line, "%u %" SCNu64 "%c", &at, &word, &rest) == 3 && rest == '\n' && at < 20000) {
+        if (sscanf(line, "%u %" SCNu64 "%c", &at, &word, &rest) == 3 && rest == '\n' && at < 20608) {
             words[at] = word;
             continue;
         }

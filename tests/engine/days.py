@@ -18,7 +18,7 @@ PROOFS = os.path.join(HERE, "..", "..", "crates", "model", "proofs")
 # ---- the plain engine
 
 class Bank(ctypes.Structure):
-    _fields_ = [(n, ctypes.c_uint64) for n in ("code", "flags", "balance", "sublimit")]
+    _fields_ = [(n, ctypes.c_uint64) for n in ("code", "flags", "balance", "sublimit", "waiting")]
 
 
 class Tables(ctypes.Structure):
@@ -79,6 +79,12 @@ def payment_words(p):
     return [p[1], p[2], 0] if p[0] == "credit" else [p[2], p[3], p[1]]
 
 
+def waiting_against(batches, bank):
+    """The total of a bank's debits in pending and queued batches."""
+    return sum(x[3] for p in batches["pending"] + batches["queue"] for m in batches["places"][p][1]["messages"]
+               for x in m["payments"] if x[0] == "debit" and x[2] == bank)
+
+
 def tables_of(engine):
     s, t = engine["state"], Tables()
     day, house, books, batches = s["day"], s["house"], s["books"], s["batches"]
@@ -86,7 +92,7 @@ def tables_of(engine):
     desk = [PHASES.index(day["phase"][0]), day["date"], day["clock"], day["texts"], house["banks"], len(house["streams"])] + streams
     t.desk[:len(desk)] = desk
     for i in range(64):
-        t.banks[i] = Bank(house["codes"][i], house["flags"][i], books["balances"][i], books["sublimits"][i])
+        t.banks[i] = Bank(house["codes"][i], house["flags"][i], books["balances"][i], books["sublimits"][i], waiting_against(batches, i))
     for p, place in enumerate(batches["places"]):
         if place[0] == "free":
             continue

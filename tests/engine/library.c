@@ -9,7 +9,7 @@
 #include "areas.h"
 #include "purmagheli.h"
 
-_Static_assert(sizeof(purmagheli_engine) == sizeof(plain_engine) && sizeof(purmagheli_engine) == 8 * 19126, "the engine is 19,126 words");
+_Static_assert(sizeof(purmagheli_engine) == sizeof(plain_engine) && sizeof(purmagheli_engine) == 8 * 19190, "the engine is 19,190 words");
 
 static struct exchange *exchange;
 static struct areas areas;

@@ -1,5 +1,5 @@
 /*
- * All of document 01 once more, in plain C: the calls of the engine on what is lent, written from document 01 with
+ * Documents 01 and 02 (the tickets that have landed) once more, in plain C: the calls of the engine on what is lent, written from them with
  * docs/DECISIONS.md and docs/FORMAT.md and from nothing of the crates' code. The tests compare the two, the benchmark runs them side by
  * side. Its readers of texts and its check of a book are those of tests/gateway.
  */
@@ -15,8 +15,9 @@ enum { PLAIN_ROOM = 33705, PLAIN_ROWS = 528 };
 #define PLAIN_MOST_MONEY UINT64_C(6400000000000000)
 #define PLAIN_MOST_CENTS UINT64_C(999999999999)
 
+/* Waiting is the total of the bank's debits in pending and queued batches (ticket 2 of document 02). */
 typedef struct {
-    uint64_t code, flags, balance, sublimit;
+    uint64_t code, flags, balance, sublimit, waiting;
 } plain_bank;
 
 typedef struct {

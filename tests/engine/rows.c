@@ -9,7 +9,7 @@
 
 #include "purmagheli.h"
 
-enum { ROWS = 5, ENGINE_WORDS = sizeof(purmagheli_engine) / 8, TEN = 36000 };
+enum { ROWS = 5, ENGINE_WORDS = sizeof(purmagheli_engine) / 8, BANK_WORDS = PURMAGHELI_BANKS * PURMAGHELI_BANK_WORDS, TEN = 36000 };
 
 static uint8_t out[PURMAGHELI_ROOM + 1], text[4096];
 static uint64_t tries[PURMAGHELI_TRIES + 1];
@@ -107,6 +107,7 @@ static void close_day(void) {
         strcat(texts, one);
     }
     must(is(purmagheli_close(&e, 1, 59400, lent), 0, strlen(texts), 0) && memcmp(out, texts, strlen(texts)) == 0, "close");
+    must(e.banks[5].waiting == 0, "nothing waits after the close");
 }
 
 static void closing_book(void) {
@@ -143,8 +144,9 @@ static void day(void) {
     must(e.desk[PURMAGHELI_DESK_BANKS] == 12 && e.desk[PURMAGHELI_DESK_STREAMS] == 3, "the house");
     must(e.desk[PURMAGHELI_DESK_STREAM] == purmagheli_code4("CARD") && e.desk[PURMAGHELI_DESK_STREAM + 1] == 7, "the first stream");
     must(e.banks[5].code == purmagheli_code4("HOBA") && e.banks[5].balance == 8000000 && e.banks[5].sublimit == 3000000, "a bank");
+    must(e.banks[5].waiting == 6000000, "what waits against it: 60,000.00 of PROP0001");
     must(is(message(33600, 9, "texts/RURL0001"), 0, 105, 1) && tries[0] == 3 && memcmp(out, settled, 105) == 0, "a message that settles");
-    must(e.desk[PURMAGHELI_DESK_TEXTS] == 1 && e.banks[9].balance == 10250000, "what it leaves");
+    must(e.desk[PURMAGHELI_DESK_TEXTS] == 1 && e.banks[9].balance == 10250000 && e.banks[0].waiting == 0, "what it leaves");
     must(is(message(33601, 9, "texts/stranger"), 73, 0, 0), "a stranger");
     changes();
     must(is(purmagheli_tick(&e, 1, 33799, lent), 5, 0, 0), "a clock that goes back");
@@ -155,9 +157,9 @@ static void day(void) {
 
 /* ---- rows of any length, each with a word behind it */
 
-static uint64_t desk[23], banks[257], batches[32 * 349 + 1], references[6145], bins[1537], report[3];
+static uint64_t desk[23], banks[BANK_WORDS + 1], batches[32 * 349 + 1], references[6145], bins[1537], report[3];
 static uint64_t *const rows[ROWS] = {desk, banks, batches, references, bins};
-static const size_t right[ROWS] = {22, 256, 32 * 349, 6144, 1536};
+static const size_t right[ROWS] = {22, BANK_WORDS, 32 * 349, 6144, 1536};
 static size_t lengths[ROWS], input_length, out_length, tries_length, report_length;
 
 /* A day with a batch that is held, and all that is lent as long as it should be. */
@@ -190,7 +192,7 @@ static uint64_t clear(void) {
 }
 
 struct lent_words {
-    uint64_t desk[23], banks[257], batches[32 * 349 + 1], references[6145], bins[1537], tries[PURMAGHELI_TRIES + 1], report[3];
+    uint64_t desk[23], banks[BANK_WORDS + 1], batches[32 * 349 + 1], references[6145], bins[1537], tries[PURMAGHELI_TRIES + 1], report[3];
     uint8_t out[PURMAGHELI_ROOM + 1];
 };
 
@@ -253,6 +255,9 @@ static void wrong_words(void) {
     lay_rows();
     bins[2]++;
     refused("a BIN of tomorrow", 6, 1);
+    lay_rows();
+    banks[5 * PURMAGHELI_BANK_WORDS + PURMAGHELI_BANK_WAITING]++;
+    refused("a cent more waits than the batches say", 6, 1);
 }
 
 static void short_report(void) {

@@ -141,6 +141,19 @@ static int batches_right(const plain_engine *e, const plain_desk *d) {
     return order_right(e, PLAIN_PENDING) && order_right(e, PLAIN_QUEUED);
 }
 
+/* Ticket 2: of each bank "the total of its debits in pending and queued batches", in batches that keep their rules. */
+static int totals_right(const plain_engine *e) {
+    uint64_t left[PLAIN_BANKS];
+    for (int i = 0; i < PLAIN_BANKS; i++) left[i] = e->banks[i].waiting;
+    for (int p = 0; p < PLAIN_BATCHES; p++) {
+        const plain_batch *b = plain_batch_at(e, p);
+        if (b->phase != PLAIN_PENDING && b->phase != PLAIN_QUEUED) continue;
+        for (uint64_t i = 0; i < b->payments; i++)
+            if (b->payment[i].letters) left[b->payment[i].bank] -= b->payment[i].cents;
+    }
+    return all_zero(left, sizeof left);
+}
+
 /* ---- references and BINs */
 
 static size_t slot_of(const uint64_t code[2]) {
@@ -201,6 +214,7 @@ int plain_right(const plain_engine *e, plain_index *references, plain_index *bin
     if (d->phase > PLAIN_CLOSED || d->date > 36524 || d->clock > 86399) return 0;
     if (!streams_right(d) || !banks_right(e, d)) return 0;
     if (d->phase == PLAIN_OPEN ? !batches_right(e, d) : !all_zero(e->batches, sizeof e->batches)) return 0;
+    if (!totals_right(e)) return 0;
     if (!entries_right(e->references, PLAIN_REFERENCES, d->date, 1, references, &noted)) return 0;
     if (!entries_right(e->bins, PLAIN_BINS, d->date, 0, bins, &unused)) return 0;
     return live_bins_right(e, bins) && texts_right(e, d, noted);

@@ -1,10 +1,13 @@
 """Writes the walk of settle_records::pay. Run it at the top of the repository: python3 tools/walks/pay.py; then rt fmt."""
+from columns import FIELDS
 from walk import Ctx, sub
 
 OUT = "crates/settle_records/proofs/pay/Proof.antt"
 U = F = "Rattle.settle_records.proofs"
 R = "Rattle.call_records"
 key = "settle-records·"
+# bytes of a record
+WIDTH = 8 * len(FIELDS)
 
 
 def main():
@@ -38,7 +41,7 @@ def main():
     P("  abbrev y : Account"); P("  y = getD ys i none"); P("")
     P("  abbrev vals : Account → List Val"); P("  vals = LL.vals T.the-type T′.the-laws"); P("")
     P("  inside : i < length ys"); P("  inside = inside-row ys i c l pays"); P("")
-    P("  fit-row : i * 32 < 2 ^ 64"); P("  fit-row = omega (arith, inside, g .1)"); P("")
+    P(f"  fit-row : i * {WIDTH} < 2 ^ 64"); P("  fit-row = omega (arith, inside, g .1)"); P("")
     ctx = "(‵ (fobs γ (codedHoleys T.the-row .code (heres T.the-row z))) ∷ ‵ (fbor κ (Held T.the-row (length z) b o γ)) ∷ ‵ (flft κ q) ∷ [])"
     P("  exits : (z : List Account) → length z ≡ length ys → Stored ys z (paid (balancesOf ys) (payment i c l)) → ent 𝓤 (⋆ 𝓤 H A " + ctx + ") (Post vunit)")
     P("  exits z e is =")
@@ -52,7 +55,7 @@ def main():
     P("      owned ! u64 (Is u64) (uint-makes 𝓤 H A W w64) (y .balance) _ (refl, gb) $ fjoin ! $ move ! (1 ∷ 0 ∷ []) $ frame ! $ done !"); P("")
     P("  abbrev made : ℕ → Account"); P("  made r = withBalance y r"); P("")
     P("  is-made : Is T.the-row y (vals y) → (r : ℕ) → r < 2 ^ 64 → Is T.the-row (made r) (vals (made r))")
-    P("  is-made was r h = let s = LL.owed T.the-type T′.the-laws y _ was in LL.owes T.the-type T′.the-laws (made r) (s .0, (s .1 .0, ((refl, h), (s .1 .1 .1 .0, tt))))"); P("")
+    P("  is-made was r h = let s = LL.owed T.the-type T′.the-laws y _ was in LL.owes T.the-type T′.the-laws (made r) (s .0, (s .1 .0, ((refl, h), (s .1 .1 .1 .0, (s .1 .1 .1 .1 .0, tt)))))"); P("")
     # walk
     n = 10
     items = []
@@ -76,7 +79,7 @@ def main():
         how = "store" if reuse else "init"
         k.emit(f"assigns ! (bin ! (load ! {st} (look ! {Lp(2)} refl)) (lit ! tt) (record {{ fits = fit-row }})) {st} ({how} ! {Lp(t)} refl (tt, record {{ fits = fit-row }})) $"); k.line()
         k.emit(f"assigns ! (bin ! (load ! (from ! (fld ! refl (stop !))) (look-in ! {Lp(1)} (sub ! 0 refl (whole !)))) (load ! {st} (look ! {Lp(t)} refl)) tt) {st} (init ! {Lp(p)} refl (tt, tt)) $"); k.line()
-        k.emit(f"rewrite ! {Lp(p)} (λ (p : ℕ). ‵ (fat fullShare tyPtr {ln(p)} 0 (vptr b p))) (sym (place-is 32 o i)) refl $"); k.line()
+        k.emit(f"rewrite ! {Lp(p)} (λ (p : ℕ). ‵ (fat fullShare tyPtr {ln(p)} 0 (vptr b p))) (sym (place-is {WIDTH} o i)) refl $"); k.line()
     place(6, 7, False)
     k.opn("elem-out ! T.the-row (Is T.the-row) (shows 𝓤 H A T.the-row) vals (LL.tells T.the-type T′.the-laws) fullShare ys i none b o inside (λ was."); k.c[0:1] = ["cell", "ownc", "others"]; k.line()
     gb = "(LL.owed T.the-type T′.the-laws y _ was .1 .1 .0 .1)"

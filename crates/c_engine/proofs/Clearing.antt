@@ -7,11 +7,11 @@ use lib.ListN.{length-replicate}
 use Rattle.chars.specs.Words.{Says}
 use Rattle.model.specs.declared.Answer.the-variants.{Done}
 use Rattle.model.specs.Calls.{cleared}
-use Rattle.tables.specs.Words.{deskOf, tablesOf}
+use Rattle.tables.specs.Words.{sheetLength, deskOf, tablesOf}
 use Rattle.tables.specs.Lent.{Long, Cleared, clearLent}
 use Rattle.tables_rules.proofs.whole.Parts.{is-blank, blank-tables}
-use Rattle.c_engine.specs.Lending.{deskIn, banksIn, EngineWords, tablesBy, Shaped, LongWords, Started, noWords, clearWords, ClearedWords}
-use Rattle.c_engine.proofs.Banks.{columns-long}
+use Rattle.c_engine.specs.Lending.{deskIn, banksLength, banksIn, EngineWords, tablesBy, Shaped, LongWords, Started, noWords, clearWords, ClearedWords}
+use Rattle.c_engine.proofs.Banks.{columns-long, waiting-long}
 
 no-desk : deskIn (noWords .desk) ≡ deskOf (cleared .state)
 unfolding noWords deskIn deskOf
@@ -23,8 +23,10 @@ no-tables =
     blank-tables (tablesBy noWords)
     (record { codes-none = is-blank 64 _ refl; flags-none = is-blank 64 _ refl; balances-none = is-blank 64 _ refl; sublimits-none = is-blank 64 _ refl })
     (record { batches-none = is-blank 11168 _ refl; references-none = is-blank 6144 _ refl; bins-none = is-blank 1536 _ refl })
+    (is-blank sheetLength _ refl)
 
-long-tables : (x : EngineWords) → LongWords x → Long (tablesBy x)
+-- rows of the right lengths are tables of the right lengths
+pub long-tables : (x : EngineWords) → LongWords x → Long (tablesBy x)
 long-tables x l =
     let c = columns-long (x .banks) (l .banks-long) in
     record {
@@ -35,6 +37,7 @@ long-tables x l =
       batches = l .batches-long;
       references = l .references-long;
       bins = l .bins-long;
+      sheet = waiting-long (x .banks) (l .banks-long);
     }
 
 pub cleared-as-seen : (x : EngineWords) (y : Started) → ClearedWords x y → y .number ≡ 0
@@ -53,5 +56,5 @@ unfolding clearWords noWords
 cleared-shaped x y c h = go (c .long) (c .is)
   where
     go : (k : Bool) → y ≡ clearWords k x → Shaped (y .words .desk) (y .words .banks)
-    go true e = rw e (record { desk-long = length-replicate {A = ℕ} 22 0; phase-right = omega arith; banks-long = length-replicate {A = ℕ} 256 0 })
+    go true e = rw e (record { desk-long = length-replicate {A = ℕ} 22 0; phase-right = omega arith; banks-long = length-replicate {A = ℕ} banksLength 0 })
     go false e = absurd (omega (arith, h, ap (λ (z : Started). z .number) e))

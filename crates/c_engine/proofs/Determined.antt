@@ -11,15 +11,15 @@ use Rattle.queue.proofs.MemoryLaws.{byBool}
 use Rattle.model.specs.Calls.{Asked}
 use Rattle.tables.proofs.Determined as rules
 use Rattle.tables.proofs.TestLaws.{says-once}
-use Rattle.c_engine.specs.Lending.{Words, lentIn, Returned, returned, Shaped, CalledWords, EngineWords, Started, LongWords, clearWords, ClearedWords}
+use Rattle.c_engine.specs.Lending.{banksLength, Words, lentIn, Returned, returned, Shaped, CalledWords, EngineWords, Started, LongWords, clearWords, ClearedWords}
 
 by-shape : {X : Type 0} (desk banks : List ℕ) → (Shaped desk banks → X) → ((Shaped desk banks → ⊥) → X) → X
 by-shape desk banks f g =
     byBool (eqb (length desk) 22)
     (λ e. byBool (leb (getD desk 0 0) 2)
-    (λ h. byBool (eqb (length banks) 256)
-    (λ k. f (record { desk-long = eqb-true (length desk) 22 e; phase-right = leb-true (getD desk 0 0) 2 h; banks-long = eqb-true (length banks) 256 k }))
-    (λ k. g (λ s. eqb-false (length banks) 256 k (s .banks-long))))
+    (λ h. byBool (eqb (length banks) banksLength)
+    (λ k. f (record { desk-long = eqb-true (length desk) 22 e; phase-right = leb-true (getD desk 0 0) 2 h; banks-long = eqb-true (length banks) banksLength k }))
+    (λ k. g (λ s. eqb-false (length banks) banksLength k (s .banks-long))))
     (λ h. g (λ s. omega (arith, s .phase-right, leb-false (getD desk 0 0) 2 h))))
     (λ e. g (λ s. eqb-false (length desk) 22 e (s .desk-long)))
 

@@ -18,7 +18,7 @@ use Rattle.model.specs.Calls.{Asked}
 use Rattle.queue.proofs.MemoryLaws.{byBool}
 use Rattle.tables.specs.declared.Desk.{Desk}
 use Rattle.tables.specs.Rows.{Tables}
-use Rattle.tables.specs.Moment.{lentWith}
+use Rattle.tables.specs.Moment.{lentOn}
 use Rattle.tables.specs.Lent.{Called}
 use Rattle.tables.proofs.TestLaws.{says-no, says-yes}
 use Rattle.call.specs.declared.step.Told.{Told}
@@ -26,25 +26,25 @@ use Rattle.call.specs.step.Stepping.{lentAs, leftAs}
 use Rattle.call_records.specs.Records.{tablesIn, Columns}
 use Rattle.call_records.proofs.Rows.{tables-in}
 use Rattle.call_records.proofs.Determined.{row-back}
-use Rattle.c_engine.specs.Lending.{deskIn, deskWords, banksIn, EngineWords, engineWords, Words, lentWords, actionBy, asks, Returned, Shaped, InShape, Shows, CalledWords, LongWords, noWords, clearWords, ClearedWords}
+use Rattle.c_engine.specs.Lending.{deskIn, deskWords, banksLength, banksIn, EngineWords, engineWords, Words, lentWords, actionBy, asks, Returned, Shaped, InShape, Shows, CalledWords, LongWords, noWords, clearWords, ClearedWords}
 use Rattle.c_engine.proofs.Banks.{bank-words-back}
 
 -- ---- a call on the banks' words is a call on their records
 
-module _ (d : Desk) (b codes flags balances sublimits t rs bs out r : List ℕ) (a : Asked) (n : Answer) (w k : ℕ) (d′ : Desk)
-    (b′ codes′ flags′ balances′ sublimits′ t′ rs′ bs′ out′ r′ : List ℕ) where
-  pub call-banks : Columns (banksIn b) codes flags balances sublimits
-      → Called (lentAs d (lentWith codes flags balances sublimits t rs bs) out r) a (leftAs n w k d′ (lentWith codes′ flags′ balances′ sublimits′ t′ rs′ bs′) out′ r′)
-      → Columns (banksIn b′) codes′ flags′ balances′ sublimits′
+module _ (d : Desk) (b codes flags balances sublimits t rs bs sheet out r : List ℕ) (a : Asked) (n : Answer) (w k : ℕ) (d′ : Desk)
+    (b′ codes′ flags′ balances′ sublimits′ t′ rs′ bs′ sheet′ out′ r′ : List ℕ) where
+  pub call-banks : Columns (banksIn b) codes flags balances sublimits sheet
+      → Called (lentAs d (lentOn codes flags balances sublimits t rs bs sheet) out r) a (leftAs n w k d′ (lentOn codes′ flags′ balances′ sublimits′ t′ rs′ bs′ sheet′) out′ r′)
+      → Columns (banksIn b′) codes′ flags′ balances′ sublimits′ sheet′
       → Called (lentAs d (tablesIn (banksIn b) t rs bs) out r) a (leftAs n w k d′ (tablesIn (banksIn b′) t′ rs′ bs′) out′ r′)
   call-banks x c y =
-      subst (λ (z : Tables). Called (lentAs d z out r) a (leftAs n w k d′ (tablesIn (banksIn b′) t′ rs′ bs′) out′ r′)) (tables-in (banksIn b) codes flags balances sublimits t rs bs x)
-      (subst (λ (z : Tables). Called (lentAs d (lentWith codes flags balances sublimits t rs bs) out r) a (leftAs n w k d′ z out′ r′)) (tables-in (banksIn b′) codes′ flags′ balances′ sublimits′ t′ rs′ bs′ y) c)
+      subst (λ (z : Tables). Called (lentAs d z out r) a (leftAs n w k d′ (tablesIn (banksIn b′) t′ rs′ bs′) out′ r′)) (tables-in (banksIn b) codes flags balances sublimits sheet t rs bs x)
+      (subst (λ (z : Tables). Called (lentAs d (lentOn codes flags balances sublimits t rs bs sheet) out r) a (leftAs n w k d′ z out′ r′)) (tables-in (banksIn b′) codes′ flags′ balances′ sublimits′ sheet′ t′ rs′ bs′ y) c)
 
 -- ---- and what it leaves stands in the words
 
 module _ (desk banks t rs bs out r report : List ℕ) (a : Asked) (d : Desk) (y : Told) (desk′ banks′ t′ rs′ bs′ out′ r′ report′ : List ℕ) (number : ℕ) where
-  pub shown : length banks′ ≡ 256 → d ≡ deskIn desk
+  pub shown : length banks′ ≡ banksLength → d ≡ deskIn desk
       → Called (lentAs d (tablesIn (banksIn banks) t rs bs) out r) a (leftAs (y .answer) (y .written) (y .tried) (y .desk) (tablesIn (banksIn banks′) t′ rs′ bs′) out′ r′)
       → desk′ ≡ deskWords (y .desk) → report′ ≡ sets report 0 (y .written ∷ y .tried ∷ []) → number ≡ answerNumber (y .answer)
       → Shows (lentWords desk banks t rs bs out r report) a (record { number = number; words = lentWords desk′ banks′ t′ rs′ bs′ out′ r′ report′ })
@@ -60,10 +60,10 @@ module _ (desk banks t rs bs out r report : List ℕ) (a : Asked) (d : Desk) (y 
 says-last : {P : Type 0} (m n : ℕ) → (m ≡ n → P) → (P → m ≡ n) → Says P (eqb m n)
 says-last m n f g = byBool (eqb m n) (λ e. rw e (f (eqb-true m n e))) (λ e. rw e (λ p. eqb-false m n e (g p)))
 
-pub shape-last : (desk banks : List ℕ) → length desk ≡ 22 → getD desk 0 0 ≤ 2 → Says (Shaped desk banks) (eqb (length banks) 256)
-shape-last desk banks k l = says-last (length banks) 256 (λ e. record { desk-long = k; phase-right = l; banks-long = e }) (λ s. s .banks-long)
+pub shape-last : (desk banks : List ℕ) → length desk ≡ 22 → getD desk 0 0 ≤ 2 → Says (Shaped desk banks) (eqb (length banks) banksLength)
+shape-last desk banks k l = says-last (length banks) banksLength (λ e. record { desk-long = k; phase-right = l; banks-long = e }) (λ s. s .banks-long)
 
-pub rows-last : (desk banks batches references bins : List ℕ) → length desk ≡ 22 → length banks ≡ 256 → length batches ≡ 11168 → length references ≡ 6144
+pub rows-last : (desk banks batches references bins : List ℕ) → length desk ≡ 22 → length banks ≡ banksLength → length batches ≡ 11168 → length references ≡ 6144
     → Says (LongWords (engineWords desk banks batches references bins)) (eqb (length bins) 1536)
 rows-last desk banks batches references bins k l m n =
     says-last (length bins) 1536 (λ e. record { desk-long = k; banks-long = l; batches-long = m; references-long = n; bins-long = e }) (λ s. s .bins-long)
@@ -110,7 +110,7 @@ module _ (desk banks batches references bins : List ℕ) (b : Bool) (s : Says (L
         says = l;
         is = rw (
           zeroed 22 desk desk′ (l .desk-long) e₁,
-          zeroed 256 banks banks′ (l .banks-long) e₂,
+          zeroed banksLength banks banks′ (l .banks-long) e₂,
           zeroed 11168 batches batches′ (l .batches-long) e₃,
           zeroed 6144 references references′ (l .references-long) e₄,
           zeroed 1536 bins bins′ (l .bins-long) e₅,

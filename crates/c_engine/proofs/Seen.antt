@@ -13,6 +13,7 @@ use Rattle.model.specs.Calls.{Asked}
 use Rattle.tables.specs.declared.Desk.{Desk}
 use Rattle.tables.specs.House.{Lengths}
 use Rattle.tables.specs.Rows.{Tables}
+use Rattle.tables.specs.Words.{sheetLength}
 use Rattle.tables.specs.Lent.{Right, Lent, Left, Called, callLent}
 use Rattle.tables.proofs.Kept.{right-long, right-left}
 use Rattle.tables_rules.specs.whole.TableRules.{TablesIn}
@@ -21,28 +22,32 @@ use Rattle.call_records.specs.declared.Account.{Account}
 use Rattle.call_records.specs.Records.{tablesIn, Columns, rowOf, rowIn}
 use Rattle.call_records.proofs.Rows.{tables-in}
 use Rattle.c_engine.specs.Lending.{deskIn, deskWords, Words, lentIn, Returned, returned, InShape, CalledWords, seenWith, Seen}
-use Rattle.c_engine.proofs.Banks.{banks-back, bank-words-long, columns-long}
+use Rattle.c_engine.proofs.Banks.{banks-back, bank-words-long, columns-long, waiting-long}
 use Rattle.c_engine.proofs.Desks.{phase-small, streams-long, desk-back}
 
--- ---- four columns of one length are the columns of their row
+-- ---- five columns of one length are the columns of their row
 
-columns-back : (codes flags balances sublimits : List ℕ) → length flags ≡ length codes → length balances ≡ length codes → length sublimits ≡ length codes
-    → Columns (rowOf codes flags balances sublimits) codes flags balances sublimits
+columns-back : (codes flags balances sublimits sheet : List ℕ)
+    → length flags ≡ length codes → length balances ≡ length codes → length sublimits ≡ length codes → length sheet ≡ length codes
+    → Columns (rowOf codes flags balances sublimits sheet) codes flags balances sublimits sheet
 unfolding rowOf
-columns-back [] [] [] [] h k m = record { codes-are = refl; flags-are = refl; balances-are = refl; sublimits-are = refl }
-columns-back [] [] [] (l ∷ ls) h k m = absurd (omega arith)
-columns-back [] [] (b ∷ bs) ls h k m = absurd (omega arith)
-columns-back [] (f ∷ fs) bs ls h k m = absurd (omega arith)
-columns-back (c ∷ cs) [] bs ls h k m = absurd (omega arith)
-columns-back (c ∷ cs) (f ∷ fs) [] ls h k m = absurd (omega arith)
-columns-back (c ∷ cs) (f ∷ fs) (b ∷ bs) [] h k m = absurd (omega arith)
-columns-back (c ∷ cs) (f ∷ fs) (b ∷ bs) (l ∷ ls) h k m =
-    let r = columns-back cs fs bs ls (omega arith) (omega arith) (omega arith) in
+columns-back [] [] [] [] [] h k m n = record { codes-are = refl; flags-are = refl; balances-are = refl; sublimits-are = refl; sheet-are = refl }
+columns-back [] [] [] [] (s ∷ ss) h k m n = absurd (omega arith)
+columns-back [] [] [] (l ∷ ls) ss h k m n = absurd (omega arith)
+columns-back [] [] (b ∷ bs) ls ss h k m n = absurd (omega arith)
+columns-back [] (f ∷ fs) bs ls ss h k m n = absurd (omega arith)
+columns-back (c ∷ cs) [] bs ls ss h k m n = absurd (omega arith)
+columns-back (c ∷ cs) (f ∷ fs) [] ls ss h k m n = absurd (omega arith)
+columns-back (c ∷ cs) (f ∷ fs) (b ∷ bs) [] ss h k m n = absurd (omega arith)
+columns-back (c ∷ cs) (f ∷ fs) (b ∷ bs) (l ∷ ls) [] h k m n = absurd (omega arith)
+columns-back (c ∷ cs) (f ∷ fs) (b ∷ bs) (l ∷ ls) (s ∷ ss) h k m n =
+    let r = columns-back cs fs bs ls ss (omega arith) (omega arith) (omega arith) (omega arith) in
     record {
       codes-are = ap (λ (z : List ℕ). c ∷ z) (r .codes-are);
       flags-are = ap (λ (z : List ℕ). f ∷ z) (r .flags-are);
       balances-are = ap (λ (z : List ℕ). b ∷ z) (r .balances-are);
       sublimits-are = ap (λ (z : List ℕ). l ∷ z) (r .sublimits-are);
+      sheet-are = ap (λ (z : List ℕ). s ∷ z) (r .sheet-are);
     }
 
 -- ---- what a call leaves fits its words
@@ -50,6 +55,7 @@ columns-back (c ∷ cs) (f ∷ fs) (b ∷ bs) (l ∷ ls) h k m =
 record Fitting (l : Lent) : Type 0 where
   streams : length (l .desk .streams) ≡ 16
   columns : Lengths (l .tables .codes) (l .tables .flags) (l .tables .balances) (l .tables .sublimits)
+  sheet : length (l .tables .sheet) ≡ sheetLength
 
 right-streams : (d : Desk) (t : Tables) → Right d t → length (d .streams) ≡ 16
 right-streams d t r = go (d .phase) (tables-exact d t .back r)
@@ -62,7 +68,7 @@ right-streams d t r = go (d .phase) (tables-exact d t .back r)
 module _ (x : Words) (a : Asked) (shape : InShape x) where
   lent-fits : Fitting (lentIn x)
   unfolding deskIn
-  lent-fits = record { streams = streams-long (x .engine .desk) (shape .desk-long); columns = columns-long (x .engine .banks) (shape .banks-long) }
+  lent-fits = record { streams = streams-long (x .engine .desk) (shape .desk-long); columns = columns-long (x .engine .banks) (shape .banks-long); sheet = waiting-long (x .engine .banks) (shape .banks-long) }
 
   left-fits : (y : Left) → Called (lentIn x) a y → Fitting (y .lent)
   unfolding callLent
@@ -75,19 +81,21 @@ module _ (x : Words) (a : Asked) (shape : InShape x) where
           record {
             streams = right-streams (y .lent .desk) (y .lent .tables) q;
             columns = record { codes-long = l .codes; flags-long = l .flags; balances-long = l .balances; sublimits-long = l .sublimits };
+            sheet = l .sheet;
           }
       go false r e = subst (λ (z : Left). Fitting (z .lent)) (sym e) lent-fits
 
 -- ---- and is read back from them
 
-row-columns : (t : Tables) → Lengths (t .codes) (t .flags) (t .balances) (t .sublimits) → Columns (rowIn t) (t .codes) (t .flags) (t .balances) (t .sublimits)
-row-columns t l = columns-back (t .codes) (t .flags) (t .balances) (t .sublimits) (omega arith) (omega arith) (omega arith)
+row-columns : (t : Tables) → Lengths (t .codes) (t .flags) (t .balances) (t .sublimits) → length (t .sheet) ≡ sheetLength
+    → Columns (rowIn t) (t .codes) (t .flags) (t .balances) (t .sublimits) (t .sheet)
+row-columns t l s = columns-back (t .codes) (t .flags) (t .balances) (t .sublimits) (t .sheet) (omega arith) (omega arith) (omega arith) (omega arith)
 
 lent-back : (x : Words) (y : Left) → Fitting (y .lent) → lentIn (returned x y .words) ≡ y .lent
 lent-back x y f =
     let t = y .lent .tables in
     let e : tablesIn (rowIn t) (t .batches) (t .references) (t .bins) ≡ t =
-    sym (tables-in (rowIn t) (t .codes) (t .flags) (t .balances) (t .sublimits) (t .batches) (t .references) (t .bins) (row-columns t (f .columns)))
+    sym (tables-in (rowIn t) (t .codes) (t .flags) (t .balances) (t .sublimits) (t .sheet) (t .batches) (t .references) (t .bins) (row-columns t (f .columns) (f .sheet)))
     in
     rw (desk-back (y .lent .desk) (f .streams), banks-back (rowIn t), e)
 
@@ -102,7 +110,7 @@ left-shaped : (x : Words) (y : Left) → Fitting (y .lent) → InShape (returned
 unfolding deskWords
 left-shaped x y f =
     let t = y .lent .tables in
-    let l : length (rowIn t) ≡ 64 = sym (length-map (rowIn t) (λ (b : Account). b .code)) ∙ sym (ap length (row-columns t (f .columns) .codes-are)) ∙ f .columns .codes-long in
+    let l : length (rowIn t) ≡ 64 = sym (length-map (rowIn t) (λ (b : Account). b .code)) ∙ sym (ap length (row-columns t (f .columns) (f .sheet) .codes-are)) ∙ f .columns .codes-long in
     record {
       desk-long = omega (arith, f .streams);
       phase-right = phase-small (y .lent .desk .phase);

@@ -51,18 +51,23 @@ deskIn w = record {
 unfoldable pub deskWords : Desk → List ℕ
 deskWords d = phaseWord (d .phase) ∷ d .date ∷ d .clock ∷ d .texts ∷ d .banks ∷ d .n ∷ d .streams
 
--- ---- the banks: four words a record, code, flags, balance and sub-limit
+-- ---- the banks: five words a record, code, flags, balance, sub-limit and what waits
+
+-- 64 times five words
+abbrev pub banksLength : ℕ
+banksLength = 320
 
 unfoldable pub banksIn : List ℕ → List Account
 banksIn [] = []
 banksIn (a ∷ []) = []
 banksIn (a ∷ b ∷ []) = []
 banksIn (a ∷ b ∷ c ∷ []) = []
-banksIn (a ∷ b ∷ c ∷ d ∷ w) = record { code = a; flags = b; balance = c; sublimit = d } ∷ banksIn w
+banksIn (a ∷ b ∷ c ∷ d ∷ []) = []
+banksIn (a ∷ b ∷ c ∷ d ∷ e ∷ w) = record { code = a; flags = b; balance = c; sublimit = d; waiting = e } ∷ banksIn w
 
 unfoldable pub bankWords : List Account → List ℕ
 bankWords [] = []
-bankWords (a ∷ row) = a .code ∷ a .flags ∷ a .balance ∷ a .sublimit ∷ bankWords row
+bankWords (a ∷ row) = a .code ∷ a .flags ∷ a .balance ∷ a .sublimit ∷ a .waiting ∷ bankWords row
 
 -- ---- all that is lent
 
@@ -141,7 +146,7 @@ unchanged r x = record {
 pub record Shaped (desk banks : List ℕ) : Type 0 where
   pub desk-long : length desk ≡ 22
   pub phase-right : getD desk 0 0 ≤ 2
-  pub banks-long : length banks ≡ 256
+  pub banks-long : length banks ≡ banksLength
 
 abbrev pub InShape : Words → Type 0
 InShape x = Shaped (x .engine .desk) (x .engine .banks)
@@ -170,7 +175,7 @@ pub record Seen (x : Words) (a : Asked) (y : Returned) : Type 0 where
 
 pub record LongWords (e : EngineWords) : Type 0 where
   pub desk-long : length (e .desk) ≡ 22
-  pub banks-long : length (e .banks) ≡ 256
+  pub banks-long : length (e .banks) ≡ banksLength
   pub batches-long : length (e .batches) ≡ tableLength
   pub references-long : length (e .references) ≡ 6144
   pub bins-long : length (e .bins) ≡ 1536
@@ -180,7 +185,7 @@ pub record Started : Type 0 where
   pub words : EngineWords
 
 unfoldable pub noWords : EngineWords
-noWords = engineWords (replicate 22 0) (replicate 256 0) (replicate tableLength 0) (replicate 6144 0) (replicate 1536 0)
+noWords = engineWords (replicate 22 0) (replicate banksLength 0) (replicate tableLength 0) (replicate 6144 0) (replicate 1536 0)
 
 unfoldable pub clearWords : Bool → EngineWords → Started
 clearWords long e = cond long (record { number = 0; words = noWords }) (record { number = numberOf BrokenTables; words = e })

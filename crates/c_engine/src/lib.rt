@@ -13,10 +13,13 @@ ghost use lib.ListN.{length, take, drop};
 ghost use lib.Seq.{sets};
 ghost use Rattle.chars.specs.Words.{Says};
 ghost use Rattle.tables.specs.House.{Lengths};
+ghost use Rattle.tables.specs.Words.{sheetLength};
 ghost use Rattle.tables.specs.Lent.{Called};
 ghost use Rattle.call.specs.step.Stepping.{lentAs, leftAs};
 ghost use Rattle.call_records.specs.Records.{tablesIn, Columns};
-ghost use Rattle.c_engine.specs.Lending.{phaseBy, phaseWord, deskIn, deskWords, banksIn, engineWords, lentWords, actionBy, asks, Shaped, Shows, CalledWords, LongWords, ClearedWords};
+ghost use Rattle.c_engine.specs.Lending.{phaseBy, phaseWord, deskIn, deskWords};
+ghost use Rattle.c_engine.specs.Lending.{banksLength, banksIn, engineWords, lentWords, actionBy, asks};
+ghost use Rattle.c_engine.specs.Lending.{Shaped, Shows, CalledWords, LongWords, ClearedWords};
 
 // Words of the desk, and which is which: streams in use, and where the streams begin.
 pub const DESK_WORDS: usize = 22;
@@ -49,7 +52,7 @@ pub const PHASE_CLOSED: u64 = 2;
 // Banks at the most, words of each, and which is which.
 pub const BANKS: usize = 64;
 
-pub const BANK_WORDS: usize = 4;
+pub const BANK_WORDS: usize = 5;
 
 pub const BANK_CODE: usize = 0;
 
@@ -58,6 +61,8 @@ pub const BANK_FLAGS: usize = 1;
 pub const BANK_BALANCE: usize = 2;
 
 pub const BANK_SUBLIMIT: usize = 3;
+
+pub const BANK_WAITING: usize = 4;
 
 // Batches, references and BINs at the most, and words of each.
 pub const BATCHES: usize = 32;
@@ -172,17 +177,20 @@ fn write_desk(desk: &mut [u64], left: Desk)
     desk[DESK_STREAMS] = left.n as u64;
 }
 
-// The banks, read into four columns.
+// The banks, read into five columns.
 fn load(
     banks: &[u64],
     codes: &mut [u64],
     flags: &mut [u64],
     balances: &mut [u64],
     sublimits: &mut [u64],
+    sheet: &mut [u64],
 )
-    requires { ⌜ length (now banks) ≡ 256 ⌝ }
+    requires { ⌜ length (now banks) ≡ banksLength ⌝ }
     requires { ⌜ Lengths (now codes) (now flags) (now balances) (now sublimits) ⌝ }
-    ensures { λ _. ⌜ Columns (banksIn (now (banks .entry))) (now (codes .exit)) (now (flags .exit)) (now (balances .exit)) (now (sublimits .exit)) ⌝ }
+    requires { ⌜ length (now sheet) ≡ sheetLength ⌝ }
+    ensures { λ _. ⌜ Columns (banksIn (now (banks .entry)))
+        (now (codes .exit)) (now (flags .exit)) (now (balances .exit)) (now (sublimits .exit)) (now (sheet .exit)) ⌝ }
 {
     let mut i = 0;
     while i < BANKS {
@@ -191,15 +199,25 @@ fn load(
         flags[i] = banks[bank + BANK_FLAGS];
         balances[i] = banks[bank + BANK_BALANCE];
         sublimits[i] = banks[bank + BANK_SUBLIMIT];
+        sheet[i] = banks[bank + BANK_WAITING];
         i += 1;
     }
 }
 
 // The columns, stored back into the banks.
-fn save(banks: &mut [u64], codes: &[u64], flags: &[u64], balances: &[u64], sublimits: &[u64])
-    requires { ⌜ length (now banks) ≡ 256 ⌝ }
+fn save(
+    banks: &mut [u64],
+    codes: &[u64],
+    flags: &[u64],
+    balances: &[u64],
+    sublimits: &[u64],
+    sheet: &[u64],
+)
+    requires { ⌜ length (now banks) ≡ banksLength ⌝ }
     requires { ⌜ Lengths (now codes) (now flags) (now balances) (now sublimits) ⌝ }
-    ensures { λ _. ⌜ Columns (banksIn (now (banks .exit))) (now (codes .entry)) (now (flags .entry)) (now (balances .entry)) (now (sublimits .entry)) ⌝ }
+    requires { ⌜ length (now sheet) ≡ sheetLength ⌝ }
+    ensures { λ _. ⌜ Columns (banksIn (now (banks .exit)))
+        (now (codes .entry)) (now (flags .entry)) (now (balances .entry)) (now (sublimits .entry)) (now (sheet .entry)) ⌝ }
 {
     let mut i = 0;
     while i < BANKS {
@@ -208,6 +226,7 @@ fn save(banks: &mut [u64], codes: &[u64], flags: &[u64], balances: &[u64], subli
         banks[bank + BANK_FLAGS] = flags[i];
         banks[bank + BANK_BALANCE] = balances[i];
         banks[bank + BANK_SUBLIMIT] = sublimits[i];
+        banks[bank + BANK_WAITING] = sheet[i];
         i += 1;
     }
 }
@@ -226,14 +245,28 @@ fn call_banks(
     out: &mut [u8],
     tries: &mut [u64],
 ) -> Told
-    requires { ⌜ length (now banks) ≡ 256 ⌝ }
-    ensures { λ y. ⌜ Called (lentAs desk (tablesIn (banksIn (now (banks .entry))) (now (batches .entry)) (now (references .entry)) (now (bins .entry))) (now (out .entry)) (now (tries .entry))) (record { quick = quick; clock = clock; action = action; input = now (input .entry) }) (leftAs (y .answer) (y .written) (y .tried) (y .desk) (tablesIn (banksIn (now (banks .exit))) (now (batches .exit)) (now (references .exit)) (now (bins .exit))) (now (out .exit)) (now (tries .exit))) ⌝ }
+    requires { ⌜ length (now banks) ≡ banksLength ⌝ }
+    ensures { λ y. ⌜ Called
+        (lentAs desk (tablesIn (banksIn (now (banks .entry))) (now (batches .entry)) (now (references .entry)) (now (bins .entry)))
+        (now (out .entry)) (now (tries .entry)))
+        (record { quick = quick; clock = clock; action = action; input = now (input .entry) })
+        (leftAs (y .answer) (y .written) (y .tried) (y .desk)
+        (tablesIn (banksIn (now (banks .exit))) (now (batches .exit)) (now (references .exit)) (now (bins .exit)))
+        (now (out .exit)) (now (tries .exit))) ⌝ }
 {
     let mut codes = [0u64; 64];
     let mut flags = [0u64; 64];
     let mut balances = [0u64; 64];
     let mut sublimits = [0u64; 64];
-    load(banks, &mut codes, &mut flags, &mut balances, &mut sublimits);
+    let mut sheet = [0u64; 64];
+    load(
+        banks,
+        &mut codes,
+        &mut flags,
+        &mut balances,
+        &mut sublimits,
+        &mut sheet,
+    );
     let told = call::entry::call(
         quick,
         clock,
@@ -247,10 +280,11 @@ fn call_banks(
         batches,
         references,
         bins,
+        &mut sheet,
         out,
         tries,
     );
-    save(banks, &codes, &flags, &balances, &sublimits);
+    save(banks, &codes, &flags, &balances, &sublimits, &sheet);
     told
 }
 
@@ -279,7 +313,16 @@ fn call_on(
 ) -> u64
     requires { ⌜ Shaped (now desk) (now banks) ⌝ }
     requires { ⌜ 2 ≤ length (now report) ⌝ }
-    ensures { λ r. ⌜ Shows (lentWords (now (desk .entry)) (now (banks .entry)) (now (batches .entry)) (now (references .entry)) (now (bins .entry)) (now (out .entry)) (now (tries .entry)) (now (report .entry))) (record { quick = quick; clock = clock; action = action; input = now (input .entry) }) (record { number = r; words = lentWords (now (desk .exit)) (now (banks .exit)) (now (batches .exit)) (now (references .exit)) (now (bins .exit)) (now (out .exit)) (now (tries .exit)) (now (report .exit)) }) ⌝ }
+    ensures { λ r. ⌜ Shows
+        (lentWords (now (desk .entry)) (now (banks .entry)) (now (batches .entry)) (now (references .entry)) (now (bins .entry))
+        (now (out .entry)) (now (tries .entry)) (now (report .entry)))
+        (record { quick = quick; clock = clock; action = action; input = now (input .entry) })
+        (record {
+          number = r;
+          words =
+              lentWords (now (desk .exit)) (now (banks .exit)) (now (batches .exit)) (now (references .exit)) (now (bins .exit))
+              (now (out .exit)) (now (tries .exit)) (now (report .exit));
+        }) ⌝ }
 {
     let before = read_desk(desk);
     let told = call_banks(
@@ -366,7 +409,16 @@ pub extern "C" fn purmagheli_call_rows(
     tries: &mut [u64],
     report: &mut [u64],
 ) -> u64
-    ensures { λ r. ⌜ CalledWords (lentWords (now (desk .entry)) (now (banks .entry)) (now (batches .entry)) (now (references .entry)) (now (bins .entry)) (now (out .entry)) (now (tries .entry)) (now (report .entry))) (asks quick clock action first second third fourth (now (input .entry))) (record { number = r; words = lentWords (now (desk .exit)) (now (banks .exit)) (now (batches .exit)) (now (references .exit)) (now (bins .exit)) (now (out .exit)) (now (tries .exit)) (now (report .exit)) }) ⌝ }
+    ensures { λ r. ⌜ CalledWords
+        (lentWords (now (desk .entry)) (now (banks .entry)) (now (batches .entry)) (now (references .entry)) (now (bins .entry))
+        (now (out .entry)) (now (tries .entry)) (now (report .entry)))
+        (asks quick clock action first second third fourth (now (input .entry)))
+        (record {
+          number = r;
+          words =
+              lentWords (now (desk .exit)) (now (banks .exit)) (now (batches .exit)) (now (references .exit)) (now (bins .exit))
+              (now (out .exit)) (now (tries .exit)) (now (report .exit));
+        }) ⌝ }
 {
     if report.len() < REPORT_WORDS {
         return Refusal::ShortBuffer.number();
@@ -392,7 +444,8 @@ pub extern "C" fn purmagheli_call_rows(
 }
 
 fn rows_long(desk: &[u64], banks: &[u64], batches: &[u64], references: &[u64], bins: &[u64]) -> bool
-    ensures { λ r. ⌜ Says (LongWords (engineWords (now (desk .entry)) (now (banks .entry)) (now (batches .entry)) (now (references .entry)) (now (bins .entry)))) r ⌝ }
+    ensures { λ r. ⌜ Says (LongWords
+        (engineWords (now (desk .entry)) (now (banks .entry)) (now (batches .entry)) (now (references .entry)) (now (bins .entry)))) r ⌝ }
 {
     if desk.len() != DESK_WORDS {
         return false;
@@ -418,7 +471,13 @@ pub extern "C" fn purmagheli_clear_rows(
     references: &mut [u64],
     bins: &mut [u64],
 ) -> u64
-    ensures { λ r. ⌜ ClearedWords (engineWords (now (desk .entry)) (now (banks .entry)) (now (batches .entry)) (now (references .entry)) (now (bins .entry))) (record { number = r; words = engineWords (now (desk .exit)) (now (banks .exit)) (now (batches .exit)) (now (references .exit)) (now (bins .exit)) }) ⌝ }
+    ensures { λ r. ⌜ ClearedWords
+        (engineWords (now (desk .entry)) (now (banks .entry)) (now (batches .entry)) (now (references .entry)) (now (bins .entry)))
+        (record {
+          number = r;
+          words =
+              engineWords (now (desk .exit)) (now (banks .exit)) (now (batches .exit)) (now (references .exit)) (now (bins .exit));
+        }) ⌝ }
 {
     if !rows_long(desk, banks, batches, references, bins) {
         return Refusal::BrokenTables.number();

@@ -3,7 +3,7 @@ ghost use mathlib.Core.Path.{_≡_};
 ghost use Rattle.c_version.specs.Version.{version};
 
 // It rises with every change that a program in C can see.
-pub const VERSION: u64 = 1;
+pub const VERSION: u64 = 2;
 
 // The version of the archive: a program compares it with PURMAGHELI_VERSION of the header that it was compiled with.
 #[no_mangle]

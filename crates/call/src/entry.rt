@@ -10,7 +10,7 @@ ghost use lib.ListN.{length};
 ghost use Rattle.model.specs.declared.Answer.the-variants.{Refused};
 ghost use Rattle.model.specs.Kinds.{kindOf};
 ghost use Rattle.model.specs.Calls.{performed};
-ghost use Rattle.tables.specs.Moment.{callFor, lentWith};
+ghost use Rattle.tables.specs.Moment.{callFor, lentOn};
 ghost use Rattle.tables.specs.Rows.{engineIn};
 ghost use Rattle.tables.specs.Lent.{leftBy, Called};
 ghost use Rattle.call.specs.step.Stepping.{lentAs, leftAs};
@@ -63,11 +63,25 @@ fn perform(
     batches: &mut [u64],
     references: &mut [u64],
     bins: &mut [u64],
+    sheet: &mut [u64],
     out: &mut [u8],
     tries: &mut [u64],
 ) -> Told
-    requires { ⌜ Performable desk (lentWith (now codes) (now flags) (now balances) (now sublimits) (now batches) (now references) (now bins)) clock action (now out) (now tries) ⌝ }
-    ensures { λ y. ⌜ leftAs (y .answer) (y .written) (y .tried) (y .desk) (lentWith (now (codes .exit)) (now (flags .exit)) (now (balances .exit)) (now (sublimits .exit)) (now (batches .exit)) (now (references .exit)) (now (bins .exit))) (now (out .exit)) (now (tries .exit)) ≡ leftBy (lentAs desk (lentWith (now (codes .entry)) (now (flags .entry)) (now (balances .entry)) (now (sublimits .entry)) (now (batches .entry)) (now (references .entry)) (now (bins .entry))) (now (out .entry)) (now (tries .entry))) (performed (kindOf action) (engineIn desk (lentWith (now (codes .entry)) (now (flags .entry)) (now (balances .entry)) (now (sublimits .entry)) (now (batches .entry)) (now (references .entry)) (now (bins .entry)))) (callFor quick clock action (now (input .entry)) (length (now (out .entry))) (length (now (tries .entry))))) ⌝ }
+    requires { ⌜ Performable desk
+        (lentOn (now codes) (now flags) (now balances) (now sublimits) (now batches) (now references) (now bins) (now sheet))
+        clock action (now out) (now tries) ⌝ }
+    ensures { λ y. ⌜ leftAs (y .answer) (y .written) (y .tried) (y .desk)
+        (lentOn (now (codes .exit)) (now (flags .exit)) (now (balances .exit)) (now (sublimits .exit))
+        (now (batches .exit)) (now (references .exit)) (now (bins .exit)) (now (sheet .exit)))
+        (now (out .exit)) (now (tries .exit))
+        ≡ leftBy (lentAs desk
+        (lentOn (now (codes .entry)) (now (flags .entry)) (now (balances .entry)) (now (sublimits .entry))
+        (now (batches .entry)) (now (references .entry)) (now (bins .entry)) (now (sheet .entry)))
+        (now (out .entry)) (now (tries .entry)))
+        (performed (kindOf action) (engineIn desk
+        (lentOn (now (codes .entry)) (now (flags .entry)) (now (balances .entry)) (now (sublimits .entry))
+        (now (batches .entry)) (now (references .entry)) (now (bins .entry)) (now (sheet .entry))))
+        (callFor quick clock action (now (input .entry)) (length (now (out .entry))) (length (now (tries .entry))))) ⌝ }
 {
     let kind = kind_of(action);
     match kind {
@@ -82,22 +96,26 @@ fn perform(
                 desk: opened,
             }
         }
-        Kind::Steps => crate::step::step(
-            quick,
-            clock,
-            action,
-            input,
-            desk,
-            codes,
-            flags,
-            balances,
-            sublimits,
-            batches,
-            references,
-            bins,
-            out,
-            tries,
-        ),
+        Kind::Steps => {
+            let told = crate::step::step(
+                quick,
+                clock,
+                action,
+                input,
+                desk,
+                codes,
+                flags,
+                balances,
+                sublimits,
+                batches,
+                references,
+                bins,
+                out,
+                tries,
+            );
+            tables_sheet::fill(batches, sheet);
+            told
+        }
         Kind::Gives(date) => {
             let written = call_day::give_book(desk, codes, flags, balances, sublimits, date, out);
             let moved = tables::moment::moved(desk, clock);
@@ -125,12 +143,22 @@ pub fn call(
     batches: &mut [u64],
     references: &mut [u64],
     bins: &mut [u64],
+    sheet: &mut [u64],
     out: &mut [u8],
     tries: &mut [u64],
 ) -> Told
-    ensures { λ y. ⌜ Called (lentAs desk (lentWith (now (codes .entry)) (now (flags .entry)) (now (balances .entry)) (now (sublimits .entry)) (now (batches .entry)) (now (references .entry)) (now (bins .entry))) (now (out .entry)) (now (tries .entry))) (record { quick = quick; clock = clock; action = action; input = now (input .entry) }) (leftAs (y .answer) (y .written) (y .tried) (y .desk) (lentWith (now (codes .exit)) (now (flags .exit)) (now (balances .exit)) (now (sublimits .exit)) (now (batches .exit)) (now (references .exit)) (now (bins .exit))) (now (out .exit)) (now (tries .exit))) ⌝ }
+    ensures { λ y. ⌜ Called
+        (lentAs desk
+        (lentOn (now (codes .entry)) (now (flags .entry)) (now (balances .entry)) (now (sublimits .entry))
+        (now (batches .entry)) (now (references .entry)) (now (bins .entry)) (now (sheet .entry)))
+        (now (out .entry)) (now (tries .entry)))
+        (record { quick = quick; clock = clock; action = action; input = now (input .entry) })
+        (leftAs (y .answer) (y .written) (y .tried) (y .desk)
+        (lentOn (now (codes .exit)) (now (flags .exit)) (now (balances .exit)) (now (sublimits .exit))
+        (now (batches .exit)) (now (references .exit)) (now (bins .exit)) (now (sheet .exit)))
+        (now (out .exit)) (now (tries .exit))) ⌝ }
 {
-    if !tables_rules::whole::tables_right(
+    if !tables_sheet::tables_right(
         desk,
         codes,
         flags,
@@ -139,6 +167,7 @@ pub fn call(
         batches,
         references,
         bins,
+        sheet,
     ) {
         return refused(Refusal::BrokenTables, desk);
     }
@@ -158,6 +187,7 @@ pub fn call(
             batches,
             references,
             bins,
+            sheet,
             out,
             tries,
         ),

@@ -5,7 +5,7 @@ use mathlib.Core.List.{List}
 use Rattle.model.specs.declared.Answer.{Answer}
 use Rattle.tables.specs.declared.Desk.{Desk}
 use Rattle.tables.specs.Rows.{Tables}
-use Rattle.tables.specs.Moment.{lentWith}
+use Rattle.tables.specs.Moment.{lentOn}
 use Rattle.tables.specs.Lent.{Asked, Called, Cleared}
 use Rattle.call.specs.declared.step.Told.{Told}
 use Rattle.call.specs.step.Stepping.{lentAs, leftAs}
@@ -16,31 +16,32 @@ use Rattle.call_columns.specs.declared.RowStart.{RowStart}
 use Rattle.call_records.specs.Records.{tablesIn, Columns}
 use Rattle.call_records.proofs.Rows.{tables-in}
 
-module _ (d : Desk) (row : List Account) (codes flags balances sublimits t rs bs codes′ flags′ balances′ sublimits′ t′ rs′ bs′ : List ℕ) where
+module _ (d : Desk) (row : List Account)
+    (codes flags balances sublimits t rs bs sheet codes′ flags′ balances′ sublimits′ t′ rs′ bs′ sheet′ : List ℕ) where
   abbrev before : Tables
-  before = lentWith codes flags balances sublimits t rs bs
+  before = lentOn codes flags balances sublimits t rs bs sheet
 
   abbrev after : Tables
-  after = lentWith codes′ flags′ balances′ sublimits′ t′ rs′ bs′
+  after = lentOn codes′ flags′ balances′ sublimits′ t′ rs′ bs′ sheet′
 
-  pub call-columns : (out r out′ r′ : List ℕ) (a : Asked) (left : RowTold) → Columns row codes flags balances sublimits
+  pub call-columns : (out r out′ r′ : List ℕ) (a : Asked) (left : RowTold) → Columns row codes flags balances sublimits sheet
       → Called (lentAs d (tablesIn row t rs bs) out r) a
       (leftAs (left .told .answer) (left .told .written) (left .told .tried) (left .told .desk) (tablesIn (left .row) t′ rs′ bs′) out′ r′)
-      → Columns (left .row) codes′ flags′ balances′ sublimits′
+      → Columns (left .row) codes′ flags′ balances′ sublimits′ sheet′
       → Called (lentAs d before out r) a (leftAs (left .told .answer) (left .told .written) (left .told .tried) (left .told .desk) after out′ r′)
   call-columns out r out′ r′ a left x c y =
       let y₀ = left .told in
       subst (λ (z : Tables). Called (lentAs d z out r) a (leftAs (y₀ .answer) (y₀ .written) (y₀ .tried) (y₀ .desk) after out′ r′))
-      (sym (tables-in row codes flags balances sublimits t rs bs x))
+      (sym (tables-in row codes flags balances sublimits sheet t rs bs x))
       (subst (λ (z : Tables). Called (lentAs d (tablesIn row t rs bs) out r) a (leftAs (y₀ .answer) (y₀ .written) (y₀ .tried) (y₀ .desk) z out′ r′))
-      (sym (tables-in (left .row) codes′ flags′ balances′ sublimits′ t′ rs′ bs′ y)) c)
+      (sym (tables-in (left .row) codes′ flags′ balances′ sublimits′ sheet′ t′ rs′ bs′ y)) c)
 
-  pub clear-columns : (left : RowStart) → Columns row codes flags balances sublimits
+  pub clear-columns : (left : RowStart) → Columns row codes flags balances sublimits sheet
       → Cleared d (tablesIn row t rs bs) (record { answer = left .start .answer; desk = left .start .desk; tables = tablesIn (left .row) t′ rs′ bs′ })
-      → Columns (left .row) codes′ flags′ balances′ sublimits′
+      → Columns (left .row) codes′ flags′ balances′ sublimits′ sheet′
       → Cleared d before (record { answer = left .start .answer; desk = left .start .desk; tables = after })
   clear-columns left x c y =
       subst (λ (z : Tables). Cleared d z (record { answer = left .start .answer; desk = left .start .desk; tables = after }))
-      (sym (tables-in row codes flags balances sublimits t rs bs x))
+      (sym (tables-in row codes flags balances sublimits sheet t rs bs x))
       (subst (λ (z : Tables). Cleared d (tablesIn row t rs bs) (record { answer = left .start .answer; desk = left .start .desk; tables = z }))
-      (sym (tables-in (left .row) codes′ flags′ balances′ sublimits′ t′ rs′ bs′ y)) c)
+      (sym (tables-in (left .row) codes′ flags′ balances′ sublimits′ sheet′ t′ rs′ bs′ y)) c)

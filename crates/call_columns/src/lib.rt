@@ -1,4 +1,4 @@
-// The calls on a row of records that is passed by value and handed back, and on accounts in four columns.
+// The calls on a row of records that is passed by value and handed back, and on accounts in five columns.
 pub mod columns;
 
 use call::step::Told;

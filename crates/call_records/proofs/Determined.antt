@@ -11,11 +11,11 @@ use Rattle.tables.specs.Lent.{Lent, Asked, Left, Called, callLent, Wiped, Clear
 use Rattle.tables.proofs.Determined as rules
 use Rattle.call.specs.step.Stepping.{lentAs}
 use Rattle.call_records.specs.declared.Account.{Account}
-use Rattle.call_records.specs.Records.{codesOf, flagsOf, balancesOf, sublimitsOf, tablesIn, rowOf, Outcome, seenAs, outcomeOf, Beginning, wipedAs, beginningOf}
+use Rattle.call_records.specs.Records.{codesOf, flagsOf, balancesOf, sublimitsOf, waitingOf, tablesIn, rowOf, Outcome, seenAs, outcomeOf, Beginning, wipedAs, beginningOf}
 use Rattle.call_records.proofs.Refused.{short-call, short-start}
 
 -- a row is the row of its columns
-pub row-back : (row : List Account) → rowOf (codesOf row) (flagsOf row) (balancesOf row) (sublimitsOf row) ≡ row
+pub row-back : (row : List Account) → rowOf (codesOf row) (flagsOf row) (balancesOf row) (sublimitsOf row) (waitingOf row) ≡ row
 unfolding rowOf
 row-back [] = refl
 row-back (a ∷ row) = ap (λ (l : List Account). a ∷ l) (row-back row)

@@ -11,7 +11,7 @@ use Rattle.call_records.specs.declared.AccountOr.the-variants.{Held, Bey
 use Rattle.call_records.specs.Records.{accountOr}
 
 module _ (code flags balance sublimit : ℕ) {money : BankOr} (p : code ≤ 4294967295) (q : flags ≤ 511) (e : money ≡ bankOr balance sublimit) where
-  pub new-held : {b : Bank} → money ≡ Is b → Held (record { code = code; flags = flags; balance = b .balance; sublimit = b .sublimit }) ≡ accountOr code flags balance sublimit
+  pub new-held : {b : Bank} → money ≡ Is b → Held (record { code = code; flags = flags; balance = b .balance; sublimit = b .sublimit; waiting = 0 }) ≡ accountOr code flags balance sublimit
   new-held f = rw (le-leb _ _ p, le-leb _ _ q, ← e, f)
 
   pub new-beyond : {r : Refusal} → money ≡ Not r → Beyond r ≡ accountOr code flags balance sublimit

@@ -10,7 +10,7 @@ use Rattle.settle.specs.declared.BankOr.{BankOr}
 use Rattle.settle.specs.declared.BankOr.the-variants.{Is, Not}
 use Rattle.settle.specs.Types.{bankOr}
 use Rattle.tables.specs.Rows.{Tables}
-use Rattle.tables.specs.Moment.{lentWith}
+use Rattle.tables.specs.Moment.{lentOn}
 use Rattle.tables.specs.Lent.{Left, Wiped}
 use Rattle.call.specs.declared.step.Told.{Told}
 use Rattle.call.specs.step.Stepping.{leftAs}
@@ -22,7 +22,7 @@ use Rattle.call_records.specs.declared.AccountOr.the-variants.{Held, Bey
 -- ---- one account: 14 where a value is out of range
 
 abbrev pub heldBy : (code flags : ℕ) → BankOr → AccountOr
-heldBy code flags (Is bank) = Held (record { code = code; flags = flags; balance = bank .balance; sublimit = bank .sublimit })
+heldBy code flags (Is bank) = Held (record { code = code; flags = flags; balance = bank .balance; sublimit = bank .sublimit; waiting = 0 })
 heldBy code flags (Not refusal) = Beyond refusal
 
 -- a code of four characters, a suspension and eight stream bits
@@ -43,35 +43,41 @@ balancesOf row = map (λ (a : Account). a .balance) row
 abbrev pub sublimitsOf : List Account → List ℕ
 sublimitsOf row = map (λ (a : Account). a .sublimit) row
 
+abbrev pub waitingOf : List Account → List ℕ
+waitingOf row = map (λ (a : Account). a .waiting) row
+
 -- the lent tables, their accounts in a row of records
 abbrev pub tablesIn : List Account → (batches references bins : List ℕ) → Tables
-tablesIn row batches references bins = lentWith (codesOf row) (flagsOf row) (balancesOf row) (sublimitsOf row) batches references bins
+tablesIn row batches references bins =
+    lentOn (codesOf row) (flagsOf row) (balancesOf row) (sublimitsOf row) batches references bins (waitingOf row)
 
--- four columns are the fields of a row
-pub record Columns (row : List Account) (codes flags balances sublimits : List ℕ) : Type 0 where
+-- five columns are the fields of a row
+pub record Columns (row : List Account) (codes flags balances sublimits sheet : List ℕ) : Type 0 where
   pub codes-are : codes ≡ codesOf row
   pub flags-are : flags ≡ flagsOf row
   pub balances-are : balances ≡ balancesOf row
   pub sublimits-are : sublimits ≡ sublimitsOf row
+  pub sheet-are : sheet ≡ waitingOf row
 
 -- "lengths 64"
-pub record Long (row : List Account) (codes flags balances sublimits : List ℕ) : Type 0 where
+pub record Long (row : List Account) (codes flags balances sublimits sheet : List ℕ) : Type 0 where
   pub row-long : length row ≡ 64
   pub codes-long : length codes ≡ 64
   pub flags-long : length flags ≡ 64
   pub balances-long : length balances ≡ 64
   pub sublimits-long : length sublimits ≡ 64
+  pub sheet-long : length sheet ≡ 64
 
--- ---- and the row of four columns
+-- ---- and the row of five columns
 
-unfoldable pub rowOf : (codes flags balances sublimits : List ℕ) → List Account
-rowOf [] flags balances sublimits = []
-rowOf (c ∷ codes) flags balances sublimits =
-    record { code = c; flags = getD flags 0 0; balance = getD balances 0 0; sublimit = getD sublimits 0 0 }
-    ∷ rowOf codes (drop 1 flags) (drop 1 balances) (drop 1 sublimits)
+unfoldable pub rowOf : (codes flags balances sublimits sheet : List ℕ) → List Account
+rowOf [] flags balances sublimits sheet = []
+rowOf (c ∷ codes) flags balances sublimits sheet =
+    record { code = c; flags = getD flags 0 0; balance = getD balances 0 0; sublimit = getD sublimits 0 0; waiting = getD sheet 0 0 }
+    ∷ rowOf codes (drop 1 flags) (drop 1 balances) (drop 1 sublimits) (drop 1 sheet)
 
 abbrev pub rowIn : Tables → List Account
-rowIn t = rowOf (t .codes) (t .flags) (t .balances) (t .sublimits)
+rowIn t = rowOf (t .codes) (t .flags) (t .balances) (t .sublimits) (t .sheet)
 
 -- ---- what a call leaves, in its own shape, and as the rules see it
 

@@ -16,11 +16,13 @@ ghost use Rattle.call.specs.step.Stepping.{lentAs, leftAs};
 ghost use Rattle.call_records.specs.Records.{accountOr, tablesIn, Columns, Long};
 
 // A bank's account: its code, its flag and stream bits, its balance and its sub-limit in cents.
+// `waiting` is the total of the bank's debits in pending and queued batches, in cents.
 pub struct Account {
     pub code: u64,
     pub flags: u64,
     pub balance: u64,
     pub sublimit: u64,
+    pub waiting: u64,
 }
 
 pub enum AccountOr {
@@ -36,6 +38,7 @@ impl Account {
     // The suspension, and the bits of eight streams.
     pub const LAST_FLAGS: u64 = 511;
 
+    // An account against which nothing waits.
     pub fn new(code: u64, flags: u64, balance: u64, sublimit: u64) -> AccountOr
         ensures { λ r. ⌜ r ≡ accountOr code flags balance sublimit ⌝ }
     {
@@ -52,22 +55,25 @@ impl Account {
                 flags,
                 balance: bank.balance,
                 sublimit: bank.sublimit,
+                waiting: 0,
             }),
             BankOr::Not(refusal) => AccountOr::Beyond(refusal),
         }
     }
 }
 
-// The records, read into four columns.
+// The records, read into five columns.
 fn load(
     row: &[Account],
     codes: &mut [u64],
     flags: &mut [u64],
     balances: &mut [u64],
     sublimits: &mut [u64],
+    sheet: &mut [u64],
 )
-    requires { ⌜ Long (now row) (now codes) (now flags) (now balances) (now sublimits) ⌝ }
-    ensures { λ _. ⌜ Columns (now (row .entry)) (now (codes .exit)) (now (flags .exit)) (now (balances .exit)) (now (sublimits .exit)) ⌝ }
+    requires { ⌜ Long (now row) (now codes) (now flags) (now balances) (now sublimits) (now sheet) ⌝ }
+    ensures { λ _. ⌜ Columns (now (row .entry))
+        (now (codes .exit)) (now (flags .exit)) (now (balances .exit)) (now (sublimits .exit)) (now (sheet .exit)) ⌝ }
 {
     let mut i = 0;
     while i < Account::ROW {
@@ -75,14 +81,23 @@ fn load(
         flags[i] = row[i].flags;
         balances[i] = row[i].balance;
         sublimits[i] = row[i].sublimit;
+        sheet[i] = row[i].waiting;
         i += 1;
     }
 }
 
 // The columns, stored back into the records.
-fn save(row: &mut [Account], codes: &[u64], flags: &[u64], balances: &[u64], sublimits: &[u64])
-    requires { ⌜ Long (now row) (now codes) (now flags) (now balances) (now sublimits) ⌝ }
-    ensures { λ _. ⌜ Columns (now (row .exit)) (now (codes .entry)) (now (flags .entry)) (now (balances .entry)) (now (sublimits .entry)) ⌝ }
+fn save(
+    row: &mut [Account],
+    codes: &[u64],
+    flags: &[u64],
+    balances: &[u64],
+    sublimits: &[u64],
+    sheet: &[u64],
+)
+    requires { ⌜ Long (now row) (now codes) (now flags) (now balances) (now sublimits) (now sheet) ⌝ }
+    ensures { λ _. ⌜ Columns (now (row .exit))
+        (now (codes .entry)) (now (flags .entry)) (now (balances .entry)) (now (sublimits .entry)) (now (sheet .entry)) ⌝ }
 {
     let mut i = 0;
     while i < Account::ROW {
@@ -90,6 +105,7 @@ fn save(row: &mut [Account], codes: &[u64], flags: &[u64], balances: &[u64], sub
         row[i].flags = flags[i];
         row[i].balance = balances[i];
         row[i].sublimit = sublimits[i];
+        row[i].waiting = sheet[i];
         i += 1;
     }
 }
@@ -130,13 +146,27 @@ fn call_on(
     tries: &mut [u64],
 ) -> Told
     requires { ⌜ length (now row) ≡ 64 ⌝ }
-    ensures { λ y. ⌜ Called (lentAs desk (tablesIn (now (row .entry)) (now (batches .entry)) (now (references .entry)) (now (bins .entry))) (now (out .entry)) (now (tries .entry))) (record { quick = quick; clock = clock; action = action; input = now (input .entry) }) (leftAs (y .answer) (y .written) (y .tried) (y .desk) (tablesIn (now (row .exit)) (now (batches .exit)) (now (references .exit)) (now (bins .exit))) (now (out .exit)) (now (tries .exit))) ⌝ }
+    ensures { λ y. ⌜ Called
+        (lentAs desk (tablesIn (now (row .entry)) (now (batches .entry)) (now (references .entry)) (now (bins .entry)))
+        (now (out .entry)) (now (tries .entry)))
+        (record { quick = quick; clock = clock; action = action; input = now (input .entry) })
+        (leftAs (y .answer) (y .written) (y .tried) (y .desk)
+        (tablesIn (now (row .exit)) (now (batches .exit)) (now (references .exit)) (now (bins .exit)))
+        (now (out .exit)) (now (tries .exit))) ⌝ }
 {
     let mut codes = [0u64; 64];
     let mut flags = [0u64; 64];
     let mut balances = [0u64; 64];
     let mut sublimits = [0u64; 64];
-    load(row, &mut codes, &mut flags, &mut balances, &mut sublimits);
+    let mut sheet = [0u64; 64];
+    load(
+        row,
+        &mut codes,
+        &mut flags,
+        &mut balances,
+        &mut sublimits,
+        &mut sheet,
+    );
     let told = call::entry::call(
         quick,
         clock,
@@ -150,10 +180,11 @@ fn call_on(
         batches,
         references,
         bins,
+        &mut sheet,
         out,
         tries,
     );
-    save(row, &codes, &flags, &balances, &sublimits);
+    save(row, &codes, &flags, &balances, &sublimits, &sheet);
     told
 }
 
@@ -171,7 +202,13 @@ pub fn call(
     out: &mut [u8],
     tries: &mut [u64],
 ) -> Told
-    ensures { λ y. ⌜ Called (lentAs desk (tablesIn (now (row .entry)) (now (batches .entry)) (now (references .entry)) (now (bins .entry))) (now (out .entry)) (now (tries .entry))) (record { quick = quick; clock = clock; action = action; input = now (input .entry) }) (leftAs (y .answer) (y .written) (y .tried) (y .desk) (tablesIn (now (row .exit)) (now (batches .exit)) (now (references .exit)) (now (bins .exit))) (now (out .exit)) (now (tries .exit))) ⌝ }
+    ensures { λ y. ⌜ Called
+        (lentAs desk (tablesIn (now (row .entry)) (now (batches .entry)) (now (references .entry)) (now (bins .entry)))
+        (now (out .entry)) (now (tries .entry)))
+        (record { quick = quick; clock = clock; action = action; input = now (input .entry) })
+        (leftAs (y .answer) (y .written) (y .tried) (y .desk)
+        (tablesIn (now (row .exit)) (now (batches .exit)) (now (references .exit)) (now (bins .exit)))
+        (now (out .exit)) (now (tries .exit))) ⌝ }
 {
     if row.len() != Account::ROW {
         return no_call(desk);
@@ -200,13 +237,28 @@ fn clear_on(
     bins: &mut [u64],
 ) -> Start
     requires { ⌜ length (now row) ≡ 64 ⌝ }
-    ensures { λ r. ⌜ Cleared desk (tablesIn (now (row .entry)) (now (batches .entry)) (now (references .entry)) (now (bins .entry))) (record { answer = r .answer; desk = r .desk; tables = tablesIn (now (row .exit)) (now (batches .exit)) (now (references .exit)) (now (bins .exit)) }) ⌝ }
+    ensures { λ r. ⌜ Cleared desk
+        (tablesIn (now (row .entry)) (now (batches .entry)) (now (references .entry)) (now (bins .entry)))
+        (record {
+          answer = r .answer;
+          desk = r .desk;
+          tables =
+              tablesIn (now (row .exit)) (now (batches .exit)) (now (references .exit)) (now (bins .exit));
+        }) ⌝ }
 {
     let mut codes = [0u64; 64];
     let mut flags = [0u64; 64];
     let mut balances = [0u64; 64];
     let mut sublimits = [0u64; 64];
-    load(row, &mut codes, &mut flags, &mut balances, &mut sublimits);
+    let mut sheet = [0u64; 64];
+    load(
+        row,
+        &mut codes,
+        &mut flags,
+        &mut balances,
+        &mut sublimits,
+        &mut sheet,
+    );
     let start = tables_clear::clear(
         desk,
         &mut codes,
@@ -216,8 +268,9 @@ fn clear_on(
         batches,
         references,
         bins,
+        &mut sheet,
     );
-    save(row, &codes, &flags, &balances, &sublimits);
+    save(row, &codes, &flags, &balances, &sublimits, &sheet);
     start
 }
 
@@ -229,7 +282,14 @@ pub fn clear(
     references: &mut [u64],
     bins: &mut [u64],
 ) -> Start
-    ensures { λ r. ⌜ Cleared desk (tablesIn (now (row .entry)) (now (batches .entry)) (now (references .entry)) (now (bins .entry))) (record { answer = r .answer; desk = r .desk; tables = tablesIn (now (row .exit)) (now (batches .exit)) (now (references .exit)) (now (bins .exit)) }) ⌝ }
+    ensures { λ r. ⌜ Cleared desk
+        (tablesIn (now (row .entry)) (now (batches .entry)) (now (references .entry)) (now (bins .entry)))
+        (record {
+          answer = r .answer;
+          desk = r .desk;
+          tables =
+              tablesIn (now (row .exit)) (now (batches .exit)) (now (references .exit)) (now (bins .exit));
+        }) ⌝ }
 {
     if row.len() != Account::ROW {
         return no_start(desk);

@@ -30,7 +30,7 @@ fn show_day(desk: Desk) {
     }
 }
 
-fn show_bank(code: u64, flags: u64, balance: u64, sublimit: u64) {
+fn show_bank(code: u64, flags: u64, balance: u64, sublimit: u64, waiting: u64) {
     cli_print::text(b"bank ");
     cli_print::code(code);
     if flags % 2 == 1 {
@@ -40,10 +40,18 @@ fn show_bank(code: u64, flags: u64, balance: u64, sublimit: u64) {
     }
     cli_print::field(b" balance ", balance);
     cli_print::field(b" sublimit ", sublimit);
+    cli_print::field(b" waiting ", waiting);
     cli_print::end();
 }
 
-fn show_banks(codes: &[u64], flags: &[u64], balances: &[u64], sublimits: &[u64], n: usize) {
+fn show_banks(
+    codes: &[u64],
+    flags: &[u64],
+    balances: &[u64],
+    sublimits: &[u64],
+    sheet: &[u64],
+    n: usize,
+) {
     let mut i = 0;
     while i < Bank::MOST {
         if i < n {
@@ -52,6 +60,7 @@ fn show_banks(codes: &[u64], flags: &[u64], balances: &[u64], sublimits: &[u64],
                 orders::at(flags, i),
                 orders::at(balances, i),
                 orders::at(sublimits, i),
+                orders::at(sheet, i),
             );
         }
         i += 1;
@@ -89,10 +98,11 @@ pub fn show(
     sublimits: &[u64],
     batches: &[u64],
     bins: &[u64],
+    sheet: &[u64],
 ) {
     let date = desk.date;
     show_day(desk);
-    show_banks(codes, flags, balances, sublimits, desk.banks);
+    show_banks(codes, flags, balances, sublimits, sheet, desk.banks);
     show_order(b"queue", batches, bins, date, orders::QUEUED);
     show_order(b"pending", batches, bins, date, orders::PENDING);
     show_order(b"assembling", batches, bins, date, orders::ASSEMBLING);

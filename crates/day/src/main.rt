@@ -434,6 +434,7 @@ fn call(
     batches: &mut [u64; 11168],
     references: &mut [u64; 6144],
     bins: &mut [u64; 1536],
+    sheet: &mut [u64; 64],
     out: &mut [u8; 33705],
     tries: &mut [u64; 528],
 ) -> Told {
@@ -454,6 +455,7 @@ fn call(
         batches,
         references,
         bins,
+        sheet,
         out,
         tries,
     )
@@ -468,6 +470,7 @@ fn clear(
     batches: &mut [u64; 11168],
     references: &mut [u64; 6144],
     bins: &mut [u64; 1536],
+    sheet: &mut [u64; 64],
 ) -> Told {
     let start = call_columns::columns::clear(
         desk,
@@ -478,6 +481,7 @@ fn clear(
         batches,
         references,
         bins,
+        sheet,
     );
     let answer = start.answer;
     let after = start.desk;
@@ -503,6 +507,7 @@ fn perform(
     batches: &mut [u64; 11168],
     references: &mut [u64; 6144],
     bins: &mut [u64; 1536],
+    sheet: &mut [u64; 64],
     out: &mut [u8; 33705],
     tries: &mut [u64; 528],
 ) -> Told {
@@ -516,6 +521,7 @@ fn perform(
             batches,
             references,
             bins,
+            sheet,
         ),
         Deed::Call(asked) => call(
             quick,
@@ -530,6 +536,7 @@ fn perform(
             batches,
             references,
             bins,
+            sheet,
             out,
             tries,
         ),
@@ -561,6 +568,7 @@ fn tell(
     sublimits: &[u64; 64],
     batches: &[u64; 11168],
     bins: &[u64; 1536],
+    sheet: &[u64; 64],
     out: &[u8; 33705],
     tries: &[u64; 528],
 ) -> bool {
@@ -582,7 +590,16 @@ fn tell(
         Deed::TooLong => too_long(keep_going, number, name),
         Deed::Unread => goes_on(keep_going, number),
         Deed::Show => {
-            cli_tables::show(desk, codes, flags, balances, sublimits, batches, bins);
+            cli_tables::show(
+                desk,
+                codes,
+                flags,
+                balances,
+                sublimits,
+                batches,
+                bins,
+                sheet,
+            );
             cli_files::is_heard()
         }
         Deed::Why => {
@@ -624,6 +641,7 @@ fn do_next(
     batches: &mut [u64; 11168],
     references: &mut [u64; 6144],
     bins: &mut [u64; 1536],
+    sheet: &mut [u64; 64],
     out: &mut [u8; 33705],
     tries: &mut [u64; 528],
 ) -> Turn {
@@ -643,6 +661,7 @@ fn do_next(
         batches,
         references,
         bins,
+        sheet,
         out,
         tries,
     );
@@ -660,6 +679,7 @@ fn do_next(
         sublimits,
         batches,
         bins,
+        sheet,
         out,
         tries,
     );
@@ -683,6 +703,7 @@ fn run(quick: bool, keep_going: bool, name: &[u8], fd: i32) {
     let mut batches = [0u64; 11168];
     let mut references = [0u64; 6144];
     let mut bins = [0u64; 1536];
+    let mut sheet = [0u64; 64];
     let mut out = [0u8; 33705];
     let mut tries = [0u64; 528];
     let mut desk = Desk {
@@ -717,6 +738,7 @@ fn run(quick: bool, keep_going: bool, name: &[u8], fd: i32) {
             &mut batches,
             &mut references,
             &mut bins,
+            &mut sheet,
             &mut out,
             &mut tries,
         );

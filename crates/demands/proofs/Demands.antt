@@ -1,8 +1,9 @@
 -- The functions keep the three demands: their contracts, and the model's promises.
-use Prim.Native.Nat.{ℕ}
+use Prim.Native.Nat.{ℕ, _<_}
 use mathlib.Core.Path.{_≡_, refl, sym, ap, subst, _∙_}
 use mathlib.Core.Bool.{Bool, true, false}
 use mathlib.Core.List.{List, [], _∷_, map}
+use lib.ListN.{length, getD}
 use Rattle.chars.specs.Words.{Says}
 use Rattle.chars.specs.declared.Refusal.{Refusal}
 use Rattle.chars.specs.declared.Refusal.the-variants.{BrokenTables}
@@ -31,17 +32,19 @@ use Rattle.model.proofs.Refusals.{refusals-change-nothing, refused-openings-cha
 use Rattle.model.proofs.Promises.{numbers-are-right, strangers-leave-all, letters-stay, rows-are-kept, texts-read-back, accounted, none-left-at-close, openings-are-right, closing-book-reads-back, balances-follow, payers-covered, none-would-pass, orders-are-kept, tests-by-rule, tries-are-right, room-is-enough}
 use Rattle.tables.specs.declared.Desk.{Desk}
 use Rattle.tables.specs.Rows.{Tables, engineIn}
-use Rattle.tables.specs.Words.{deskOf, tablesOf}
+use Rattle.tables.specs.Words.{sheetWords, deskOf, tablesOf}
 use Rattle.tables.specs.Lent.{Right, Lent, Left, leftBy as lentBy, callLent, Long, Wiped, clearLent}
 use Rattle.tables.specs.Running.{Lending, lentTo, callIn, leftIn}
 use Rattle.tables.specs.Choosing.{choose, SameBut, AllSameBut}
-use Rattle.tables.proofs.Held.{held, held-long}
+use Rattle.tables.proofs.Held.{sheet-long, held, held-long}
 use Rattle.tables.proofs.Kept.{right-of, on-right}
 use Rattle.tables.proofs.Reported.{as-before, reported}
 use Rattle.tables.proofs.Choosing.{same-left}
-use Rattle.call_records.specs.Records.{balancesOf, Outcome, seenAs, outcomeOf, Beginning, wipedAs, beginningOf}
+use Rattle.tables_sheet.proofs.Filling.{total-at}
+use Rattle.tables_sheet.proofs.Waiting.{total-sum}
+use Rattle.call_records.specs.Records.{balancesOf, waitingOf, Outcome, seenAs, outcomeOf, Beginning, wipedAs, beginningOf}
 use Rattle.call_records.proofs.Determined.{row-back, seen-back, determined, wiped-back, clearing-determined}
-use Rattle.demands.specs.Demands.{Kept, tablesOn, engineOf, Calls, Clears, leftBy, begunBy, Doing, clearing, Came, none, cleared, called, deeds, told, EverySince, Everywhere, asItWas, DemandOne, notBegun, DemandOneOfClearing, Whenever, DemandTwo, DemandThree}
+use Rattle.demands.specs.Demands.{Kept, tablesOn, engineOf, Calls, Clears, leftBy, begunBy, Doing, clearing, Came, none, cleared, called, deeds, told, EverySince, Everywhere, asItWas, DemandOne, notBegun, DemandOneOfClearing, Whenever, DemandTwo, Totals, DemandThree}
 use Rattle.demands.specs.Demands as demanded
 
 -- ---- what is kept says the model's engine
@@ -237,10 +240,21 @@ follow x x′ ds g w =
     let u : balancesOf (x′ .row) ≡ course call start (deeds ds) .state .books .balances = ap (λ (z : Tables). z .balances) (came g w .tables) in
     subst (λ (l : List ℕ). Followed l (ledgerAfter call start noLedger (since (deeds ds)))) (sym u) (balances-follow (deeds ds))
 
+follow-totals : Whenever (λ x ds. Totals (waitingOf (x .row)) (course call start ds .state .batches))
+unfolding tablesOf
+follow-totals x x′ ds g w =
+    let e : Engine = course call start (deeds ds) in
+    let u : waitingOf (x′ .row) ≡ sheetWords (e .state .batches) = ap (λ (z : Tables). z .sheet) (came g w .tables) in
+    record {
+      all = ap length u ∙ sheet-long (e .state .batches);
+      each = λ k h. ap (λ (l : List ℕ). getD l k 0) u ∙ total-at (e .state .batches) k h ∙ total-sum (e .state) (came g w .valid) k;
+    }
+
 pub demand-three : DemandThree
 demand-three = record {
   alike = both-alike;
   balances = follow;
+  totals = follow-totals;
   covered = everywhere Covered payers-covered;
   none-passes = everywhere NonePasses none-would-pass;
   ordered = everywhere Ordered orders-are-kept;

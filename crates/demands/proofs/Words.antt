@@ -14,7 +14,7 @@ use Rattle.model.specs.declared.Answer.{Answer}
 use Rattle.model.specs.Answers.{answerNumber}
 use Rattle.model.specs.declared.Phase.the-variants.{Closed}
 use Rattle.model.specs.Calls.{Asked, Call, Engine, Result, call}
-use Rattle.model.specs.Course.{Deed, start, since}
+use Rattle.model.specs.Course.{Deed, start, course, since}
 use Rattle.model.specs.Answered.{Accounted, awaiting}
 use Rattle.model.specs.Arrival.{ByArrival}
 use Rattle.model.specs.Lettered.{LettersStay}
@@ -25,14 +25,13 @@ use Rattle.model.specs.Promises.{Numbered, StrangersLeaveAll, Written, answered
 use Rattle.tables.specs.Lent.{Right, Lent, Left, callLent, Called, Long}
 use Rattle.tables.specs.Choosing.{SameBut, AllSameBut}
 use Rattle.tables.proofs.Kept.{right-long, right-left}
-use Rattle.call_records.specs.Records.{balancesOf, Outcome, seenAs}
-use Rattle.c_engine.specs.Lending.{tablesBy, EngineWords, lentIn, Returned, CalledWords, Seen, seenWith, LongWords, Started, clearWords, ClearedWords, noWords, Shaped}
-use Rattle.c_engine.proofs.Banks.{columns-long}
-use Rattle.c_engine.proofs.Clearing.{cleared-as-seen, cleared-shaped}
+use Rattle.call_records.specs.Records.{balancesOf, waitingOf, Outcome, seenAs}
+use Rattle.c_engine.specs.Lending.{banksLength, EngineWords, lentIn, Returned, CalledWords, Seen, seenWith, LongWords, Started, clearWords, ClearedWords, noWords, Shaped}
+use Rattle.c_engine.proofs.Clearing.{long-tables, cleared-as-seen, cleared-shaped}
 use Rattle.c_engine.proofs.Determined as words
 use Rattle.c_engine.proofs.Refusals.{broken-tables, at-once}
 use Rattle.c_engine.proofs.Seen.{seen, shape-kept}
-use Rattle.demands.specs.Demands.{Kept, Calls, Came, EverySince, Everywhere, Whenever, Doing, engineOf}
+use Rattle.demands.specs.Demands.{Kept, Calls, Came, EverySince, Everywhere, Whenever, Doing, engineOf, Totals}
 use Rattle.demands.specs.Demands as demanded
 use Rattle.demands.specs.Words.{keptBy, LendingWords, wordsOf, lendingOf, CallsWords, DoingWords, clears, CameWords, none, cleared, called, seenDoing, doings, outcomeBy, EverySinceWords, EverywhereWords, WheneverWords, OneOfCalls, OneOfClearings, chooseWords, SameWords, AllSameWords, DemandsOfWords}
 use Rattle.demands.specs.Words as said
@@ -42,11 +41,6 @@ use Rattle.demands.proofs.Demands.{demand-one, demand-two, demand-three
 record Fit (x : EngineWords) : Type 0 where
   long : LongWords x
   shape : Shaped (x .desk) (x .banks)
-
-tables-long : (x : EngineWords) → LongWords x → Long (tablesBy x)
-tables-long x l =
-    let c = columns-long (x .banks) (l .banks-long) in
-    record { codes = c .codes-long; flags = c .flags-long; balances = c .balances-long; sublimits = c .sublimits-long; batches = l .batches-long; references = l .references-long; bins = l .bins-long }
 
 short-report : (n : ℕ) → n < 2 → leb 2 n ≡ false
 short-report n h = go (leb 2 n) refl
@@ -73,7 +67,7 @@ module _ (x : EngineWords) (y : Started) (l : LongWords x) (c : ClearedWords x y
   unfolding clearWords noWords
   begins-fit = record {
     long = subst (λ (z : Started). LongWords (z .words)) (sym done)
-        (record { desk-long = length-replicate {A = ℕ} 22 0; banks-long = length-replicate {A = ℕ} 256 0; batches-long = length-replicate {A = ℕ} 11168 0; references-long = length-replicate {A = ℕ} 6144 0; bins-long = length-replicate {A = ℕ} 1536 0 });
+        (record { desk-long = length-replicate {A = ℕ} 22 0; banks-long = length-replicate {A = ℕ} banksLength 0; batches-long = length-replicate {A = ℕ} 11168 0; references-long = length-replicate {A = ℕ} 6144 0; bins-long = length-replicate {A = ℕ} 1536 0 });
     shape = cleared-shaped x y c answers-0;
   }
 
@@ -97,7 +91,7 @@ module _ (x : EngineWords) (f : Fit x) (k : LendingWords) (h : 2 ≤ length (k .
   goes-fit : Fit (y .words .engine)
   goes-fit =
       let s = shape-kept (wordsOf x k) (k .asked) y h (f .shape) c in
-      let t = long-left (lentIn (wordsOf x k)) (k .asked) (seenWith (look .answer) y) (look .called) (tables-long x (f .long)) in
+      let t = long-left (lentIn (wordsOf x k)) (k .asked) (seenWith (look .answer) y) (look .called) (long-tables x (f .long)) in
       record { long = record { desk-long = s .desk-long; banks-long = s .banks-long; batches-long = t .batches; references-long = t .references; bins-long = t .bins }; shape = s }
 
 -- ---- any of them
@@ -127,7 +121,7 @@ since-words P h x x′ ds l (cleared {y = y} c r) k n v w =
     record {
       answer = s .answer;
       numbered = s .numbered;
-      is = h (keptBy x) (keptBy x′) (doings ds) (tables-long x l) (demanded.cleared (cleared-as-seen x y c (answers-0 x y l c)) (g .1)) (lendingOf k) (outcomeBy (s .answer) v) (s .called);
+      is = h (keptBy x) (keptBy x′) (doings ds) (long-tables x l) (demanded.cleared (cleared-as-seen x y c (answers-0 x y l c)) (g .1)) (lendingOf k) (outcomeBy (s .answer) v) (s .called);
     }
 
 everywhere-words : (P : Engine → Call → Result → Type 0) → Everywhere P → EverywhereWords P
@@ -135,7 +129,7 @@ everywhere-words P h = since-words (λ ds. P) h
 
 whenever-words : (P : Kept → List Deed → Type 0) → Whenever P → WheneverWords P
 whenever-words P h x x′ ds l (cleared {y = y} c r) =
-    h (keptBy x) (keptBy x′) (doings ds) (tables-long x l) (demanded.cleared (cleared-as-seen x y c (answers-0 x y l c)) (came-words (begins-fit x y l c) r .1))
+    h (keptBy x) (keptBy x′) (doings ds) (long-tables x l) (demanded.cleared (cleared-as-seen x y c (answers-0 x y l c)) (came-words (begins-fit x y l c) r .1))
 
 -- ---- demand 1
 
@@ -226,7 +220,7 @@ both-alike x z ds es ys zs t l m (said.begins {y = y} c r) (said.begins {y = w} 
     let p = saw (begins-fit x y l c) r in
     let q = saw (begins-fit z w m d) u in
     all-same (p .returns) (q .returns)
-    (demand-three .alike (keptBy x) (keptBy z) (doings ds) (doings es) (p .outcomes) (q .outcomes) (but-tests t) (tables-long x l) (tables-long z m)
+    (demand-three .alike (keptBy x) (keptBy z) (doings ds) (doings es) (p .outcomes) (q .outcomes) (but-tests t) (long-tables x l) (long-tables z m)
     (demanded.begins (cleared-as-seen x y c (answers-0 x y l c)) (p .ran)) (demanded.begins (cleared-as-seen z w d (answers-0 z w m d)) (q .ran)))
 
 -- ---- the three demands
@@ -247,6 +241,7 @@ demands-of-words = record {
   books = everywhere-words Closes (demand-two .books);
   alike = both-alike;
   balances = whenever-words (λ x ds. Followed (balancesOf (x .row)) (ledgerAfter call start noLedger (since ds))) (demand-three .balances);
+  totals = whenever-words (λ x ds. Totals (waitingOf (x .row)) (course call start ds .state .batches)) (demand-three .totals);
   covered = everywhere-words Covered (demand-three .covered);
   none-passes = everywhere-words NonePasses (demand-three .none-passes);
   ordered = everywhere-words Ordered (demand-three .ordered);

@@ -1,16 +1,18 @@
 -- The three demands, of the public functions `call` and `clear` (crate call_records). What each ensures of anything lent is its contract, `Called` and `Cleared`
 -- (tables/specs/Lent) of the tables whose columns are the records' fields; so what is said here of all outcomes that keep the contracts is said of what the
 -- functions leave.
-use Prim.Native.Nat.{ℕ}
+use Prim.Native.Nat.{ℕ, _<_}
 use mathlib.Core.Path.{_≡_}
 use mathlib.Core.Bool.{Bool}
-use mathlib.Core.List.{List, [], _∷_, map}
-use lib.ListN.{take, drop}
+use mathlib.Core.List.{List, [], _∷_, _++_, map}
+use lib.ListN.{length, getD, take, drop}
 use Rattle.chars.specs.declared.Refusal.{Refusal}
 use Rattle.chars.specs.declared.Refusal.the-variants.{BrokenTables}
+use Rattle.queue.specs.Promise.{takenBy}
 use Rattle.model.specs.declared.Action.the-variants.{Opening}
 use Rattle.model.specs.declared.Answer.the-variants.{Done, Refused}
 use Rattle.model.specs.declared.Phase.the-variants.{Closed}
+use Rattle.model.specs.State.{Batches, paymentsAt}
 use Rattle.model.specs.Calls.{Call, Engine, Result, judge, call}
 use Rattle.model.specs.Course.{Deed, clears, calls, start, course, since}
 use Rattle.model.specs.Answered.{Accounted, awaiting}
@@ -26,7 +28,7 @@ use Rattle.tables.specs.Lent.{Right, Called, Long, Cleared}
 use Rattle.tables.specs.Running.{Lending, lentTo, callIn}
 use Rattle.tables.specs.Choosing.{choose, AllSameBut}
 use Rattle.call_records.specs.declared.Account.{Account}
-use Rattle.call_records.specs.Records.{balancesOf, tablesIn, Outcome, seenAs, Beginning, wipedAs}
+use Rattle.call_records.specs.Records.{balancesOf, waitingOf, tablesIn, Outcome, seenAs, Beginning, wipedAs}
 
 -- ---- "over any sequence of calls"
 
@@ -186,6 +188,15 @@ pub data Ran : Kept → List Doing → List Outcome → Type 0 where
   begins : {x : Kept} {y : Beginning} {ds : List Doing} {ys : List Outcome} → Clears x y → Ran (begunBy y) ds ys → Ran x (clearing ∷ ds) ys
   then : {x : Kept} {k : Lending} {y : Outcome} {ds : List Doing} {ys : List Outcome} → Calls x k y → Ran (leftBy y) ds ys → Ran x (calling k ∷ ds) (y ∷ ys)
 
+-- ticket 2: "the total of its debits in pending and queued batches", of one bank: its debits in each batch, added up
+abbrev pub waitsAgainst : Batches → (bank : ℕ) → ℕ
+waitsAgainst b k = takenBy k (map (paymentsAt b) (b .pending ++ b .queue))
+
+-- of the totals of 64 records each is its bank's
+pub record Totals (totals : List ℕ) (b : Batches) : Type 0 where
+  pub all : length totals ≡ 64
+  pub each : (k : ℕ) → k < 64 → getD totals k 0 ≡ waitsAgainst b k
+
 pub record DemandThree : Type 0 where
   -- after a clearing the same calls and clearings, whichever test each call chooses: all that the calls leave is equal but for tries and the quick test's
   -- memory words
@@ -193,6 +204,8 @@ pub record DemandThree : Type 0 where
       → Ran z (clearing ∷ es) zs → AllSameBut (map seenAs ys) (map seenAs zs)
   -- the lent balances are those of the opening book and of what settled since
   pub balances : Whenever (λ x ds. Followed (balancesOf (x .row)) (ledgerAfter call start noLedger (since ds)))
+  -- the lent totals are those of the batches that wait, whatever was kept
+  pub totals : Whenever (λ x ds. Totals (waitingOf (x .row)) (course call start ds .state .batches))
   pub covered : Everywhere Covered
   pub none-passes : Everywhere NonePasses
   -- what waits stands in its order, and nothing is tried before its minute

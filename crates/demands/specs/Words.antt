@@ -25,9 +25,9 @@ use Rattle.model.specs.Promises.{Numbered, StrangersLeaveAll, Written, answered
 use Rattle.tables.specs.Lent.{Right}
 use Rattle.tables.specs.Running.{Lending, callIn}
 use Rattle.tables.specs.Choosing.{SameBut}
-use Rattle.call_records.specs.Records.{balancesOf, Outcome}
+use Rattle.call_records.specs.Records.{balancesOf, waitingOf, Outcome}
 use Rattle.c_engine.specs.Lending.{deskIn, banksIn, EngineWords, Words, Returned, refusedWith, unchanged, InShape, CalledWords, seenWith, LongWords, Started, noWords, ClearedWords}
-use Rattle.demands.specs.Demands.{Kept, tablesOn, engineOf, Doing, clearing, calling, deeds, told, DemandOne}
+use Rattle.demands.specs.Demands.{Kept, tablesOn, engineOf, Doing, clearing, calling, deeds, told, DemandOne, Totals}
 
 -- ---- "over any sequence of calls"
 
@@ -187,6 +187,7 @@ pub record DemandsOfWords : Type 0 where
   pub alike : (x z : EngineWords) (ds es : List DoingWords) (ys zs : List Returned) → ButTestsWords ds es → LongWords x → LongWords z
       → RanWords x (clears ∷ ds) ys → RanWords z (clears ∷ es) zs → AllSameWords ys zs
   pub balances : WheneverWords (λ x ds. Followed (balancesOf (x .row)) (ledgerAfter call start noLedger (since ds)))
+  pub totals : WheneverWords (λ x ds. Totals (waitingOf (x .row)) (course call start ds .state .batches))
   pub covered : EverywhereWords Covered
   pub none-passes : EverywhereWords NonePasses
   pub ordered : EverywhereWords Ordered

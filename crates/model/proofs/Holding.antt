@@ -258,13 +258,17 @@ module _ (e : Engine) (c : Call) (h : RightMemory (e .state .batches) (e .memory
   left-long : length (forgotten (o₁ .done) (o₁ .memory)) ≡ 32
   left-long = forgotten-long (o₁ .done) (o₁ .memory) ∙ tested-long
 
+  -- where the day goes on
+  pub left-memory : RightMemory (left s₁ a₁ o₁) (forgotten (o₁ .done) (o₁ .memory))
+  left-memory = holds-right (left s₁ a₁ o₁) (forgotten (o₁ .done) (o₁ .memory)) left-long left-holds
+
   abbrev Right : Engine → Type 0
   Right x = RightMemory (x .state .batches) (x .memory)
 
   ends-right : (t : Bool) → Right (cond t (closes s₁ a₁ o₁) (goesOn s₁ a₁ o₁) .engine)
   unfolding closes goesOn
   ends-right true = holds-right noBatches noMemory refl (λ p k f. zero-held (sym (fresh-none p) ∙ f))
-  ends-right false = holds-right (left s₁ a₁ o₁) (forgotten (o₁ .done) (o₁ .memory)) left-long left-holds
+  ends-right false = left-memory
 
   stepped-right : Right (stepped e c .engine)
   unfolding stepped

@@ -191,6 +191,7 @@ fn run(text: &[u8]) {
         flags: 0,
         balance: 0,
         sublimit: 0,
+        waiting: 0,
     };
     let mut row = [none; 64];
     let mut at = 0;

@@ -5,8 +5,9 @@ use libc::STDOUT_FILENO;
 ghost use mathlib.Core.Path.{_≡_};
 ghost use Prim.Native.Nat.{_+_, _≤_, _<_};
 ghost use lib.ListN.{length};
+ghost use Rattle.tables_as_row.specs.RowWords.{rowWords};
 
-const WORDS: usize = 19_584;
+const WORDS: usize = 20_608;
 
 // A number that is being read, and the one before it.
 pub struct Pair {
@@ -55,7 +56,7 @@ fn set_word(line: &[u8], words: &mut [u64]) {
 }
 
 fn judge(name: &[u8], words: &[u64])
-    requires { ⌜ length (now words) ≡ 19584 ⌝ }
+    requires { ⌜ length (now words) ≡ rowWords ⌝ }
 {
     io::write_all(STDOUT_FILENO, name);
     if tables_as_row::right(words) {
@@ -81,7 +82,7 @@ fn line_end(text: &[u8], at: usize) -> usize
 }
 
 fn read_line(line: &[u8], words: &mut [u64])
-    requires { ⌜ length (now words) ≡ 19584 ⌝ }
+    requires { ⌜ length (now words) ≡ rowWords ⌝ }
 {
     if line.len() == 0 {
         return;

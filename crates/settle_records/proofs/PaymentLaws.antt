@@ -8,7 +8,7 @@ use Rattle.settle.specs.Payments.{Payment, credit, debit, payment, paymentAt, p
 use Rattle.settle.specs.Settlement.{paid, settled}
 use Rattle.settle.specs.Rules.{Fits, Payable, AllPayable, Ready}
 use Rattle.call_records.specs.declared.Account.{Account}
-use Rattle.call_records.specs.Records.{codesOf, flagsOf, balancesOf, sublimitsOf}
+use Rattle.call_records.specs.Records.{codesOf, flagsOf, balancesOf, sublimitsOf, waitingOf}
 use Rattle.settle_records.specs.Payments.{balanceAfter, Bears, Stored}
 use Rattle.tables.proofs.MemoryLaws.{map-set}
 use Rattle.call_records.proofs.Rows.{none}
@@ -38,7 +38,7 @@ money-debit b c (suc l) h n = h
 
 -- a record with another balance
 abbrev pub withBalance : Account → ℕ → Account
-withBalance a b = record { code = a .code; flags = a .flags; balance = b; sublimit = a .sublimit }
+withBalance a b = record { code = a .code; flags = a .flags; balance = b; sublimit = a .sublimit; waiting = a .waiting }
 
 module _ (row : List Account) (k c l : ℕ) where
   abbrev here : Account
@@ -90,6 +90,7 @@ stored-one row k c l r e =
       codes-kept = field-kept (λ (x : Account). x .code) row k a refl refl;
       flags-kept = field-kept (λ (x : Account). x .flags) row k a refl refl;
       sublimits-kept = field-kept (λ (x : Account). x .sublimit) row k a refl refl;
+      waiting-kept = field-kept (λ (x : Account). x .waiting) row k a refl refl;
     }
 
 -- ---- one after another
@@ -100,6 +101,7 @@ stored-then x y = record {
   codes-kept = y .codes-kept ∙ x .codes-kept;
   flags-kept = y .flags-kept ∙ x .flags-kept;
   sublimits-kept = y .sublimits-kept ∙ x .sublimits-kept;
+  waiting-kept = y .waiting-kept ∙ x .waiting-kept;
 }
 
 -- ---- the payments of a batch: some are paid, and what is left of them, paid too, gives what the whole batch gives
@@ -112,6 +114,7 @@ pub record Settling (ys : List Account) (ws : List ℕ) (place at left : ℕ) (z
   pub codes-kept : codesOf z ≡ codesOf ys
   pub flags-kept : flagsOf z ≡ flagsOf ys
   pub sublimits-kept : sublimitsOf z ≡ sublimitsOf ys
+  pub waiting-kept : waitingOf z ≡ waitingOf ys
 
 module _ (ys : List Account) (ws : List ℕ) (place : ℕ) where
   pub settle-start : Ready (balancesOf ys) ws place → Settling ys ws place (place * 349 + 49) (howMany ws place) ys
@@ -123,6 +126,7 @@ module _ (ys : List Account) (ws : List ℕ) (place : ℕ) where
     codes-kept = refl;
     flags-kept = refl;
     sublimits-kept = refl;
+    waiting-kept = refl;
   }
 
   abbrev pub lineAt : ℕ → Payment
@@ -143,8 +147,15 @@ module _ (ys : List Account) (ws : List ℕ) (place : ℕ) where
       codes-kept = st .codes-kept ∙ s .codes-kept;
       flags-kept = st .flags-kept ∙ s .flags-kept;
       sublimits-kept = st .sublimits-kept ∙ s .sublimits-kept;
+      waiting-kept = st .waiting-kept ∙ s .waiting-kept;
     }
 
   pub settle-end : (at : ℕ) (z : List Account) → Settling ys ws place at 0 z → Stored ys z (settled (balancesOf ys) (rowPayments ws place))
   unfolding paymentsFrom settled
-  settle-end at z s = record { balances-are = s .same; codes-kept = s .codes-kept; flags-kept = s .flags-kept; sublimits-kept = s .sublimits-kept }
+  settle-end at z s = record {
+    balances-are = s .same;
+    codes-kept = s .codes-kept;
+    flags-kept = s .flags-kept;
+    sublimits-kept = s .sublimits-kept;
+    waiting-kept = s .waiting-kept;
+  }

@@ -9,7 +9,7 @@ use Rattle.settle.specs.Rules.{Ready}
 use Rattle.model.specs.declared.Answer.{Answer}
 use Rattle.model.specs.declared.Answer.the-variants.{Done, Refused}
 use Rattle.call_records.specs.declared.Account.{Account}
-use Rattle.call_records.specs.Records.{codesOf, flagsOf, balancesOf, sublimitsOf}
+use Rattle.call_records.specs.Records.{codesOf, flagsOf, balancesOf, sublimitsOf, waitingOf}
 
 -- a credit, which has no letters, raises the balance; a debit lowers it
 unfoldable pub balanceAfter : (balance cents letters : ℕ) → ℕ
@@ -27,6 +27,7 @@ pub record Stored (before after : List Account) (balances : List ℕ) : Type 0 w
   pub codes-kept : codesOf after ≡ codesOf before
   pub flags-kept : flagsOf after ≡ flagsOf before
   pub sublimits-kept : sublimitsOf after ≡ sublimitsOf before
+  pub waiting-kept : waitingOf after ≡ waitingOf before
 
 -- the batch at a place, settled where a settlement can be made; else 06, "with nothing changed"
 pub data Settles (row : List Account) (batches : List ℕ) (place : ℕ) : Answer → List Account → Type 0 where

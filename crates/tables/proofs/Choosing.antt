@@ -21,7 +21,7 @@ use Rattle.model.proofs.Validity.{valid-kept, call-valid}
 use Rattle.model.proofs.Holding.{call-memory, cleared-memory}
 use Rattle.tables.specs.declared.Desk.{Desk}
 use Rattle.tables.specs.Rows.{Tables}
-use Rattle.tables.specs.Words.{batchWords, phaseOf, rankOf, placeWords, placesWords, entriesWords, tablesOf, deskOf}
+use Rattle.tables.specs.Words.{batchWords, phaseOf, rankOf, placeWords, placesWords, entriesWords, sheetWords, tablesOf, deskOf}
 use Rattle.tables.specs.Lent.{Left, Long, Wiped, Cleared}
 use Rattle.tables.specs.Running.{Lending, callIn, Ran, leftIn, leftAll}
 use Rattle.tables.specs.Choosing.{choose, choosing, isMemory, SameBut, AllSameBut}
@@ -97,6 +97,7 @@ module _ (k : Lending) (r x : Result) (h : view r ≡ view x) (v : Valid (r .eng
             (places-lie (t .house .banks) (t .batches) (x .engine .memory) (stood e) n) i w;
         references = ap (λ (z : State). entriesWords (z .known .references)) e;
         bins = ap (λ (z : State). entriesWords (z .known .bins)) e;
+        sheet = ap (λ (z : State). sheetWords (z .batches)) e;
       }
     where
       stood : r .engine .state ≡ x .engine .state → Stood (x .engine .state .house .banks) (x .engine .state .batches)

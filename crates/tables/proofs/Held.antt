@@ -20,7 +20,8 @@ use Rattle.model.proofs.Counting.{times, times-once, times-all, no-member}
 use Rattle.model.proofs.Standing.{Standing, vacant, building, awaits, stands, Stood, at-most-once}
 use Rattle.model.proofs.Validity.{valid-kept, known-in}
 use Rattle.tables.specs.Rows.{rows, batchesIn, memoryIn, entriesIn, stateIn, engineIn}
-use Rattle.tables.specs.Words.{filled, placesWords, entriesWords, tablesOf, deskOf}
+use Rattle.tables.specs.Words.{filled, placesWords, entriesWords, totalOf, sheetWords, sheetLength, tablesOf, deskOf}
+use Rattle.book_read.proofs.Filling.{each-length}
 use Rattle.tables.specs.Lent.{Long}
 use Rattle.tables.proofs.Rowing.{at-word, past, EachLettered, Fits}
 use Rattle.tables.proofs.Batching.{Lies, AllLie, places-long, batches-back, memory-back}
@@ -137,6 +138,10 @@ module _ (banks : ℕ) (b : Batches) (m : List ℕ) (s : Stood banks b) (r : Rig
 
 -- ---- the whole
 
+pub sheet-long : (b : Batches) → length (sheetWords b) ≡ sheetLength
+unfolding sheetWords
+sheet-long b = each-length (totalOf b) 0 64
+
 -- the tables of a state that keeps the rules have the right lengths
 pub held-long : (e : Engine) → Valid (e .state) → RightMemory (e .state .batches) (e .memory) → Long (tablesOf e)
 unfolding tablesOf
@@ -151,6 +156,7 @@ held-long e v r =
       batches = batches-long (e .state .house .banks) (e .state .batches) (e .memory) (s .batches) r;
       references = omega (arith, entries-long (e .state .known .references), k .references-long);
       bins = omega (arith, entries-long (e .state .known .bins), k .bins-long);
+      sheet = sheet-long (e .state .batches);
     }
 
 pub held : (e : Engine) → Valid (e .state) → RightMemory (e .state .batches) (e .memory) → engineIn (deskOf (e .state)) (tablesOf e) ≡ e

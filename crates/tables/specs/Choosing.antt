@@ -35,6 +35,7 @@ pub record SameBut (y z : Left) : Type 0 where
   pub batches : (i : ℕ) → (isMemory i → ⊥) → getD (y .lent .tables .batches) i 0 ≡ getD (z .lent .tables .batches) i 0
   pub references : y .lent .tables .references ≡ z .lent .tables .references
   pub bins : y .lent .tables .bins ≡ z .lent .tables .bins
+  pub sheet : y .lent .tables .sheet ≡ z .lent .tables .sheet
 
 abbrev pub AllSameBut : List Left → List Left → Type 0
 AllSameBut [] [] = Unit {0}

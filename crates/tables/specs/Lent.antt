@@ -15,7 +15,7 @@ use Rattle.model.specs.Calls.{Call, Result, call, cleared}
 use Rattle.model.specs.Rules.{Valid, RightMemory}
 use Rattle.tables.specs.declared.Desk.{Desk}
 use Rattle.tables.specs.Rows.{Tables, engineIn}
-use Rattle.tables.specs.Words.{tablesOf, deskOf}
+use Rattle.tables.specs.Words.{sheetLength, tablesOf, deskOf}
 
 -- "A lent table breaks the table rules": the state that they say keeps the rules, and they are just its words
 pub record Right (d : Desk) (t : Tables) : Type 0 where
@@ -66,7 +66,7 @@ pub record Called (x : Lent) (a : Asked) (y : Left) : Type 0 where
   pub says : Says (Right (x .desk) (x .tables)) kept
   pub is : y ≡ callLent kept x a
 
--- "lengths 64, 32, 2,048, 512", of rows that times the width
+-- "lengths 64, 32, 2,048, 512", of rows that times the width; the sheet has its own
 pub record Long (t : Tables) : Type 0 where
   pub codes : length (t .codes) ≡ 64
   pub flags : length (t .flags) ≡ 64
@@ -75,6 +75,7 @@ pub record Long (t : Tables) : Type 0 where
   pub batches : length (t .batches) ≡ tableLength
   pub references : length (t .references) ≡ 6144
   pub bins : length (t .bins) ≡ 1536
+  pub sheet : length (t .sheet) ≡ sheetLength
 
 -- what a clearing leaves: "accepts any contents of the right lengths (else 06, its one refusal) and is a fresh start"
 pub record Wiped : Type 0 where

@@ -9,7 +9,8 @@ use Rattle.model.specs.declared.Answer.{Answer}
 use Rattle.model.specs.State.{Day}
 use Rattle.model.specs.Calls.{Call, roomNeeded, rowsNeeded, judge}
 use Rattle.tables.specs.declared.Desk.{Desk}
-use Rattle.tables.specs.Rows.{Tables, stateIn}
+use Rattle.tables.specs.Rows.{Tables, batchesIn, stateIn}
+use Rattle.tables.specs.Words.{sheetWords}
 
 -- the day of a desk
 abbrev pub dayOn : Desk → Day
@@ -44,9 +45,9 @@ pub record Roomy (d : Desk) (a : Action) (room rows : ℕ) (r : Bool) : Type 0 w
 pub record Judged (d : Desk) (clock : ℕ) (a : Action) (room rows : ℕ) (r : Answer) : Type 0 where
   pub is : (t : Tables) (quick : Bool) (input : List ℕ) → r ≡ judge (stateIn d t) (callFor quick clock a input room rows)
 
--- tables of given accounts
-abbrev pub lentWith : (codes flags balances sublimits batches references bins : List ℕ) → Tables
-lentWith codes flags balances sublimits batches references bins = record {
+-- tables of given rows
+abbrev pub lentOn : (codes flags balances sublimits batches references bins sheet : List ℕ) → Tables
+lentOn codes flags balances sublimits batches references bins sheet = record {
   codes = codes;
   flags = flags;
   balances = balances;
@@ -54,4 +55,10 @@ lentWith codes flags balances sublimits batches references bins = record {
   batches = batches;
   references = references;
   bins = bins;
+  sheet = sheet;
 }
+
+-- with the sheet that the batches say
+abbrev pub lentWith : (codes flags balances sublimits batches references bins : List ℕ) → Tables
+lentWith codes flags balances sublimits batches references bins =
+    lentOn codes flags balances sublimits batches references bins (sheetWords (batchesIn batches))

@@ -112,6 +112,7 @@ pub record Tables : Type 0 where
   pub batches : List ℕ
   pub references : List ℕ
   pub bins : List ℕ
+  pub sheet : List ℕ
 
 abbrev pub streamsOn : Desk → List Stream
 streamsOn d = each (streamOf (d .streams)) 0 (d .n)

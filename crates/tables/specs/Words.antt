@@ -1,5 +1,5 @@
 -- The words of a state: all that is not used is zero, so that one state has one table.
-use Prim.Native.Nat.{ℕ, suc, _+_, _-_}
+use Prim.Native.Nat.{ℕ, zero, suc, _+_, _-_}
 use mathlib.Core.Bool.{cond}
 use mathlib.Core.List.{List, [], _∷_, _++_}
 use lib.Dec.{eqb}
@@ -10,7 +10,10 @@ use Rattle.request_read.specs.declared.terms.Activation.{Activation}
 use Rattle.request_read.specs.declared.terms.Activation.the-variants.{AtOnce, Minute}
 use Rattle.book_read.specs.Accounts.{streamRow}
 use Rattle.settle.specs.Payments.{Payment, credit, debit}
-use Rattle.model.specs.State.{onFound, seek, Message, Batch, Place, free, live, Batches, Entry, State, paymentsOf}
+use Rattle.book_read.specs.Book.{each}
+use Rattle.queue.specs.Promise.{taken}
+use Rattle.model.specs.State.{onFound, seek, Message, Batch, Place, free, live, Batches, Entry, State, paymentsOf, paymentsAt}
+use Rattle.model.specs.Messages.{waits}
 use Rattle.model.specs.Calls.{Engine}
 use Rattle.tables.specs.declared.Desk.{Desk}
 use Rattle.tables.specs.Rows.{Tables, pendingPhase, queuedPhase}
@@ -77,6 +80,24 @@ unfoldable pub entriesWords : List Entry → List ℕ
 entriesWords [] = []
 entriesWords (e ∷ es) = e .code .high ∷ e .code .low ∷ e .day ∷ entriesWords es
 
+-- ---- the sheet: what is kept of each bank beside its account
+
+-- what a measure gives of the payments of the batches that wait, pending or queued, summed over n places from p on
+unfoldable pub waitingBy : (List Payment → ℕ) → Batches → (p n : ℕ) → ℕ
+waitingBy f b p zero = 0
+waitingBy f b p (suc n) = cond (waits b p) (f (paymentsAt b p)) 0 + waitingBy f b (p + 1) n
+
+-- ticket 2: "the total of its debits in pending and queued batches"
+abbrev pub totalOf : Batches → (bank : ℕ) → ℕ
+totalOf b k = waitingBy (taken k) b 0 32
+
+-- one total for each of the 64 banks
+unfoldable pub sheetWords : Batches → List ℕ
+sheetWords b = each (totalOf b) 0 64
+
+abbrev pub sheetLength : ℕ
+sheetLength = 64
+
 -- ---- the whole
 
 unfoldable pub tablesOf : Engine → Tables
@@ -88,6 +109,7 @@ tablesOf e = record {
   batches = placesWords (e .state .batches) (e .memory) 0 (e .state .batches .places);
   references = entriesWords (e .state .known .references);
   bins = entriesWords (e .state .known .bins);
+  sheet = sheetWords (e .state .batches);
 }
 
 -- eight streams of two words

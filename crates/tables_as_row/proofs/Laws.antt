@@ -14,9 +14,9 @@ use Rattle.model.specs.declared.Phase.the-variants.{Fresh, Open, Closed}
 use Rattle.call_day.proofs.Laws.{replace-turn, replace-end}
 use Rattle.tables.specs.declared.Desk.{Desk}
 use Rattle.tables.specs.Rows.{Tables}
-use Rattle.tables.specs.Moment.{lentWith}
+use Rattle.tables.specs.Moment.{lentOn}
 use Rattle.tables.specs.Lent.{Right}
-use Rattle.tables_as_row.specs.RowWords.{phaseBy, deskIn, lentOf, part, tablesIn, Judged}
+use Rattle.tables_as_row.specs.RowWords.{rowWords, phaseBy, deskIn, lentOf, part, tablesIn, Judged}
 
 pub lent-most : {n room : ℕ} → room < n → room ≡ cond (ltb room n) room n
 lent-most {n} {room} h = rw (lt-ltb room n h)
@@ -35,7 +35,7 @@ phase-closed n h k = rw (ne-eqb n 0 h, ne-eqb n 1 k)
 
 -- ---- the desk
 
-module _ (w : List ℕ) (long : length w ≡ 19584) where
+module _ (w : List ℕ) (long : length w ≡ rowWords) where
   streams-long : length (take 16 (drop 6 w)) ≡ 16
   streams-long = length-take-le 16 (drop 6 w) (simp length-drop (omega arith))
 
@@ -58,25 +58,26 @@ desk-read w p s e f = rw (e, f)
 cut : (k n : ℕ) → (k + n) - k ≡ n
 cut k n = omega arith
 
-pub tables-say : (w : List ℕ) (r : Bool) {a b c d e f g : ℕ} {desk : Desk} → desk ≡ deskIn w → a ≡ lentOf w 0 65 → b ≡ lentOf w 1 65 → c ≡ lentOf w 2 65
-    → d ≡ lentOf w 3 65 → e ≡ lentOf w 4 11169 → f ≡ lentOf w 5 6145 → g ≡ lentOf w 6 1537
-    → Says (Right desk (lentWith (take (32 + a - 32) (drop 32 w)) (take (128 + b - 128) (drop 128 w)) (take (224 + c - 224) (drop 224 w))
-    (take (320 + d - 320) (drop 320 w)) (take (512 + e - 512) (drop 512 w)) (take (11776 + f - 11776) (drop 11776 w)) (take (17984 + g - 17984) (drop 17984 w)))) r
+pub tables-say : (w : List ℕ) (r : Bool) {a b c d e f g k : ℕ} {desk : Desk} → desk ≡ deskIn w → a ≡ lentOf w 0 65 → b ≡ lentOf w 1 65 → c ≡ lentOf w 2 65
+    → d ≡ lentOf w 3 65 → e ≡ lentOf w 4 11169 → f ≡ lentOf w 5 6145 → g ≡ lentOf w 6 1537 → k ≡ lentOf w 7 65
+    → Says (Right desk (lentOn (take (32 + a - 32) (drop 32 w)) (take (128 + b - 128) (drop 128 w)) (take (224 + c - 224) (drop 224 w))
+    (take (320 + d - 320) (drop 320 w)) (take (512 + e - 512) (drop 512 w)) (take (11776 + f - 11776) (drop 11776 w)) (take (17984 + g - 17984) (drop 17984 w))
+    (take (19584 + k - 19584) (drop 19584 w)))) r
     → Says (Right (deskIn w) (tablesIn w)) r
 unfolding tablesIn
-tables-say w r {a} {b} {c} {d} {e} {f} {g} {desk} p₀ p₁ p₂ p₃ p₄ p₅ p₆ p₇ h =
-    let z : Says (Right desk (lentWith (take a (drop 32 w)) (take b (drop 128 w)) (take c (drop 224 w)) (take d (drop 320 w)) (take e (drop 512 w))
-    (take f (drop 11776 w)) (take g (drop 17984 w)))) r =
-    rw (cut 32 a, cut 128 b, cut 224 c, cut 320 d, cut 512 e, cut 11776 f, cut 17984 g) at h in
-    rw (p₀, p₁, p₂, p₃, p₄, p₅, p₆, p₇) at z
+tables-say w r {a} {b} {c} {d} {e} {f} {g} {k} {desk} p₀ p₁ p₂ p₃ p₄ p₅ p₆ p₇ p₈ h =
+    let z : Says (Right desk (lentOn (take a (drop 32 w)) (take b (drop 128 w)) (take c (drop 224 w)) (take d (drop 320 w)) (take e (drop 512 w))
+    (take f (drop 11776 w)) (take g (drop 17984 w)) (take k (drop 19584 w)))) r =
+    rw (cut 32 a, cut 128 b, cut 224 c, cut 320 d, cut 512 e, cut 11776 f, cut 17984 g, cut 19584 k) at h in
+    rw (p₀, p₁, p₂, p₃, p₄, p₅, p₆, p₇, p₈) at z
 
 -- ---- the number
 
-pub judged-short : (w : List ℕ) → (length w ≡ 19584 → ⊥) → Judged w 6
+pub judged-short : (w : List ℕ) → (length w ≡ rowWords → ⊥) → Judged w 6
 judged-short w h = record { right = false; says = λ z. h (z .0); is = refl }
 
-pub judged-yes : (w : List ℕ) {r : Bool} → length w ≡ 19584 → Says (Right (deskIn w) (tablesIn w)) r → r ≡ true → Judged w 0
+pub judged-yes : (w : List ℕ) {r : Bool} → length w ≡ rowWords → Says (Right (deskIn w) (tablesIn w)) r → r ≡ true → Judged w 0
 judged-yes w l s e = record { right = true; says = (l, subst (λ (b : Bool). Says (Right (deskIn w) (tablesIn w)) b) e s); is = refl }
 
-pub judged-no : (w : List ℕ) {r : Bool} → length w ≡ 19584 → Says (Right (deskIn w) (tablesIn w)) r → r ≡ false → Judged w 6
+pub judged-no : (w : List ℕ) {r : Bool} → length w ≡ rowWords → Says (Right (deskIn w) (tablesIn w)) r → r ≡ false → Judged w 6
 judged-no w l s e = record { right = false; says = λ z. subst (λ (b : Bool). Says (Right (deskIn w) (tablesIn w)) b) e s (z .1); is = refl }

@@ -1,4 +1,4 @@
--- What a row of 19,584 words says of a desk and of the lent tables.
+-- What a row of 20,608 words says of a desk and of the lent tables.
 use Prim.Native.Nat.{ℕ, _+_}
 use mathlib.Core.Path.{_≡_}
 use mathlib.Core.Bool.{Bool, cond}
@@ -10,11 +10,11 @@ use Rattle.model.specs.declared.Phase.{Phase}
 use Rattle.model.specs.declared.Phase.the-variants.{Fresh, Open, Closed}
 use Rattle.tables.specs.declared.Desk.{Desk}
 use Rattle.tables.specs.Rows.{Tables}
-use Rattle.tables.specs.Moment.{lentWith}
+use Rattle.tables.specs.Moment.{lentOn}
 use Rattle.tables.specs.Lent.{Right}
 
 abbrev pub rowWords : ℕ
-rowWords = 19584
+rowWords = 20608
 
 -- 0 fresh, 1 open, any other closed
 abbrev pub phaseBy : ℕ → Phase
@@ -41,7 +41,8 @@ part w table start room = take (lentOf w table room) (drop start w)
 -- each table has room for one word more than it should have
 unfoldable pub tablesIn : List ℕ → Tables
 tablesIn w =
-    lentWith (part w 0 32 65) (part w 1 128 65) (part w 2 224 65) (part w 3 320 65) (part w 4 512 11169) (part w 5 11776 6145) (part w 6 17984 1537)
+    lentOn (part w 0 32 65) (part w 1 128 65) (part w 2 224 65) (part w 3 320 65) (part w 4 512 11169) (part w 5 11776 6145) (part w 6 17984 1537)
+    (part w 7 19584 65)
 
 -- 0 exactly for a row of the right length whose desk and tables keep the table rules; else 6
 pub record Judged (w : List ℕ) (number : ℕ) : Type 0 where

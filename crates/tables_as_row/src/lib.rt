@@ -1,9 +1,9 @@
-// All that is lent, in one row of 19,584 words, for programs that run the table rules.
+// All that is lent, in one row of 20,608 words, for programs that run the table rules.
 //
 //     0 to 5           the desk: phase (0 fresh, 1 open, 2 closed), date, clock, texts, banks, streams in use
 //     6 to 21          its 16 words of streams
-//     24 to 30         how many words of each table are lent: codes, flags, balances, sub-limits, batches, references, BINs
-//     32, 128, 224, 320, 512, 11776, 17984   where these tables begin
+//     24 to 31         how many words of each table are lent: codes, flags, balances, sub-limits, batches, references, BINs, sheet
+//     32, 128, 224, 320, 512, 11776, 17984, 19584   where these tables begin
 use model::Phase;
 use tables::Desk;
 ghost use mathlib.Core.Path.{_≡_};
@@ -11,13 +11,13 @@ ghost use Prim.Native.Nat.{_+_, _≤_, _<_};
 ghost use lib.ListN.{length, take, drop};
 ghost use Rattle.chars.specs.Words.{Says};
 ghost use Rattle.tables.specs.Lent.{Right};
-ghost use Rattle.tables_as_row.specs.RowWords.{phaseBy, deskIn, lentOf, tablesIn, Judged};
+ghost use Rattle.tables_as_row.specs.RowWords.{rowWords, phaseBy, deskIn, lentOf, tablesIn, Judged};
 
-const WORDS: usize = 19_584;
+const WORDS: usize = 20_608;
 
 // How many words of a table are lent, of those that it has room for.
 fn lent(words: &[u64], table: usize, room: usize) -> usize
-    requires { ⌜ (length (now words) ≡ 19584) × (table < 7) ⌝ }
+    requires { ⌜ (length (now words) ≡ rowWords) × (table < 8) ⌝ }
     ensures { λ r. ⌜ r ≡ lentOf (now (words .entry)) table room ⌝ }
     ensures small { λ r. ⌜ r ≤ room ⌝ }
 {
@@ -41,7 +41,7 @@ fn phase(x: u64) -> Phase
 }
 
 fn streams(words: &[u64]) -> [u64; 16]
-    requires { ⌜ length (now words) ≡ 19584 ⌝ }
+    requires { ⌜ length (now words) ≡ rowWords ⌝ }
     ensures { λ r. ⌜ r ≡ take 16 (drop 6 (now (words .entry))) ⌝ }
 {
     let mut row = [0u64; 16];
@@ -54,7 +54,7 @@ fn streams(words: &[u64]) -> [u64; 16]
 }
 
 fn desk(words: &[u64]) -> Desk
-    requires { ⌜ length (now words) ≡ 19584 ⌝ }
+    requires { ⌜ length (now words) ≡ rowWords ⌝ }
     ensures { λ r. ⌜ r ≡ deskIn (now (words .entry)) ⌝ }
 {
     let row = streams(words);
@@ -71,7 +71,7 @@ fn desk(words: &[u64]) -> Desk
 }
 
 pub fn right(words: &[u64]) -> bool
-    requires { ⌜ length (now words) ≡ 19584 ⌝ }
+    requires { ⌜ length (now words) ≡ rowWords ⌝ }
     ensures { λ r. ⌜ Says (Right (deskIn (now (words .entry))) (tablesIn (now (words .entry)))) r ⌝ }
 {
     let codes = 32 + lent(words, 0, 65);
@@ -81,8 +81,9 @@ pub fn right(words: &[u64]) -> bool
     let batches = 512 + lent(words, 4, 11_169);
     let references = 11_776 + lent(words, 5, 6_145);
     let bins = 17_984 + lent(words, 6, 1_537);
+    let sheet = 19_584 + lent(words, 7, 65);
     let d = desk(words);
-    tables_rules::whole::tables_right(
+    tables_sheet::tables_right(
         d,
         &words[32..codes],
         &words[128..flags],
@@ -91,6 +92,7 @@ pub fn right(words: &[u64]) -> bool
         &words[512..batches],
         &words[11_776..references],
         &words[17_984..bins],
+        &words[19_584..sheet],
     )
 }
 

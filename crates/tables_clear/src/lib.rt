@@ -10,7 +10,7 @@ ghost use Rattle.chars.specs.Words.{Says};
 ghost use Rattle.model.specs.Calls.{cleared};
 ghost use Rattle.tables.specs.House.{Lengths};
 ghost use Rattle.tables.specs.Words.{deskOf};
-ghost use Rattle.tables.specs.Moment.{lentWith};
+ghost use Rattle.tables.specs.Moment.{lentOn};
 ghost use Rattle.tables.specs.Lent.{Cleared};
 ghost use Rattle.tables_clear.specs.Clearing.{LongRows, WipedAccounts, WipedRows};
 
@@ -26,8 +26,11 @@ const REFERENCES: usize = 6_144;
 
 const BINS: usize = 1_536;
 
-fn rows_long(batches: &[u64], references: &[u64], bins: &[u64]) -> bool
-    ensures { λ r. ⌜ Says (LongRows (now (batches .entry)) (now (references .entry)) (now (bins .entry))) r ⌝ }
+const SHEET: usize = 64;
+
+fn rows_long(batches: &[u64], references: &[u64], bins: &[u64], sheet: &[u64]) -> bool
+    ensures { λ r. ⌜ Says
+        (LongRows (now (batches .entry)) (now (references .entry)) (now (bins .entry)) (now (sheet .entry))) r ⌝ }
 {
     if batches.len() != BATCHES {
         return false;
@@ -35,11 +38,16 @@ fn rows_long(batches: &[u64], references: &[u64], bins: &[u64]) -> bool
     if references.len() != REFERENCES {
         return false;
     }
-    bins.len() == BINS
+    if bins.len() != BINS {
+        return false;
+    }
+    sheet.len() == SHEET
 }
 
 fn wipe_accounts(codes: &mut [u64], flags: &mut [u64], balances: &mut [u64], sublimits: &mut [u64])
-    ensures { λ _. ⌜ WipedAccounts (now (codes .entry)) (now (flags .entry)) (now (balances .entry)) (now (sublimits .entry)) (now (codes .exit)) (now (flags .exit)) (now (balances .exit)) (now (sublimits .exit)) ⌝ }
+    ensures { λ _. ⌜ WipedAccounts
+        (now (codes .entry)) (now (flags .entry)) (now (balances .entry)) (now (sublimits .entry))
+        (now (codes .exit)) (now (flags .exit)) (now (balances .exit)) (now (sublimits .exit)) ⌝ }
 {
     tables::places::clear(codes);
     tables::places::clear(flags);
@@ -47,12 +55,15 @@ fn wipe_accounts(codes: &mut [u64], flags: &mut [u64], balances: &mut [u64], sub
     tables::places::clear(sublimits);
 }
 
-fn wipe_rows(batches: &mut [u64], references: &mut [u64], bins: &mut [u64])
-    ensures { λ _. ⌜ WipedRows (now (batches .entry)) (now (references .entry)) (now (bins .entry)) (now (batches .exit)) (now (references .exit)) (now (bins .exit)) ⌝ }
+fn wipe_rows(batches: &mut [u64], references: &mut [u64], bins: &mut [u64], sheet: &mut [u64])
+    ensures { λ _. ⌜ WipedRows
+        (now (batches .entry)) (now (references .entry)) (now (bins .entry)) (now (sheet .entry))
+        (now (batches .exit)) (now (references .exit)) (now (bins .exit)) (now (sheet .exit)) ⌝ }
 {
     tables::places::clear(batches);
     tables::places::clear(references);
     tables::places::clear(bins);
+    tables::places::clear(sheet);
 }
 
 // "all zero, no day, nothing remembered"
@@ -79,8 +90,18 @@ pub fn clear(
     batches: &mut [u64],
     references: &mut [u64],
     bins: &mut [u64],
+    sheet: &mut [u64],
 ) -> Start
-    ensures { λ r. ⌜ Cleared desk (lentWith (now (codes .entry)) (now (flags .entry)) (now (balances .entry)) (now (sublimits .entry)) (now (batches .entry)) (now (references .entry)) (now (bins .entry))) (record { answer = r .answer; desk = r .desk; tables = lentWith (now (codes .exit)) (now (flags .exit)) (now (balances .exit)) (now (sublimits .exit)) (now (batches .exit)) (now (references .exit)) (now (bins .exit)) }) ⌝ }
+    ensures { λ r. ⌜ Cleared desk
+        (lentOn (now (codes .entry)) (now (flags .entry)) (now (balances .entry)) (now (sublimits .entry))
+        (now (batches .entry)) (now (references .entry)) (now (bins .entry)) (now (sheet .entry)))
+        (record {
+          answer = r .answer;
+          desk = r .desk;
+          tables =
+              lentOn (now (codes .exit)) (now (flags .exit)) (now (balances .exit)) (now (sublimits .exit))
+              (now (batches .exit)) (now (references .exit)) (now (bins .exit)) (now (sheet .exit));
+        }) ⌝ }
 {
     if !tables::house::lengths_right(codes, flags, balances, sublimits) {
         return Start {
@@ -88,14 +109,14 @@ pub fn clear(
             desk,
         };
     }
-    if !rows_long(batches, references, bins) {
+    if !rows_long(batches, references, bins, sheet) {
         return Start {
             answer: Answer::Refused(Refusal::BrokenTables),
             desk,
         };
     }
     wipe_accounts(codes, flags, balances, sublimits);
-    wipe_rows(batches, references, bins);
+    wipe_rows(batches, references, bins, sheet);
     let desk = no_day();
     Start {
         answer: Answer::Done,

@@ -5,10 +5,10 @@ use Rattle.c_engine.proofs.load.Statement.{statement}
 use Rattle.c_engine.proofs.load.Tie as tie
 
 abbrev Inv-loop : tie.InvT-loop
-Inv-loop banks codes₀ flags₀ balances₀ limits₀ i₀ codes flags balances sublimits i = Loading banks i codes flags balances sublimits
+Inv-loop banks codes₀ flags₀ balances₀ limits₀ sheet₀ i₀ codes flags balances sublimits sheet i = Loading banks i codes flags balances sublimits sheet
 
 abbrev μ-loop : tie.MeasureT-loop
-μ-loop banks codes₀ flags₀ balances₀ limits₀ i₀ codes flags balances sublimits i = 64 - i
+μ-loop banks codes₀ flags₀ balances₀ limits₀ sheet₀ i₀ codes flags balances sublimits sheet i = 64 - i
 
 loop-holds : tie.Need-loop-holds Inv-loop μ-loop
 loop-holds c = search (needs, load-start)
@@ -76,6 +76,21 @@ mul-sublimits-2 c = search needs
 slice-write-sublimits : tie.Need-slice-write-sublimits Inv-loop μ-loop
 slice-write-sublimits c = search needs
 
+add-sheet : tie.Need-add-sheet Inv-loop μ-loop
+add-sheet c = search needs
+
+mul-sheet : tie.Need-mul-sheet Inv-loop μ-loop
+mul-sheet c = search needs
+
+shared-slice-read-sheet : tie.Need-shared-slice-read-sheet Inv-loop μ-loop
+shared-slice-read-sheet c = search needs
+
+mul-sheet-2 : tie.Need-mul-sheet-2 Inv-loop μ-loop
+mul-sheet-2 c = search needs
+
+slice-write-sheet : tie.Need-slice-write-sheet Inv-loop μ-loop
+slice-write-sheet c = search needs
+
 add-i : tie.Need-add-i Inv-loop μ-loop
 add-i c = search needs
 
@@ -96,6 +111,9 @@ same-length-3 c = search needs
 
 same-length-4 : tie.Need-same-length-4 Inv-loop μ-loop
 same-length-4 c = search needs
+
+same-length-5 : tie.Need-same-length-5 Inv-loop μ-loop
+same-length-5 c = search needs
 
 returns : tie.Need-returns Inv-loop μ-loop
 returns c = search (needs, load-end)
@@ -128,6 +146,11 @@ load-spec =
     shared-slice-read-sublimits
     mul-sublimits-2
     slice-write-sublimits
+    add-sheet
+    mul-sheet
+    shared-slice-read-sheet
+    mul-sheet-2
+    slice-write-sheet
     add-i
     loop-less
     loop-again
@@ -135,4 +158,5 @@ load-spec =
     same-length-2
     same-length-3
     same-length-4
+    same-length-5
     returns)

@@ -7,10 +7,10 @@ use Rattle.c_engine.proofs.save.Statement.{statement}
 use Rattle.c_engine.proofs.save.Tie as tie
 
 abbrev Inv-loop : tie.InvT-loop
-Inv-loop banks₀ codes flags balances sublimits i₀ banks i = Saving banks i codes flags balances sublimits
+Inv-loop banks₀ codes flags balances sublimits sheet i₀ banks i = Saving banks i codes flags balances sublimits sheet
 
 abbrev μ-loop : tie.MeasureT-loop
-μ-loop banks₀ codes flags balances sublimits i₀ banks i = 64 - i
+μ-loop banks₀ codes flags balances sublimits sheet i₀ banks i = 64 - i
 
 loop-holds : tie.Need-loop-holds Inv-loop μ-loop
 loop-holds c = search (needs, save-start)
@@ -78,6 +78,21 @@ mul-banks-8 c = search needs
 slice-write-banks-4 : tie.Need-slice-write-banks-4 Inv-loop μ-loop
 slice-write-banks-4 c = simp length-set (omega arith)
 
+mul-banks-9 : tie.Need-mul-banks-9 Inv-loop μ-loop
+mul-banks-9 c = search needs
+
+shared-slice-read-banks-5 : tie.Need-shared-slice-read-banks-5 Inv-loop μ-loop
+shared-slice-read-banks-5 c = search needs
+
+add-banks-5 : tie.Need-add-banks-5 Inv-loop μ-loop
+add-banks-5 c = search needs
+
+mul-banks-10 : tie.Need-mul-banks-10 Inv-loop μ-loop
+mul-banks-10 c = search needs
+
+slice-write-banks-5 : tie.Need-slice-write-banks-5 Inv-loop μ-loop
+slice-write-banks-5 c = simp length-set (omega arith)
+
 add-i : tie.Need-add-i Inv-loop μ-loop
 add-i c = search needs
 
@@ -121,6 +136,11 @@ save-spec =
     add-banks-4
     mul-banks-8
     slice-write-banks-4
+    mul-banks-9
+    shared-slice-read-banks-5
+    add-banks-5
+    mul-banks-10
+    slice-write-banks-5
     add-i
     loop-less
     loop-again

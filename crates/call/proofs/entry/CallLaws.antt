@@ -17,21 +17,25 @@ use Rattle.model.specs.Kinds.{Kind, opens, steps, gives, kindOf}
 use Rattle.model.specs.Days.{onDate, opened, openingAnswer, closingText}
 use Rattle.model.specs.Calls.{Call, Engine, refused, stepped, openedBy, bookGiven, performed, judged, judge, call}
 use Rattle.tables.specs.declared.Desk.{Desk}
-use Rattle.tables.specs.Moment.{dayOn, movedTo, callFor, Judged, lentWith}
-use Rattle.tables.specs.Rows.{Tables, streamsOn, stateIn, engineIn}
-use Rattle.tables.specs.Words.{deskOf, tablesOf}
+use Rattle.tables.specs.Moment.{dayOn, movedTo, callFor, Judged, lentOn, lentWith}
+use Rattle.tables.specs.Rows.{Tables, streamsOn, batchesIn, stateIn, engineIn}
+use Rattle.tables.specs.Words.{sheetWords, sheetLength, deskOf, tablesOf}
 use Rattle.tables.specs.Lent.{Right, Lent, Asked, Left, leftBy, callLent, Called}
-use Rattle.tables.proofs.Kept.{right-long}
+use Rattle.tables.proofs.Kept.{right-long, right-left}
 use Rattle.tables.proofs.MomentLaws.{closing-length}
+use Rattle.tables_rules.proofs.whole.Parts.{right-sheet}
+use Rattle.tables_sheet.specs.Sheet.{Ruled}
+use Rattle.tables_sheet.proofs.Laws.{right-ruled}
 use Rattle.call_day.specs.Opening.{columns, Full, Begins, openedOn, banksOn}
 use Rattle.call.specs.step.Stepping.{lentAs, leftAs}
 use Rattle.call.specs.declared.step.Told.{Told}
 use Rattle.call.specs.entry.Calls.{Performable}
 use Rattle.call.proofs.entry.Moments.{right-few}
 
-module _ (quick : Bool) (clock : ℕ) (a : Action) (input : List ℕ) (d : Desk) (codes flags balances sublimits t rs bs out r : List ℕ) where
+module _ (quick : Bool) (clock : ℕ) (a : Action) (input : List ℕ) (d : Desk)
+    (codes flags balances sublimits t rs bs sheet out r : List ℕ) where
   abbrev T : Tables
-  T = lentWith codes flags balances sublimits t rs bs
+  T = lentOn codes flags balances sublimits t rs bs sheet
 
   abbrev e : Engine
   e = engineIn d T
@@ -98,7 +102,9 @@ module _ (quick : Bool) (clock : ℕ) (a : Action) (input : List ℕ) (d : Desk)
     -- an opening
 
     abbrev begins : Begins → Left
-    begins b = leftAs (b .answer) 0 0 (b .desk) (lentWith (b .columns .codes) (b .columns .flags) (b .columns .balances) (b .columns .sublimits) t rs bs) out r
+    begins b =
+        leftAs (b .answer) 0 0 (b .desk)
+        (lentOn (b .columns .codes) (b .columns .flags) (b .columns .balances) (b .columns .sublimits) t rs bs sheet) out r
 
     opens-left : (n : Answer) → begins (openedOn n d clock input (columns codes flags balances sublimits)) ≡ leftBy x (openedBy n e c)
     unfolding opened deskOf tablesOf
@@ -106,16 +112,50 @@ module _ (quick : Bool) (clock : ℕ) (a : Action) (input : List ℕ) (d : Desk)
         let u : tablesOf e .batches ≡ t = ap (λ (z : Tables). z .batches) (k .right .tables) in
         let v : tablesOf e .references ≡ rs = ap (λ (z : Tables). z .references) (k .right .tables) in
         let w : tablesOf e .bins ≡ bs = ap (λ (z : Tables). z .bins) (k .right .tables) in
-        rw (u, v, w)
+        let z : tablesOf e .sheet ≡ sheet = ap (λ (z : Tables). z .sheet) (k .right .tables) in
+        rw (u, v, w, z)
     opens-left (Refused f) = refused-left (k .right) f
 
     pub opens-day : kindOf a ≡ opens → (b : Begins) → b ≡ openedOn (openingAnswer (dayOn d) input) d clock input (columns codes flags balances sublimits)
-        → leftAs (b .answer) 0 0 (b .desk) (lentWith (b .columns .codes) (b .columns .flags) (b .columns .balances) (b .columns .sublimits) t rs bs) out r ≡ leftBy x (performed (kindOf a) e c)
+        → leftAs (b .answer) 0 0 (b .desk)
+        (lentOn (b .columns .codes) (b .columns .flags) (b .columns .balances) (b .columns .sublimits) t rs bs sheet) out r
+        ≡ leftBy x (performed (kindOf a) e c)
     unfolding engineIn stateIn
     opens-day i b u = as-kind opens i (begins b) (ap begins u ∙ opens-left (openingAnswer (dayOn d) input))
 
-    pub takes-steps : kindOf a ≡ steps → (y : Left) → y ≡ leftBy x (stepped e c) → y ≡ leftBy x (performed (kindOf a) e c)
-    takes-steps i y u = as-kind steps i y u
+    -- steps: they are taken on the sheet that the batches say, and it is written anew behind them
+
+    sheet-right : sheet ≡ sheetWords (batchesIn t)
+    sheet-right = right-sheet d T (k .right)
+
+    pub sheet-long : length sheet ≡ sheetLength
+    sheet-long = right-long d T (k .right) .sheet
+
+    abbrev W : Tables
+    W = lentWith codes flags balances sublimits t rs bs
+
+    pub same-able : Performable d W clock a out r
+    same-able = subst (λ (z : List ℕ). Performable d (lentOn codes flags balances sublimits t rs bs z) clock a out r) sheet-right k
+
+    module _ (i : kindOf a ≡ steps) (y : Told) (balances′ sublimits′ t′ rs′ bs′ out′ r′ : List ℕ)
+        (u : leftAs (y .answer) (y .written) (y .tried) (y .desk) (lentWith codes flags balances′ sublimits′ t′ rs′ bs′) out′ r′
+        ≡ leftBy (lentAs d W out r) (stepped (engineIn d W) c)) where
+      abbrev Y : Left
+      Y = leftAs (y .answer) (y .written) (y .tried) (y .desk) (lentWith codes flags balances′ sublimits′ t′ rs′ bs′) out′ r′
+
+      steps-left : Y ≡ leftBy x (performed (kindOf a) e c)
+      unfolding engineIn stateIn
+      steps-left = as-kind steps i Y u
+
+      pub steps-ruled : Ruled t′
+      steps-ruled =
+          right-ruled (y .desk) (lentWith codes flags balances′ sublimits′ t′ rs′ bs′)
+          (right-left x asked Y (k .right) (performs true (k .right) refl Done (k .judged) refl Y steps-left))
+
+      pub takes-steps : (sheet′ : List ℕ) → sheet′ ≡ sheetWords (batchesIn t′)
+          → leftAs (y .answer) (y .written) (y .tried) (y .desk) (lentOn codes flags balances′ sublimits′ t′ rs′ bs′ sheet′) out′ r′
+          ≡ leftBy x (performed (kindOf a) e c)
+      takes-steps sheet′ v = rw v steps-left
 
     -- a book that is given
 

@@ -22,6 +22,7 @@ use Rattle.tables.specs.House.{houseOn}
 use Rattle.tables.specs.Rows.{Tables, word, batchIn, batchRows, batchesIn, memoryIn, entriesIn}
 use Rattle.tables.specs.Words.{deskOf, tablesOf}
 use Rattle.tables.specs.Lent.{Right}
+use Rattle.tables.proofs.Kept.{right-long}
 use Rattle.tables_rules.specs.batch_rules.BatchRules.{LiveRow, RowIn}
 use Rattle.tables_rules.proofs.batch_rules.RowRules.{live-few, live-small, live-flat}
 use Rattle.tables_rules.proofs.batch_rules.Exact.{rows-wide, each-at, rules-exact}
@@ -62,8 +63,8 @@ noted-few today (e ∷ es) = omega (arith, count-one (not (sameCode (e .code) no
 -- ---- the whole
 
 module _ (d : Desk) (t : Tables) where
-  pub day-grants : DayTables d t → Granted d t
-  day-grants x =
+  pub day-grants : Right d t → DayTables d t → Granted d t
+  day-grants r x =
       let u = rules-exact (d .banks) (t .batches) .to (x .batches) in
       let s = stood (d .banks) (batchesIn (t .batches)) (u .batches) in
       let h = x .desk .house in
@@ -75,15 +76,7 @@ module _ (d : Desk) (t : Tables) where
         streams-long = x .desk .streams-long;
         some-banks = x .desk .some-banks;
         few-banks = h .few-banks;
-        long = record {
-          codes = h .codes-long;
-          flags = h .flags-long;
-          balances = h .balances-long;
-          sublimits = h .sublimits-long;
-          batches = x .batches .long;
-          references = x .known .references-long;
-          bins = x .known .bins-long;
-        };
+        long = right-long d t r;
         house = h;
         books = house-books (houseOn d (t .codes) (t .flags)) (accounts (t .balances) (t .sublimits)) h;
         stood = s;
@@ -102,10 +95,10 @@ module _ (d : Desk) (t : Tables) where
   in-phase p e r = subst (λ (q : Phase). TablesIn q d t) e (tables-exact d t .back r)
 
   pub open-grants : d .phase ≡ Open → Right d t → Granted d t
-  open-grants e r = day-grants (in-phase Open e r)
+  open-grants e r = day-grants r (in-phase Open e r)
 
   pub closed-grants : d .phase ≡ Closed → Right d t → Granted d t
-  closed-grants e r = day-grants (in-phase Closed e r .day)
+  closed-grants e r = day-grants r (in-phase Closed e r .day)
 
   -- "no live batch unless the day is open"
   pub closed-idle : d .phase ≡ Closed → Right d t → batchesIn (t .batches) ≡ noBatches

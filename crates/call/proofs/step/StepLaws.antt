@@ -21,21 +21,22 @@ use Rattle.model.specs.Joining.{join}
 use Rattle.model.specs.Messages.{Acted}
 use Rattle.model.specs.Ending.{closeReplies}
 use Rattle.model.specs.Calls.{Call, Engine, begun, act, tested, replies, left, lastReplies, goesOn, closes, stepped}
-use Rattle.model.specs.Rules.{Opened, ValidIn}
+use Rattle.model.specs.Rules.{Opened, ValidIn, RightMemory}
 use Rattle.model.proofs.Reading.{readers}
 use Rattle.model.proofs.Keeping.{tested-stood}
+use Rattle.model.proofs.Holding.{left-memory}
 use Rattle.model.proofs.Validity.{valid-kept}
 use Rattle.model.proofs.Standing.{Stood, join-stood, few-queued}
 use Rattle.tables.specs.declared.Desk.{Desk}
 use Rattle.tables.specs.Moment.{movedTo, callFor, lentWith}
 use Rattle.tables.specs.Rows.{Tables, batchesIn, memoryIn, entriesIn, streamsOn, stateIn, engineIn}
-use Rattle.tables.specs.Words.{filled, entriesWords, tablesOf, deskOf}
+use Rattle.tables.specs.Words.{filled, entriesWords, sheetWords, tablesOf, deskOf}
 use Rattle.tables.specs.Lent.{leftBy}
-use Rattle.tables_rules.proofs.whole.Parts.{entries-words, none-words}
+use Rattle.tables_rules.proofs.whole.Parts.{entries-words, none-words, is-blank, idle}
 use Rattle.call.proofs.premises.Granted.{Granted, open-grants}
 use Rattle.call_orders.specs.Heads.{NeatTable, wordsOf}
 use Rattle.call_orders.specs.Stages.{seen, Became}
-use Rattle.call_orders.proofs.Canon.{stored-so}
+use Rattle.call_orders.proofs.Canon.{stored-so, words-say}
 use Rattle.call_texts.specs.Writing.{Wrote, Room, Legible, batchesOn}
 use Rattle.call_texts.proofs.Laws.{legible, close-any, room-first, room-rest, wrote-then}
 use Rattle.call_texts.proofs.Whole.{stepped-room}
@@ -155,6 +156,14 @@ module _ (quick : Bool) (d : Desk) (x : Action) (clock : ℕ) (input codes flags
       bins-so : bs₂ ≡ entriesWords (a .known .bins)
       bins-so = sym (entries-words 512 bs₂ (omega arith)) ∙ ap entriesWords (h .known .bins)
 
+      still-stood : Stood (d .banks) (left s a o)
+      unfolding begun engineIn stateIn
+      still-stood = holds (λ z b u. Stood (z .house .banks) (left z b u)) (tested-stood readers e c (valid-kept (e .state) (k .right .valid)))
+
+      still-held : RightMemory (left s a o) (forgotten (o .done) (o .memory))
+      unfolding engineIn
+      still-held = holds (λ z b u. RightMemory (left z b u) (forgotten (u .done) (u .memory))) (left-memory e c (k .right .memory))
+
       goes-so : (t₃ : List ℕ) → t₃ ≡ wordsOf (seen t₂ q₂ nq₂ w₂ nw₂) m₂
           → leftAs answer at₂ k₂ (deskAfter (d .phase) texts₂ d′) (lentWith codes flags balances₂ limits₂ t₃ rs₂ bs₂) out₂ r₂ ≡ leftBy (lentAs d T out r) (goesOn s a o)
       unfolding goesOn deskOf tablesOf
@@ -162,8 +171,11 @@ module _ (quick : Bool) (d : Desk) (x : Action) (clock : ℕ) (input codes flags
           let g : t₃ ≡ wordsOf (left s a o) (forgotten (o .done) (o .memory)) =
           stored-so (left s a o) t₂ q₂ nq₂ w₂ nw₂ m₂ t₃ (h .batches) f ∙ ap (λ (z : List ℕ). wordsOf (left s a o) z) (h .memory)
           in
+          let w : sheetWords (batchesIn t₃) ≡ sheetWords (left s a o) =
+          ap sheetWords (words-say (d .banks) (left s a o) (forgotten (o .done) (o .memory)) t₃ still-stood still-held g)
+          in
           let v : at₂ ≡ length (textsFrom (d .texts) (replies s a o)) = omega (arith, h .replies .end) in
-          rw (h .answered, v, h .tried, h .replies .count, h .replies .bytes, h .row, g, balances-so, sublimits-so, references-so, bins-so, streams-so, few-so)
+          rw (h .answered, v, h .tried, h .replies .count, h .replies .bytes, h .row, w, g, balances-so, sublimits-so, references-so, bins-so, streams-so, few-so)
 
       pub steps-on : isClose x ≡ false → (t₃ : List ℕ) → t₃ ≡ wordsOf (seen t₂ q₂ nq₂ w₂ nw₂) m₂
           → leftAs answer at₂ k₂ (deskAfter (d .phase) texts₂ d′) (lentWith codes flags balances₂ limits₂ t₃ rs₂ bs₂) out₂ r₂ ≡ leftBy (lentAs d T out r) (stepped e c)
@@ -183,10 +195,6 @@ module _ (quick : Bool) (d : Desk) (x : Action) (clock : ℕ) (input codes flags
       close-room true f y = subst (λ (l : List Reply). Room out₂ at₂ texts₂ l) (sym last-so) (room-rest (h .replies) (lastReplies s a o) y)
       close-room false f y = absurd (false≢true f)
 
-      still-stood : Stood (d .banks) (left s a o)
-      unfolding begun engineIn stateIn
-      still-stood = holds (λ z b u. Stood (z .house .banks) (left z b u)) (tested-stood readers e c (valid-kept (e .state) (k .right .valid)))
-
       pub close-able : isClose x ≡ true
           → (Legible t₂ × (512 * 3 ≤ length bs₂)) × Room out₂ at₂ texts₂ (closeReplies (d .date) (batchesOn t₂) (entriesIn 512 bs₂))
       close-able f = (
@@ -202,10 +210,14 @@ module _ (quick : Bool) (d : Desk) (x : Action) (clock : ℕ) (input codes flags
         closes-so : leftAs answer at₃ k₂ (deskAfter Closed texts₃ d′) (lentWith codes flags balances₂ limits₂ t₃ rs₂ bs₂) out₃ r₂ ≡ leftBy (lentAs d T out r) (closes s a o)
         unfolding closes deskOf tablesOf
         closes-so =
-            let g : t₃ ≡ wordsOf noBatches noMemory = f ∙ ap (λ (n : ℕ). replicate n 0) (h .batches .ready .table .long) ∙ sym (none-words noMemory) in
+            let b : t₃ ≡ replicate 11168 0 = f ∙ ap (λ (n : ℕ). replicate n 0) (h .batches .ready .table .long) in
+            let g : t₃ ≡ wordsOf noBatches noMemory = b ∙ sym (none-words noMemory) in
+            let w : sheetWords (batchesIn t₃) ≡ sheetWords noBatches =
+            ap sheetWords (idle d (lentWith codes flags balances₂ limits₂ t₃ rs₂ bs₂) (is-blank 11168 t₃ b))
+            in
             let u = all-told in
             let v : at₃ ≡ length (textsFrom (d .texts) (replies s a o ++ lastReplies s a o)) = omega (arith, u .end) in
-            rw (h .answered, v, h .tried, u .count, u .bytes, h .row, g, balances-so, sublimits-so, references-so, bins-so, streams-so, few-so)
+            rw (h .answered, v, h .tried, u .count, u .bytes, h .row, w, g, balances-so, sublimits-so, references-so, bins-so, streams-so, few-so)
 
         pub steps-close : isClose x ≡ true
             → leftAs answer at₃ k₂ (deskAfter Closed texts₃ d′) (lentWith codes flags balances₂ limits₂ t₃ rs₂ bs₂) out₃ r₂ ≡ leftBy (lentAs d T out r) (stepped e c)

@@ -7,10 +7,10 @@ use Rattle.cli_tables.proofs.orders.at.Reads as at-reads
 use Rattle.cli_tables.proofs.show_bank.Reads as show-bank-reads
 
 abbrev Inv-loop : tie.InvT-loop
-Inv-loop codes flags balances sublimits n i₀ i = Unit {0}
+Inv-loop codes flags balances sublimits sheet n i₀ i = Unit {0}
 
 abbrev μ-loop : tie.MeasureT-loop
-μ-loop codes flags balances sublimits n i₀ i = 64 - i
+μ-loop codes flags balances sublimits sheet n i₀ i = 64 - i
 
 loop-holds : tie.Need-loop-holds Inv-loop μ-loop
 loop-holds c = tt
@@ -26,6 +26,9 @@ at-requires-3 c κs = search needs
 
 at-requires-4 : tie.Need-at-requires-4 Inv-loop μ-loop
 at-requires-4 c κs = search needs
+
+at-requires-5 : tie.Need-at-requires-5 Inv-loop μ-loop
+at-requires-5 c κs = search needs
 
 show-bank-requires : tie.Need-show-bank-requires Inv-loop μ-loop
 show-bank-requires c κs = search needs
@@ -53,6 +56,7 @@ show-banks-spec =
     at-requires-2
     at-requires-3
     at-requires-4
+    at-requires-5
     show-bank-requires
     add-i
     loop-less

@@ -8,11 +8,11 @@ use Rattle.cli_files.proofs.lines.nothing_ahead.Reads as nothing-ahead-reads
 use Rattle.io.proofs.large_buffer.Reads as large-buffer-reads
 
 abbrev Inv-loop : tie.InvT-loop
-Inv-loop quick keep-going name fd buf₀ line₀ input₀ codes₀ flags₀ balances₀ limits₀ batches₀ references₀ bins₀ out₀ tries₀ desk₀ ahead₀ number₀ more₀ buf line input codes flags balances sublimits batches references bins out tries desk ahead number more =
+Inv-loop quick keep-going name fd buf₀ line₀ input₀ codes₀ flags₀ balances₀ limits₀ batches₀ references₀ bins₀ sheet₀ out₀ tries₀ desk₀ ahead₀ number₀ more₀ buf line input codes flags balances sublimits batches references bins sheet out tries desk ahead number more =
     Unit {0}
 
 abbrev μ-loop : tie.MeasureT-loop
-μ-loop quick keep-going name fd buf₀ line₀ input₀ codes₀ flags₀ balances₀ limits₀ batches₀ references₀ bins₀ out₀ tries₀ desk₀ ahead₀ number₀ more₀ buf line input codes flags balances sublimits batches references bins out tries desk ahead number more =
+μ-loop quick keep-going name fd buf₀ line₀ input₀ codes₀ flags₀ balances₀ limits₀ batches₀ references₀ bins₀ sheet₀ out₀ tries₀ desk₀ ahead₀ number₀ more₀ buf line input codes flags balances sublimits batches references bins sheet out tries desk ahead number more =
     18446744073709551615 - number
 
 large-buffer-requires : tie.Need-large-buffer-requires Inv-loop μ-loop

@@ -1,12 +1,13 @@
 use mathlib.Core.Path.{_≡_}
 use lib.ListN.{length}
+use Rattle.tables_as_row.specs.RowWords.{rowWords}
 use Prim.Native.Nat.{_-_, _+_, _≤_}
 use borrow.Author.Needs.{needs}
 use Rattle.run_rules.proofs.run.Statement.{statement}
 use Rattle.run_rules.proofs.run.Tie as tie
 
 abbrev Inv-loop : tie.InvT-loop
-Inv-loop text words₀ at₀ words at = (at ≤ length text + 1) × (length words ≡ 19584)
+Inv-loop text words₀ at₀ words at = (at ≤ length text + 1) × (length words ≡ rowWords)
 
 abbrev μ-loop : tie.MeasureT-loop
 μ-loop text words₀ at₀ words at = length text + 1 - at

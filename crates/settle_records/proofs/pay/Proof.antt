@@ -88,7 +88,7 @@ module _ {M : Type 1} (𝓤 : URA M) (H : Heap 𝓤) (A : Atoms 𝓤) (W : Given
   inside : i < length ys
   inside = inside-row ys i c l pays
 
-  fit-row : i * 32 < 2 ^ 64
+  fit-row : i * 40 < 2 ^ 64
   fit-row = omega (arith, inside, g .1)
 
   exits : (z : List Account) → length z ≡ length ys → Stored ys z (paid (balancesOf ys) (payment i c l)) → ent 𝓤 (⋆ 𝓤 H A (‵ (fobs γ (codedHoleys T.the-row .code (heres T.the-row z))) ∷ ‵ (fbor κ (Held T.the-row (length z) b o γ)) ∷ ‵ (flft κ q) ∷ [])) (Post vunit)
@@ -109,7 +109,7 @@ module _ {M : Type 1} (𝓤 : URA M) (H : Heap 𝓤) (A : Atoms 𝓤) (W : Given
   made r = withBalance y r
 
   is-made : Is T.the-row y (vals y) → (r : ℕ) → r < 2 ^ 64 → Is T.the-row (made r) (vals (made r))
-  is-made was r h = let s = LL.owed T.the-type T′.the-laws y _ was in LL.owes T.the-type T′.the-laws (made r) (s .0, (s .1 .0, ((refl, h), (s .1 .1 .1 .0, tt))))
+  is-made was r h = let s = LL.owed T.the-type T′.the-laws y _ was in LL.owes T.the-type T′.the-laws (made r) (s .0, (s .1 .0, ((refl, h), (s .1 .1 .1 .0, (s .1 .1 .1 .1 .0, tt)))))
 
   module _ (C : Calls 𝓤 H) (Λ : Loops 𝓤 H) (fm : FmC 𝓤 H (W .laws) C) (k₁ : Triple 𝓤 (C #settle-records·balance-after) (Aft 𝓤 H A mem′ run)) where
     abbrev margs : List Val
@@ -123,7 +123,7 @@ module _ {M : Type 1} (𝓤 : URA M) (H : Heap 𝓤) (A : Atoms 𝓤) (W : Given
         move ! (21 ∷ []) $ fsplit ! $ fsplit ! $ drop ! $ fsplit ! $ move ! (23 ∷ []) $ split ! $ move ! (2 ∷ 3 ∷ 0 ∷ []) $ opens-slice ! tt T.the-row ys b o $
         assigns ! (bin ! (load ! (from ! (stop !)) (look ! 20 refl)) (lit ! tt) (record { fits = fit-row })) (from ! (stop !)) (init ! 12 refl (tt, record { fits = fit-row })) $
         assigns ! (bin ! (load ! (from ! (fld ! refl (stop !))) (look-in ! 22 (sub ! 0 refl (whole !)))) (load ! (from ! (stop !)) (look ! 12 refl)) tt) (from ! (stop !)) (init ! 10 refl (tt, tt)) $
-        rewrite ! 10 (λ (p : ℕ). ‵ (fat fullShare tyPtr l₇ 0 (vptr b p))) (sym (place-is 32 o i)) refl $
+        rewrite ! 10 (λ (p : ℕ). ‵ (fat fullShare tyPtr l₇ 0 (vptr b p))) (sym (place-is 40 o i)) refl $
         elem-out ! T.the-row (Is T.the-row) (shows 𝓤 H A T.the-row) vals (LL.tells T.the-type T′.the-laws) fullShare ys i none b o inside (λ was.
         assigns ! (of-opd ! (load ! (from ! (hop ! (look ! 12 refl) (fld ! refl (stop !)))) (look-in ! 0 (sub ! 2 refl (whole !))))) (from ! (stop !)) (init ! 16 refl (tt, record { fits = (LL.owed T.the-type T′.the-laws y _ was .1 .1 .0 .1) })) $
         -- the balance, worked out
@@ -132,7 +132,7 @@ module _ {M : Type 1} (𝓤 : URA M) (H : Heap 𝓤) (A : Atoms 𝓤) (W : Given
         use1 W (some (λ (z : Unit {0} × (Unit {0} × (Unit {0} × Unit {0}))). ‵ (lasts aft.ended tt (y .balance, (c, (l, tt))) z) ⊛ raw (fact 𝓤 (r ≡ balanceAfter (y .balance) c l)))) (id⊢ 𝓤 _) $ pick ! (λ z. split ! $ move ! (1 ∷ []) $ heard ! (r ≡ balanceAfter (y .balance) c l) (λ is. drop ! $ split ! $ move ! (1 ∷ []) $ peeks ! u64 (Is u64) (shows 𝓤 H A u64) r (u ∷ []) (λ isr. land ! (from ! (stop !)) (init ! 12 refl (uint-lawful 𝓤 H A W w64 .typed r _ isr .0)) $ drop ! $
         assigns ! (bin ! (load ! (from ! (stop !)) (look ! 23 refl)) (lit ! tt) (record { fits = fit-row })) (from ! (stop !)) (store ! 15 refl (tt, record { fits = fit-row })) $
         assigns ! (bin ! (load ! (from ! (fld ! refl (stop !))) (look-in ! 25 (sub ! 0 refl (whole !)))) (load ! (from ! (stop !)) (look ! 15 refl)) tt) (from ! (stop !)) (init ! 9 refl (tt, tt)) $
-        rewrite ! 9 (λ (p : ℕ). ‵ (fat fullShare tyPtr l₉ 0 (vptr b p))) (sym (place-is 32 o i)) refl $
+        rewrite ! 9 (λ (p : ℕ). ‵ (fat fullShare tyPtr l₉ 0 (vptr b p))) (sym (place-is 40 o i)) refl $
         rewrite ! 11 (λ (w : List Val). ‵ (fat fullShare (tyInt w64) l₈ 0 (only w))) (uint-tells w64 r _ isr) refl $
         assigns ! (of-opd ! (load ! (from ! (stop !)) (look ! 11 refl))) (from ! (hop ! (look ! 9 refl) (fld ! refl (stop !)))) (store-in ! 1 (sub ! 2 refl (whole !)) (tt, record { fits = isr .1 })) $
         move ! (2 ∷ []) $ drop ! $ owned ! T.the-row (Is T.the-row) (LL.makes T.the-type T′.the-plain 𝓤 H A) (made r) _ (is-made was r (isr .1)) $ move ! (2 ∷ 0 ∷ 3 ∷ []) $ elem-put ! T.the-row fullShare ys i (made r) (vals (made r)) b o inside $

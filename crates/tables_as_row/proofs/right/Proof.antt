@@ -6,7 +6,7 @@ use Rattle.tables_as_row.proofs.right.Reads as reads
 use Rattle.tables_as_row.proofs.right.Lts as lts
 use Rattle.tables_as_row.proofs.desk.Reads as desk-reads
 use Rattle.tables_as_row.proofs.lent.Reads as lent-reads
-use Rattle.tables_rules.proofs.whole.tables_right.Reads as tables-right-reads
+use Rattle.tables_sheet.proofs.tables_right.Reads as tables-right-reads
 
 lent-requires : tie.Need-lent-requires
 lent-requires c κs = search needs
@@ -49,6 +49,12 @@ lent-requires-7 c κs = search needs
 
 add-bins : tie.Need-add-bins
 add-bins c = search needs
+
+lent-requires-8 : tie.Need-lent-requires-8
+lent-requires-8 c κs = search needs
+
+add-sheet : tie.Need-add-sheet
+add-sheet c = search needs
 
 desk-requires : tie.Need-desk-requires
 desk-requires c κs = search needs
@@ -116,20 +122,30 @@ part-tables-right-start-7 c = search needs
 part-tables-right-end-7 : tie.Need-part-tables-right-end-7
 part-tables-right-end-7 c = search needs
 
+sub-tables-right-8 : tie.Need-sub-tables-right-8
+sub-tables-right-8 c = search needs
+
+part-tables-right-start-8 : tie.Need-part-tables-right-start-8
+part-tables-right-start-8 c = search needs
+
+part-tables-right-end-8 : tie.Need-part-tables-right-end-8
+part-tables-right-end-8 c = search needs
+
 tables-right-requires : tie.Need-tables-right-requires
 tables-right-requires c κs = search needs
 
 returns : tie.Need-returns
 returns c =
     tables-say _ (c .tables-right .result)
-    (c .before .before .before .before .before .before .before .before .desk .ensures)
-    (c .before .before .before .before .before .before .before .before .before .before .before .before .before .before .before .lent .ensures .0)
-    (c .before .before .before .before .before .before .before .before .before .before .before .before .before .before .lent2 .ensures .0)
-    (c .before .before .before .before .before .before .before .before .before .before .before .before .before .lent3 .ensures .0)
-    (c .before .before .before .before .before .before .before .before .before .before .before .before .lent4 .ensures .0)
-    (c .before .before .before .before .before .before .before .before .before .before .before .lent5 .ensures .0)
-    (c .before .before .before .before .before .before .before .before .before .before .lent6 .ensures .0)
-    (c .before .before .before .before .before .before .before .before .before .lent7 .ensures .0)
+    (c .before .before .before .before .before .before .before .before .before .desk .ensures)
+    (c .before .before .before .before .before .before .before .before .before .before .before .before .before .before .before .before .before .lent .ensures .0)
+    (c .before .before .before .before .before .before .before .before .before .before .before .before .before .before .before .before .lent2 .ensures .0)
+    (c .before .before .before .before .before .before .before .before .before .before .before .before .before .before .before .lent3 .ensures .0)
+    (c .before .before .before .before .before .before .before .before .before .before .before .before .before .before .lent4 .ensures .0)
+    (c .before .before .before .before .before .before .before .before .before .before .before .before .before .lent5 .ensures .0)
+    (c .before .before .before .before .before .before .before .before .before .before .before .before .lent6 .ensures .0)
+    (c .before .before .before .before .before .before .before .before .before .before .before .lent7 .ensures .0)
+    (c .before .before .before .before .before .before .before .before .before .before .lent8 .ensures .0)
     (c .tables-right .ensures)
 
 pub right-spec : {M : Type 1} → statement M
@@ -150,6 +166,8 @@ right-spec =
     add-references
     lent-requires-7
     add-bins
+    lent-requires-8
+    add-sheet
     desk-requires
     sub-tables-right
     part-tables-right-start
@@ -172,5 +190,8 @@ right-spec =
     sub-tables-right-7
     part-tables-right-start-7
     part-tables-right-end-7
+    sub-tables-right-8
+    part-tables-right-start-8
+    part-tables-right-end-8
     tables-right-requires
     returns)

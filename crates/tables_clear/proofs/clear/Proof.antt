@@ -45,6 +45,9 @@ same-length-10 c = search needs
 same-length-11 : tie.Need-same-length-11
 same-length-11 c = search needs
 
+same-length-12 : tie.Need-same-length-12
+same-length-12 c = search needs
+
 returns-2 : tie.Need-returns-2
 returns-2 c = search clear-uneven
 
@@ -56,9 +59,6 @@ wipe-rows-requires c κs = search needs
 
 no-day-requires : tie.Need-no-day-requires
 no-day-requires c κs = search needs
-
-same-length-12 : tie.Need-same-length-12
-same-length-12 c = search needs
 
 same-length-13 : tie.Need-same-length-13
 same-length-13 c = search needs
@@ -78,8 +78,25 @@ same-length-17 c = search needs
 same-length-18 : tie.Need-same-length-18
 same-length-18 c = search needs
 
+same-length-19 : tie.Need-same-length-19
+same-length-19 c = search needs
+
+same-length-20 : tie.Need-same-length-20
+same-length-20 c = search needs
+
 returns-3 : tie.Need-returns-3
-returns-3 c = search clear-done
+returns-3 c =
+    clear-done _ _ _ _ _ _ _ _ _
+    (c .before .before .before .before .before .before .before .before .before .before .before .before .before .before .before .before .before .before .before .before .before .before .before .before .before .before .before .before .before .before .before .before .before .before .lengths-right .result)
+    (c .before .before .before .before .before .before .before .before .before .before .before .before .before .before .before .before .before .before .before .before .before .before .before .before .before .before .before .before .before .before .before .before .before .before .lengths-right .ensures)
+    (c .before .before .before .before .before .before .before .before .before .before .before .before .before .before .before .before .before .before .before .before .before .before .before .before .before .before .before .before .rows-long .result)
+    (c .before .before .before .before .before .before .before .before .before .before .before .before .before .before .before .before .before .before .before .before .before .before .before .before .before .before .before .before .rows-long .ensures)
+    (c .before .before .before .before .before .before .before .before .before .before .before .before .before .before .before .before .before .before .before .before .before .before .before .before .before .before .before .before .before .before .before .before .before .if1 .left)
+    (c .before .before .before .before .before .before .before .before .before .before .before .before .before .before .before .before .before .before .before .before .before .before .before .before .before .before .before .if2 .left)
+    _ _ _ _ _ _ _ _ _
+    (c .before .before .before .before .before .before .before .before .before .before .before .before .before .before .before .before .before .before .before .before .before .before .wipe-accounts .ensures)
+    (c .before .before .before .before .before .before .before .before .before .wipe-rows .ensures)
+    (c .no-day .ensures)
 
 pub clear-spec : {M : Type 1} → statement M
 clear-spec =
@@ -99,15 +116,17 @@ clear-spec =
     same-length-9
     same-length-10
     same-length-11
+    same-length-12
     returns-2
     wipe-accounts-requires
     wipe-rows-requires
     no-day-requires
-    same-length-12
     same-length-13
     same-length-14
     same-length-15
     same-length-16
     same-length-17
     same-length-18
+    same-length-19
+    same-length-20
     returns-3)

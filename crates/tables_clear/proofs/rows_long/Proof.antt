@@ -10,7 +10,10 @@ returns-2 : tie.Need-returns-2
 returns-2 c = search needs
 
 returns-3 : tie.Need-returns-3
-returns-3 c = search rows-last
+returns-3 c = search needs
+
+returns-4 : tie.Need-returns-4
+returns-4 c = search rows-last
 
 pub rows-long-spec : {M : Type 1} → statement M
-rows-long-spec = tie.close (tie.spec returns returns-2 returns-3)
+rows-long-spec = tie.close (tie.spec returns returns-2 returns-3 returns-4)

@@ -89,15 +89,15 @@ free-in : (row : List ℕ) → word row 0 ≡ 0 → placeIn row ≡ free
 unfolding placeIn
 free-in row e = rw e
 
-live-in : (row : List ℕ) (n : ℕ) → word row 0 ≡ suc n → placeIn row ≡ live (batchIn row)
+pub live-in : (row : List ℕ) (n : ℕ) → word row 0 ≡ suc n → placeIn row ≡ live (batchIn row)
 unfolding placeIn
 live-in row n e = rw (ne-eqb (word row 0) 0 (λ z. omega arith))
 
-batch-flat : (banks : ℕ) (row : List ℕ) → length row ≡ 349 → LiveRow banks row → paymentsOf (batchIn row .messages) ≡ paymentsIn row
+pub batch-flat : (banks : ℕ) (row : List ℕ) → length row ≡ 349 → LiveRow banks row → paymentsOf (batchIn row .messages) ≡ paymentsIn row
 unfolding batchIn
 batch-flat banks row long v = live-flat banks row long v
 
-place-at : (rs : List (List ℕ)) (p : ℕ) → getD (map placeIn rs) p free ≡ placeIn (getD rs p [])
+pub place-at : (rs : List (List ℕ)) (p : ℕ) → getD (map placeIn rs) p free ≡ placeIn (getD rs p [])
 unfolding placeIn
 place-at rs p = List·getD-map placeIn rs p []
 

@@ -22,7 +22,7 @@ use Rattle.tables_rules.specs.batch_rules.BatchRules.{ranksIn, Ranked}
 
 -- ---- what `each` lists
 
-at-each : (f : ℕ → ℕ) (i n r : ℕ) → r < n → getD (each f i n) r 0 ≡ f (i + r)
+pub at-each : (f : ℕ → ℕ) (i n r : ℕ) → r < n → getD (each f i n) r 0 ≡ f (i + r)
 at-each f i zero r h = absurd (omega arith)
 at-each f i (suc n) zero h = let e : i ≡ i + 0 = omega arith in ap f e
 at-each f i (suc n) (suc r) h = let e : i + 1 + r ≡ i + suc r = omega arith in at-each f (i + 1) n r (omega arith) ∙ ap f e

@@ -1,6 +1,6 @@
 -- Laws of the tests of the desk and of a day's tables.
 use Prim.Native.Nat.{ℕ, _*_, _-_, _≤_, _<_}
-use mathlib.Core.Path.{_≡_}
+use mathlib.Core.Path.{_≡_, refl}
 use mathlib.Core.Bool.{Bool, true, false, not}
 use mathlib.Core.List.{List}
 use native.Mathlib.Omega.{arith}
@@ -17,6 +17,7 @@ use Rattle.model.specs.Rules.{RightHouse}
 use Rattle.tables.specs.declared.Desk.{Desk}
 use Rattle.tables.specs.House.{houseOn, AllZero}
 use Rattle.tables.specs.Rows.{Tables, batchRows}
+use Rattle.tables.specs.Moment.{lentWith}
 use Rattle.tables.proofs.TestLaws.{says-no, says-yes, says-map}
 use Rattle.tables_rules.specs.batch_rules.BatchRules.{BatchRules}
 use Rattle.tables_rules.specs.entry_rules.EntryRules.{KnownRules}
@@ -46,7 +47,7 @@ module _ (d : Desk) (codes flags balances sublimits : List ℕ) where
 
 module _ (d : Desk) (codes flags balances sublimits batches references bins : List ℕ) where
   abbrev t : Tables
-  t = record { codes = codes; flags = flags; balances = balances; sublimits = sublimits; batches = batches; references = references; bins = bins }
+  t = lentWith codes flags balances sublimits batches references bins
 
   pub day-1 : (a : Bool) → Says (DeskRules d codes flags balances sublimits) a → not a ≡ true → DayTables d t → ⊥
   day-1 a s e x = says-no a s e (x .desk)
@@ -61,7 +62,7 @@ module _ (d : Desk) (codes flags balances sublimits batches references bins : Li
       → (c : Bool) → Says (BatchRules (d .banks) batches) c → not c ≡ false
       → (k : Bool) → Says (KnownRules (d .date) references bins) k → not k ≡ false
       → (r : Bool) → Says (CrossRules (d .date) (d .texts) batches references bins) r → Says (DayTables d t) r
-  day-4 a s e c u f k v g r w = says-map r (λ y. record { desk = says-yes a s e; batches = says-yes c u f; known = says-yes k v g; cross = y }) (λ x. x .cross) w
+  day-4 a s e c u f k v g r w = says-map r (λ y. record { desk = says-yes a s e; batches = says-yes c u f; known = says-yes k v g; cross = y; sheet = refl }) (λ x. x .cross) w
 
   pub day-banks : (a : Bool) → Says (DeskRules d codes flags balances sublimits) a → not a ≡ false → d .banks ≤ 64
   day-banks a s e = says-yes a s e .house .few-banks

@@ -14,18 +14,22 @@ use Rattle.model.specs.declared.Phase.the-variants.{Fresh, Open, Closed}
 use Rattle.model.specs.State.{free, Batches, noEntry, State, fresh, noBatches}
 use Rattle.model.specs.Calls.{Engine, cleared}
 use Rattle.model.specs.Rules.{Opened, Valid, ValidIn, RightMemory}
+use Rattle.model.proofs.Standing.{right}
+use Rattle.model.proofs.Validity.{valid-kept}
 use Rattle.model.proofs.Holding.{cleared-memory}
 use Rattle.tables.specs.declared.Desk.{Desk}
 use Rattle.tables.specs.House.{AllZero}
 use Rattle.tables.specs.Rows.{Tables, rows, streamsOn, batchesIn, memoryIn, entriesIn, stateIn, engineIn}
-use Rattle.tables.specs.Words.{filled, placesWords, entriesWords, tablesOf, deskOf}
+use Rattle.tables.specs.Words.{filled, placesWords, entriesWords, waitingBy, sheetWords, sheetLength, tablesOf, deskOf}
 use Rattle.tables.specs.Lent.{Right}
+use Rattle.tables.specs.Moment.{lentOn}
 use Rattle.tables.proofs.Rowing.{filled-long}
 use Rattle.tables.proofs.Held.{held}
 use Rattle.tables.proofs.Kept.{right-of, right-long}
 use Rattle.tables.proofs.TestLaws.{Both}
 use Rattle.tables_rules.proofs.batch_rules.RowWords.{zeros, all-zero, filled-part, part-filled}
 use Rattle.tables_rules.proofs.batch_rules.Exact.{rows-many, rules-exact}
+use Rattle.tables_rules.specs.batch_rules.BatchRules.{BatchRules}
 use Rattle.tables_rules.specs.whole.TableRules.{Blank, NoAccounts, NoRows, NoTables, DayTables, TablesIn, TableRules}
 
 -- ---- references and BINs: rows of three words have no unused ones
@@ -127,7 +131,7 @@ module _ (d : Desk) (t : Tables) where
   day-tables : DayTables d t → tablesOf (engineIn d t) ≡ t
   unfolding tablesOf engineIn stateIn
   day-tables x =
-      rw (rules-exact (d .banks) (t .batches) .to (x .batches) .words, entries-words 2048 (t .references) (x .known .references-long), entries-words 512 (t .bins) (x .known .bins-long))
+      rw (rules-exact (d .banks) (t .batches) .to (x .batches) .words, entries-words 2048 (t .references) (x .known .references-long), entries-words 512 (t .bins) (x .known .bins-long), sym (x .sheet))
 
   day-memory : DayTables d t → RightMemory (engineIn d t .state .batches) (engineIn d t .memory)
   unfolding engineIn stateIn
@@ -146,6 +150,23 @@ module _ (d : Desk) (t : Tables) where
   memory-in : Right d t → RightMemory (batchesIn (t .batches)) (memoryIn (t .batches))
   unfolding engineIn stateIn
   memory-in r = r .memory
+
+  -- the batch places keep the rules, also where there is no day yet
+  pub right-batches : Right d t → BatchRules (d .banks) (t .batches)
+  unfolding engineIn stateIn
+  right-batches r =
+      let k = valid-kept (stateIn d t) (r .valid) in
+      rules-exact (d .banks) (t .batches) .back
+      (record { batches = right (d .banks) (batchesIn (t .batches)) (k .batches); memory = memory-in r; words = words-in r })
+
+  pub right-few : Right d t → d .banks ≤ 64
+  unfolding engineIn stateIn
+  right-few r = valid-kept (stateIn d t) (r .valid) .house .few-banks
+
+  -- the sheet is that of the batches
+  pub right-sheet : Right d t → t .sheet ≡ sheetWords (batchesIn (t .batches))
+  unfolding tablesOf engineIn stateIn
+  right-sheet r = sym (ap (λ (x : Tables). x .sheet) (r .tables))
 
   streams-in : Right d t → filled 16 (streamRow (streamsOn d)) ≡ d .streams
   unfolding deskOf engineIn stateIn
@@ -168,7 +189,7 @@ module _ (d : Desk) (t : Tables) where
           streams-past = streams-back (d .streams) (d .n) few e;
           house = o .house;
         };
-        batches = rules-exact (d .banks) (t .batches) .back (record { batches = o .batches; memory = memory-in r; words = words-in r });
+        batches = right-batches r;
         known = record {
           references-long = l .references;
           bins-long = l .bins;
@@ -178,6 +199,7 @@ module _ (d : Desk) (t : Tables) where
           bins-once = o .known .bins-once;
         };
         cross = record { bins-differ = o .bins-differ; bins-remembered = o .bins-remembered; answered = o .answered };
+        sheet = right-sheet r;
       }
 
 -- ---- no live batch
@@ -194,10 +216,19 @@ blank-batches =
     ap batchesIn (sym (none-words (cleared .memory)))
     ∙ ap (λ (e : Engine). e .state .batches) (held cleared refl cleared-memory)
 
-pub blank-tables : (t : Tables) → NoAccounts (t .codes) (t .flags) (t .balances) (t .sublimits) → NoRows (t .batches) (t .references) (t .bins) → t ≡ tablesOf cleared
+-- nothing waits against any bank
+pub no-sheet : sheetWords noBatches ≡ replicate sheetLength 0
+unfolding sheetWords waitingBy
+no-sheet = refl
+
+pub blank-sheet : (batches : List ℕ) → Blank 11168 batches → Blank sheetLength (sheetWords (batchesIn batches))
+blank-sheet batches b = is-blank sheetLength (sheetWords (batchesIn batches)) (ap (λ (x : List ℕ). sheetWords (batchesIn x)) (blank-is 11168 batches b) ∙ ap sheetWords blank-batches ∙ no-sheet)
+
+pub blank-tables : (t : Tables) → NoAccounts (t .codes) (t .flags) (t .balances) (t .sublimits) → NoRows (t .batches) (t .references) (t .bins) → Blank sheetLength (t .sheet)
+    → t ≡ tablesOf cleared
 unfolding tablesOf
-blank-tables t x y =
-    let e : t ≡ record { codes = t .codes; flags = t .flags; balances = t .balances; sublimits = t .sublimits; batches = t .batches; references = t .references; bins = t .bins } = refl in
+blank-tables t x y z =
+    let e : t ≡ lentOn (t .codes) (t .flags) (t .balances) (t .sublimits) (t .batches) (t .references) (t .bins) (t .sheet) = refl in
     e
     ∙ rw (
       blank-is 64 (t .codes) (x .codes-none),
@@ -207,6 +238,7 @@ blank-tables t x y =
       blank-is 11168 (t .batches) (y .batches-none) ∙ sym (none-words (cleared .memory)),
       blank-is 6144 (t .references) (y .references-none) ∙ sym (entries-none 2048),
       blank-is 1536 (t .bins) (y .bins-none) ∙ sym (entries-none 512),
+      blank-is sheetLength (t .sheet) z ∙ sym no-sheet,
     )
 
 module _ (d : Desk) (t : Tables) where
@@ -229,7 +261,7 @@ module _ (d : Desk) (t : Tables) where
       e ∙ rw (p, y .date, y .clock, y .texts, y .banks, s, y .n)
 
   pub none-tables : NoTables d t → t ≡ tablesOf cleared
-  none-tables x = blank-tables t (x .accounts) (x .rows)
+  none-tables x = blank-tables t (x .accounts) (x .rows) (x .sheet)
 
   none-right : d .phase ≡ Fresh → NoTables d t → Right d t
   none-right p x =
@@ -259,6 +291,7 @@ module _ (d : Desk) (t : Tables) where
           references-none = is-blank 6144 (t .references) (sym (ap (λ (x : Tables). x .references) (r .tables)) ∙ ap (λ (x : State). entriesWords (x .known .references)) e ∙ entries-none 2048);
           bins-none = is-blank 1536 (t .bins) (sym (ap (λ (x : Tables). x .bins) (r .tables)) ∙ ap (λ (x : State). entriesWords (x .known .bins)) e ∙ entries-none 512);
         };
+        sheet = is-blank sheetLength (t .sheet) (right-sheet d t r ∙ ap (λ (x : State). sheetWords (x .batches)) e ∙ no-sheet);
       }
 
   -- ---- by phase

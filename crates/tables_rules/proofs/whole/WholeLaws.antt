@@ -14,7 +14,7 @@ use Rattle.tables.specs.Lent.{Right}
 use Rattle.tables.specs.Moment.{lentWith}
 use Rattle.tables.proofs.TestLaws.{says-no, says-yes, says-map}
 use Rattle.tables_rules.specs.whole.TableRules.{Blank, NoDay, NoAccounts, NoRows, NoTables, DayTables, ClosedTables, TablesIn}
-use Rattle.tables_rules.proofs.whole.Parts.{tables-exact}
+use Rattle.tables_rules.proofs.whole.Parts.{blank-sheet, tables-exact}
 
 module _ (row : List ℕ) (n : ℕ) where
   pub blank-last : length row ≡ n → (r : Bool) → Says (AllZero row) r → Says (Blank n row) r
@@ -62,7 +62,7 @@ module _ (d : Desk) (codes flags balances sublimits batches references bins : Li
 
   pub none-3 : (a : Bool) → Says (NoDay d) a → not a ≡ false → (b : Bool) → Says (NoAccounts codes flags balances sublimits) b → not b ≡ false
       → (r : Bool) → Says (NoRows batches references bins) r → Says (NoTables d (lentWith codes flags balances sublimits batches references bins)) r
-  none-3 a s e b u f r v = says-map r (λ y. record { day = says-yes a s e; accounts = says-yes b u f; rows = y }) (λ x. x .rows) v
+  none-3 a s e b u f r v = says-map r (λ y. record { day = says-yes a s e; accounts = says-yes b u f; rows = y; sheet = blank-sheet batches (y .batches-none) }) (λ x. x .rows) v
 
   pub closed-live : (z : Bool) → Says (AllZero batches) z → not z ≡ true → ClosedTables d (lentWith codes flags balances sublimits batches references bins) → ⊥
   closed-live z s e x = says-no z s e (x .idle)

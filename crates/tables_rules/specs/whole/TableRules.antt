@@ -14,7 +14,8 @@ use Rattle.model.specs.declared.Phase.the-variants.{Fresh, Open, Closed}
 use Rattle.model.specs.Rules.{RightHouse, remembered, AllUnlike, has, liveBins, notedToday, liveMessages}
 use Rattle.tables.specs.declared.Desk.{Desk}
 use Rattle.tables.specs.House.{houseOn, AllZero}
-use Rattle.tables.specs.Rows.{Tables, rows, word, placeIn, batchRows, entriesIn}
+use Rattle.tables.specs.Rows.{Tables, rows, word, placeIn, batchRows, batchesIn, entriesIn}
+use Rattle.tables.specs.Words.{sheetWords, sheetLength}
 use Rattle.tables_rules.specs.batch_rules.BatchRules.{BatchRules}
 use Rattle.tables_rules.specs.entry_rules.EntryRules.{KnownRules}
 
@@ -47,6 +48,7 @@ pub record NoTables (d : Desk) (t : Tables) : Type 0 where
   pub day : NoDay d
   pub accounts : NoAccounts (t .codes) (t .flags) (t .balances) (t .sublimits)
   pub rows : NoRows (t .batches) (t .references) (t .bins)
+  pub sheet : Blank sheetLength (t .sheet)
 
 -- the day's scalars and the house
 pub record DeskRules (d : Desk) (codes flags balances sublimits : List ℕ) : Type 0 where
@@ -74,6 +76,8 @@ pub record DayTables (d : Desk) (t : Tables) : Type 0 where
   pub batches : BatchRules (d .banks) (t .batches)
   pub known : KnownRules (d .date) (t .references) (t .bins)
   pub cross : CrossRules (d .date) (d .texts) (t .batches) (t .references) (t .bins)
+  -- ticket 2: "it equals the sum over those batches"
+  pub sheet : t .sheet ≡ sheetWords (batchesIn (t .batches))
 
 -- "no live batch unless the day is open"
 pub record ClosedTables (d : Desk) (t : Tables) : Type 0 where

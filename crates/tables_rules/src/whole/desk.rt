@@ -5,7 +5,7 @@ ghost use Prim.Native.Nat.{ℕ, _+_, _*_, _≤_, _<_};
 ghost use lib.ListN.{length, drop};
 ghost use Rattle.chars.specs.Words.{Says};
 ghost use Rattle.tables.specs.House.{AllZero};
-ghost use Rattle.tables.specs.Rows.{Tables};
+ghost use Rattle.tables.specs.Moment.{lentWith};
 ghost use Rattle.tables_rules.specs.whole.TableRules.{DeskRules, DayTables};
 
 fn streams_past(row: &[u64], n: usize) -> bool
@@ -57,7 +57,9 @@ pub fn day_right(
     references: &[u64],
     bins: &[u64],
 ) -> bool
-    ensures { λ r. ⌜ Says (DayTables desk (record { codes = now (codes .entry); flags = now (flags .entry); balances = now (balances .entry); sublimits = now (sublimits .entry); batches = now (batches .entry); references = now (references .entry); bins = now (bins .entry) })) r ⌝ }
+    ensures { λ r. ⌜ Says
+        (DayTables desk (lentWith (now (codes .entry)) (now (flags .entry)) (now (balances .entry)) (now (sublimits .entry))
+        (now (batches .entry)) (now (references .entry)) (now (bins .entry)))) r ⌝ }
 {
     if !desk_right(desk, codes, flags, balances, sublimits) {
         return false;

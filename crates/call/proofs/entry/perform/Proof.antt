@@ -1,12 +1,10 @@
-use Rattle.call.proofs.entry.CallLaws.{full, opens-day, takes-steps, gives-book}
+use Rattle.call.proofs.entry.CallLaws.{full, sheet-long, same-able, opens-day, steps-ruled, takes-steps, gives-book}
 use Rattle.call.proofs.entry.Moments.{step-able, book-able, book-room}
 use Rattle.call.specs.entry.Calls.{kindBy}
 use mathlib.Core.Path.{sym, ap, _∙_}
 use borrow.Author.Needs.{needs}
 use Rattle.call.proofs.entry.perform.Statement.{statement}
 use Rattle.call.proofs.entry.perform.Tie as tie
-use Rattle.call.proofs.entry.perform.Reads as reads
-use Rattle.call.proofs.entry.perform.Lts as lts
 
 kind-of-requires : tie.Need-kind-of-requires
 kind-of-requires c κs = search needs
@@ -15,19 +13,22 @@ enum-told : tie.Need-enum-told
 enum-told c = search needs
 
 open-day-requires : tie.Need-open-day-requires
-open-day-requires c κs = full (c .before .before .before .before .before .before .before .before .before .before .before .before .before .before .before .before .before .args .quick) _ _ (c .before .before .before .before .before .before .before .before .before .before .before .before .before .before .before .before .before .args .input .now) _ _ _ _ _ _ _ _ _ _ (c .before .before .before .before .before .before .before .before .before .before .before .before .before .before .before .before .before .pre)
+open-day-requires c κs = full (c .before .before .before .before .before .before .before .before .before .before .before .before .before .before .before .before .before .before .args .quick) _ _ (c .before .before .before .before .before .before .before .before .before .before .before .before .before .before .before .before .before .before .args .input .now) _ _ _ _ _ _ _ _ _ _ _ (c .before .before .before .before .before .before .before .before .before .before .before .before .before .before .before .before .before .before .pre)
 
 enum-told-2 : tie.Need-enum-told-2
 enum-told-2 c = search needs
 
 step-requires : tie.Need-step-requires
-step-requires c κs = step-able _ _ _ _ _ _ (c .before .before .before .before .before .before .before .before .before .before .before .before .before .before .before .before .before .before .before .before .before .before .pre) (sym (c .before .before .before .before .before .before .before .before .before .before .before .kind-of .ensures) ∙ ap kindBy (c .before .before .before .before .before .before .before .before .before .enum-told2 .given .1))
+step-requires c κs = step-able _ _ _ _ _ _ (same-able (c .before .before .before .before .before .before .before .before .before .before .before .before .before .before .before .before .before .before .before .before .before .before .before .args .quick) _ _ (c .before .before .before .before .before .before .before .before .before .before .before .before .before .before .before .before .before .before .before .before .before .before .before .args .input .now) _ _ _ _ _ _ _ _ _ _ _ (c .before .before .before .before .before .before .before .before .before .before .before .before .before .before .before .before .before .before .before .before .before .before .before .pre)) (sym (c .before .before .before .before .before .before .before .before .before .before .before .kind-of .ensures) ∙ ap kindBy (c .before .before .before .before .before .before .before .before .before .enum-told2 .given .1))
+
+fill-requires : tie.Need-fill-requires
+fill-requires c κs = (steps-ruled (c .before .before .before .before .before .before .before .before .before .before .before .before .before .before .before .before .before .before .before .before .before .before .before .before .before .before .before .before .before .before .before .before .before .before .before .before .before .before .before .before .args .quick) _ _ (c .before .before .before .before .before .before .before .before .before .before .before .before .before .before .before .before .before .before .before .before .before .before .before .before .before .before .before .before .before .before .before .before .before .before .before .before .before .before .before .before .args .input .now) _ _ _ _ _ _ _ _ _ _ _ (c .before .before .before .before .before .before .before .before .before .before .before .before .before .before .before .before .before .before .before .before .before .before .before .before .before .before .before .before .before .before .before .before .before .before .before .before .before .before .before .before .pre) (sym (c .before .before .before .before .before .before .before .before .before .before .before .before .before .before .before .before .before .before .before .before .before .before .before .before .before .before .before .before .kind-of .ensures) ∙ ap kindBy (c .before .before .before .before .before .before .before .before .before .before .before .before .before .before .before .before .before .before .before .before .before .before .before .before .before .before .enum-told2 .given .1)) (c .before .before .before .before .before .before .before .before .before .before .before .before .before .before .before .before .step .result) _ _ _ _ _ _ _ (c .before .before .before .before .before .before .before .before .before .before .before .before .before .before .before .before .step .ensures), sheet-long (c .before .before .before .before .before .before .before .before .before .before .before .before .before .before .before .before .before .before .before .before .before .before .before .before .before .before .before .before .before .before .before .before .before .before .before .before .before .before .before .before .args .quick) _ _ (c .before .before .before .before .before .before .before .before .before .before .before .before .before .before .before .before .before .before .before .before .before .before .before .before .before .before .before .before .before .before .before .before .before .before .before .before .before .before .before .before .args .input .now) _ _ _ _ _ _ _ _ _ _ _ (c .before .before .before .before .before .before .before .before .before .before .before .before .before .before .before .before .before .before .before .before .before .before .before .before .before .before .before .before .before .before .before .before .before .before .before .before .before .before .before .before .pre))
 
 enum-known-kind : tie.Need-enum-known-kind
 enum-known-kind c = search needs
 
 give-book-requires : tie.Need-give-book-requires
-give-book-requires c κs = (full (c .before .before .before .before .before .before .before .before .before .before .before .before .before .before .before .before .before .before .before .args .quick) _ _ (c .before .before .before .before .before .before .before .before .before .before .before .before .before .before .before .before .before .before .before .args .input .now) _ _ _ _ _ _ _ _ _ _ (c .before .before .before .before .before .before .before .before .before .before .before .before .before .before .before .before .before .before .before .pre), (book-able _ _ _ _ _ _ (c .before .before .before .before .before .before .before .before .before .before .before .before .before .before .before .before .before .before .before .pre) _ (sym (c .before .before .before .before .before .before .before .before .kind-of .ensures) ∙ ap kindBy (c .before .before .before .before .before .before .kind .given .1)), book-room _ _ _ _ _ _ (c .before .before .before .before .before .before .before .before .before .before .before .before .before .before .before .before .before .before .before .pre) _ (sym (c .before .before .before .before .before .before .before .before .kind-of .ensures) ∙ ap kindBy (c .before .before .before .before .before .before .kind .given .1))))
+give-book-requires c κs = (full (c .before .before .before .before .before .before .before .before .before .before .before .before .before .before .before .before .before .before .before .before .args .quick) _ _ (c .before .before .before .before .before .before .before .before .before .before .before .before .before .before .before .before .before .before .before .before .args .input .now) _ _ _ _ _ _ _ _ _ _ _ (c .before .before .before .before .before .before .before .before .before .before .before .before .before .before .before .before .before .before .before .before .pre), (book-able _ _ _ _ _ _ (c .before .before .before .before .before .before .before .before .before .before .before .before .before .before .before .before .before .before .before .before .pre) _ (sym (c .before .before .before .before .before .before .before .before .kind-of .ensures) ∙ ap kindBy (c .before .before .before .before .before .before .kind .given .1)), book-room _ _ _ _ _ _ (c .before .before .before .before .before .before .before .before .before .before .before .before .before .before .before .before .before .before .before .before .pre) _ (sym (c .before .before .before .before .before .before .before .before .kind-of .ensures) ∙ ap kindBy (c .before .before .before .before .before .before .kind .given .1))))
 
 moved-requires : tie.Need-moved-requires
 moved-requires c κs = search needs
@@ -45,7 +46,7 @@ same-length-4 : tie.Need-same-length-4
 same-length-4 c = search needs
 
 returns : tie.Need-returns
-returns c = opens-day _ _ _ _ _ _ _ _ _ _ _ _ _ _ (c .before .before .before .before .before .before .before .before .before .before .before .before .before .before .before .before .before .before .before .before .before .before .before .before .before .before .before .pre) (sym (c .before .before .before .before .before .before .before .before .before .before .before .before .before .before .before .before .kind-of .ensures) ∙ ap kindBy (c .before .before .before .before .before .before .before .before .before .before .before .before .before .before .enum-told .given .1)) _ (c .before .before .before .before .before .before .before .before .before .open-day .ensures)
+returns c = opens-day _ _ _ _ _ _ _ _ _ _ _ _ _ _ _ (c .before .before .before .before .before .before .before .before .before .before .before .before .before .before .before .before .before .before .before .before .before .before .before .before .before .before .before .before .pre) (sym (c .before .before .before .before .before .before .before .before .before .before .before .before .before .before .before .before .kind-of .ensures) ∙ ap kindBy (c .before .before .before .before .before .before .before .before .before .before .before .before .before .before .enum-told .given .1)) _ (c .before .before .before .before .before .before .before .before .before .open-day .ensures)
 
 same-length-5 : tie.Need-same-length-5
 same-length-5 c = search needs
@@ -74,11 +75,11 @@ same-length-12 c = search needs
 same-length-13 : tie.Need-same-length-13
 same-length-13 c = search needs
 
-returns-2 : tie.Need-returns-2
-returns-2 c = takes-steps _ _ _ _ _ _ _ _ _ _ _ _ _ _ (c .before .before .before .before .before .before .before .before .before .before .before .before .before .before .before .before .before .before .before .before .before .before .before .before .before .before .before .before .before .before .before .before .before .before .before .before .before .pre) (sym (c .before .before .before .before .before .before .before .before .before .before .before .before .before .before .before .before .before .before .before .before .before .before .before .before .before .before .kind-of .ensures) ∙ ap kindBy (c .before .before .before .before .before .before .before .before .before .before .before .before .before .before .before .before .before .before .before .before .before .before .before .before .enum-told2 .given .1)) _ (c .before .before .before .before .before .before .before .before .before .before .before .before .before .before .step .ensures)
-
 same-length-14 : tie.Need-same-length-14
 same-length-14 c = search needs
+
+returns-2 : tie.Need-returns-2
+returns-2 c = takes-steps _ _ _ _ _ _ _ _ _ _ _ _ _ _ _ (c .before .before .before .before .before .before .before .before .before .before .before .before .before .before .before .before .before .before .before .before .before .before .before .before .before .before .before .before .before .before .before .before .before .before .before .before .before .before .before .before .before .before .before .pre) (sym (c .before .before .before .before .before .before .before .before .before .before .before .before .before .before .before .before .before .before .before .before .before .before .before .before .before .before .before .before .before .before .before .kind-of .ensures) ∙ ap kindBy (c .before .before .before .before .before .before .before .before .before .before .before .before .before .before .before .before .before .before .before .before .before .before .before .before .before .before .before .before .before .enum-told2 .given .1)) (c .before .before .before .before .before .before .before .before .before .before .before .before .before .before .before .before .before .before .before .step .result) _ _ _ _ _ _ _ (c .before .before .before .before .before .before .before .before .before .before .before .before .before .before .before .before .before .before .before .step .ensures) _ (c .before .before .fill .ensures)
 
 same-length-15 : tie.Need-same-length-15
 same-length-15 c = search needs
@@ -92,8 +93,11 @@ same-length-17 c = search needs
 same-length-18 : tie.Need-same-length-18
 same-length-18 c = search needs
 
+same-length-19 : tie.Need-same-length-19
+same-length-19 c = search needs
+
 returns-3 : tie.Need-returns-3
-returns-3 c = gives-book _ _ _ _ _ _ _ _ _ _ _ _ _ _ (c .before .before .before .before .before .before .before .before .before .before .before .before .before .before .before .before .before .before .before .before .before .before .before .pre) _ (sym (c .before .before .before .before .before .before .before .before .before .before .before .before .kind-of .ensures) ∙ ap kindBy (c .before .before .before .before .before .before .before .before .before .before .kind .given .1)) _ _ _ (c .before .before .before .give-book .ensures) (c .moved .ensures)
+returns-3 c = gives-book _ _ _ _ _ _ _ _ _ _ _ _ _ _ _ (c .before .before .before .before .before .before .before .before .before .before .before .before .before .before .before .before .before .before .before .before .before .before .before .before .pre) _ (sym (c .before .before .before .before .before .before .before .before .before .before .before .before .kind-of .ensures) ∙ ap kindBy (c .before .before .before .before .before .before .before .before .before .before .kind .given .1)) _ _ _ (c .before .before .before .give-book .ensures) (c .moved .ensures)
 
 pub perform-spec : {M : Type 1} → statement M
 perform-spec =
@@ -104,6 +108,7 @@ perform-spec =
     open-day-requires
     enum-told-2
     step-requires
+    fill-requires
     enum-known-kind
     give-book-requires
     moved-requires
@@ -121,10 +126,11 @@ perform-spec =
     same-length-11
     same-length-12
     same-length-13
-    returns-2
     same-length-14
+    returns-2
     same-length-15
     same-length-16
     same-length-17
     same-length-18
+    same-length-19
     returns-3)

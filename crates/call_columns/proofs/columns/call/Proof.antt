@@ -2,9 +2,6 @@ use Rattle.call_columns.proofs.ColumnLaws.{call-columns}
 use borrow.Author.Needs.{needs}
 use Rattle.call_columns.proofs.columns.call.Statement.{statement}
 use Rattle.call_columns.proofs.columns.call.Tie as tie
-use Rattle.call_columns.proofs.call_row.Reads as call-row-reads
-use Rattle.call_columns.proofs.columns.part.Reads as part-reads
-use Rattle.call_columns.proofs.columns.row_of.Reads as row-of-reads
 
 row-of-requires : tie.Need-row-of-requires
 row-of-requires c κs = search needs
@@ -31,7 +28,11 @@ same-length-5 : tie.Need-same-length-5
 same-length-5 c = search needs
 
 returns : tie.Need-returns
-returns c = call-columns _ _ _ _ _ _ _ _ _ _ _ _ _ _ _ _ _ _ _ _ _ _ (c .before .before .before .before .before .before .before .before .before .before .before .before .before .before .before .before .before .before .before .before .before .before .before .row-of .ensures) (c .before .before .before .before .before .before .before .before .before .before .before .before .before .before .before .before .before .call-row .ensures) (c .before .part .ensures)
+returns c =
+    call-columns _ _ _ _ _ _ _ _ _ _ _ _ _ _ _ _ _ _ _ _ _ _ _ _
+    (c .before .before .before .before .before .before .before .before .before .before .before .before .before .before .before .before .before .before .before .before .before .before .before .before .row-of .ensures)
+    (c .before .before .before .before .before .before .before .before .before .before .before .before .before .before .before .before .before .before .call-row .ensures)
+    (c .before .part .ensures)
 
 pub call-spec : {M : Type 1} → statement M
 call-spec =

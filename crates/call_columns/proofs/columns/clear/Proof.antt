@@ -2,9 +2,6 @@ use Rattle.call_columns.proofs.ColumnLaws.{clear-columns}
 use borrow.Author.Needs.{needs}
 use Rattle.call_columns.proofs.columns.clear.Statement.{statement}
 use Rattle.call_columns.proofs.columns.clear.Tie as tie
-use Rattle.call_columns.proofs.clear_row.Reads as clear-row-reads
-use Rattle.call_columns.proofs.columns.part.Reads as part-reads
-use Rattle.call_columns.proofs.columns.row_of.Reads as row-of-reads
 
 row-of-requires : tie.Need-row-of-requires
 row-of-requires c κs = search needs
@@ -25,7 +22,11 @@ same-length-3 : tie.Need-same-length-3
 same-length-3 c = search needs
 
 returns : tie.Need-returns
-returns c = clear-columns _ _ _ _ _ _ _ _ _ _ _ _ _ _ _ _ _ (c .before .before .before .before .before .before .before .before .before .before .before .before .before .before .before .before .before .row-of .ensures) (c .before .before .before .before .before .before .before .before .before .before .before .before .before .clear-row .ensures) (c .before .part .ensures)
+returns c =
+    clear-columns _ _ _ _ _ _ _ _ _ _ _ _ _ _ _ _ _ _ _
+    (c .before .before .before .before .before .before .before .before .before .before .before .before .before .before .before .before .before .before .row-of .ensures)
+    (c .before .before .before .before .before .before .before .before .before .before .before .before .before .before .clear-row .ensures)
+    (c .before .part .ensures)
 
 pub clear-spec : {M : Type 1} → statement M
 clear-spec =

@@ -5,10 +5,10 @@ use Rattle.call_columns.proofs.columns.part.Statement.{statement}
 use Rattle.call_columns.proofs.columns.part.Tie as tie
 
 abbrev Inv-loop : tie.InvT-loop
-Inv-loop codes₀ flags₀ balances₀ limits₀ row i₀ codes flags balances sublimits i = Parting row i codes flags balances sublimits
+Inv-loop codes₀ flags₀ balances₀ limits₀ sheet₀ row i₀ codes flags balances sublimits sheet i = Parting row i codes flags balances sublimits sheet
 
 abbrev μ-loop : tie.MeasureT-loop
-μ-loop codes₀ flags₀ balances₀ limits₀ row i₀ codes flags balances sublimits i = 64 - i
+μ-loop codes₀ flags₀ balances₀ limits₀ sheet₀ row i₀ codes flags balances sublimits sheet i = 64 - i
 
 loop-holds : tie.Need-loop-holds Inv-loop μ-loop
 loop-holds c = search (needs, part-start)
@@ -61,6 +61,18 @@ mul-sublimits-2 c = search needs
 slice-write-sublimits : tie.Need-slice-write-sublimits Inv-loop μ-loop
 slice-write-sublimits c = search needs
 
+mul-sheet : tie.Need-mul-sheet Inv-loop μ-loop
+mul-sheet c = search needs
+
+element-copy-out-sheet : tie.Need-element-copy-out-sheet Inv-loop μ-loop
+element-copy-out-sheet c = search needs
+
+mul-sheet-2 : tie.Need-mul-sheet-2 Inv-loop μ-loop
+mul-sheet-2 c = search needs
+
+slice-write-sheet : tie.Need-slice-write-sheet Inv-loop μ-loop
+slice-write-sheet c = search needs
+
 add-i : tie.Need-add-i Inv-loop μ-loop
 add-i c = search needs
 
@@ -81,6 +93,9 @@ same-length-3 c = search needs
 
 same-length-4 : tie.Need-same-length-4 Inv-loop μ-loop
 same-length-4 c = search needs
+
+same-length-5 : tie.Need-same-length-5 Inv-loop μ-loop
+same-length-5 c = search needs
 
 returns : tie.Need-returns Inv-loop μ-loop
 returns c = search (needs, part-end)
@@ -108,6 +123,10 @@ part-spec =
     element-copy-out-sublimits
     mul-sublimits-2
     slice-write-sublimits
+    mul-sheet
+    element-copy-out-sheet
+    mul-sheet-2
+    slice-write-sheet
     add-i
     loop-less
     loop-again
@@ -115,4 +134,5 @@ part-spec =
     same-length-2
     same-length-3
     same-length-4
+    same-length-5
     returns)

@@ -5,37 +5,43 @@ use Rattle.call_columns.proofs.columns.row_of.Statement.{statement}
 use Rattle.call_columns.proofs.columns.row_of.Tie as tie
 
 abbrev Inv-loop : tie.InvT-loop
-Inv-loop codes flags balances sublimits row₀ i₀ row i = Filling row i codes flags balances sublimits
+Inv-loop codes flags balances sublimits sheet row₀ i₀ row i = Filling row i codes flags balances sublimits sheet
 
 abbrev μ-loop : tie.MeasureT-loop
-μ-loop codes flags balances sublimits row₀ i₀ row i = 64 - i
+μ-loop codes flags balances sublimits sheet row₀ i₀ row i = 64 - i
 
 loop-holds : tie.Need-loop-holds Inv-loop μ-loop
 loop-holds c = search (needs, fill-start)
 
-mul-t9 : tie.Need-mul-t9 Inv-loop μ-loop
-mul-t9 c = search needs
+mul-t10 : tie.Need-mul-t10 Inv-loop μ-loop
+mul-t10 c = search needs
 
-shared-slice-read-t11 : tie.Need-shared-slice-read-t11 Inv-loop μ-loop
-shared-slice-read-t11 c = search needs
+shared-slice-read-t12 : tie.Need-shared-slice-read-t12 Inv-loop μ-loop
+shared-slice-read-t12 c = search needs
 
-mul-t12 : tie.Need-mul-t12 Inv-loop μ-loop
-mul-t12 c = search needs
+mul-t13 : tie.Need-mul-t13 Inv-loop μ-loop
+mul-t13 c = search needs
 
-shared-slice-read-t14 : tie.Need-shared-slice-read-t14 Inv-loop μ-loop
-shared-slice-read-t14 c = search needs
+shared-slice-read-t15 : tie.Need-shared-slice-read-t15 Inv-loop μ-loop
+shared-slice-read-t15 c = search needs
 
-mul-t15 : tie.Need-mul-t15 Inv-loop μ-loop
-mul-t15 c = search needs
+mul-t16 : tie.Need-mul-t16 Inv-loop μ-loop
+mul-t16 c = search needs
 
-shared-slice-read-t17 : tie.Need-shared-slice-read-t17 Inv-loop μ-loop
-shared-slice-read-t17 c = search needs
+shared-slice-read-t18 : tie.Need-shared-slice-read-t18 Inv-loop μ-loop
+shared-slice-read-t18 c = search needs
 
-mul-t18 : tie.Need-mul-t18 Inv-loop μ-loop
-mul-t18 c = search needs
+mul-t19 : tie.Need-mul-t19 Inv-loop μ-loop
+mul-t19 c = search needs
 
-shared-slice-read-t20 : tie.Need-shared-slice-read-t20 Inv-loop μ-loop
-shared-slice-read-t20 c = search needs
+shared-slice-read-t21 : tie.Need-shared-slice-read-t21 Inv-loop μ-loop
+shared-slice-read-t21 c = search needs
+
+mul-t22 : tie.Need-mul-t22 Inv-loop μ-loop
+mul-t22 c = search needs
+
+shared-slice-read-t24 : tie.Need-shared-slice-read-t24 Inv-loop μ-loop
+shared-slice-read-t24 c = search needs
 
 mul-row : tie.Need-mul-row Inv-loop μ-loop
 mul-row c = search needs
@@ -62,14 +68,16 @@ row-of-spec =
     Inv-loop
     μ-loop
     loop-holds
-    mul-t9
-    shared-slice-read-t11
-    mul-t12
-    shared-slice-read-t14
-    mul-t15
-    shared-slice-read-t17
-    mul-t18
-    shared-slice-read-t20
+    mul-t10
+    shared-slice-read-t12
+    mul-t13
+    shared-slice-read-t15
+    mul-t16
+    shared-slice-read-t18
+    mul-t19
+    shared-slice-read-t21
+    mul-t22
+    shared-slice-read-t24
     mul-row
     array-set-from-row
     add-i
