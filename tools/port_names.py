@@ -105,6 +105,18 @@ def table(defined):
     return found
 
 
+IMPORT = re.compile(r"use (?!Rattle\.(?!std\b|core\b|std_\w+\b|io\b))[\w.·◌+-]+\.\{([^}]*)\}")
+
+
+def imported(text):
+    """The names that a file imports from the library: they are not ours."""
+    out = set()
+    for m in IMPORT.finditer(text):
+        for name in m[1].split(","):
+            out |= set(name.replace(" as ", " ").split())
+    return out
+
+
 def fields():
     """The fields of the repository's records and the constructors of its types."""
     out = set()
@@ -176,7 +188,7 @@ def main():
     of_records = fields()
     for path in antt():
         text = read(path)
-        new = turned(text, found, answers.get(path, ()), of_records)
+        new = turned(text, found, set(answers.get(path, ())) | imported(text), of_records)
         if new != text:
             open(path, "w", encoding="utf-8", newline="").write(new)
     for path in sorted(glob.glob("crates/*/src/**/*.rt", recursive=True)):

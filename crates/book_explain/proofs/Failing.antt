@@ -1,7 +1,7 @@
 -- The first test that fails: lists of tests one after another, and each return of the blocks and of the book.
 use Prim.Native.Nat.{ℕ, suc, ◌+◌, ◌*◌, ◌-◌, ◌/◌, ◌%◌, ◌≤◌, ◌<◌}
 use mathlib.Core.Path.{◌≡◌, refl, sym, ◌∙◌, ap}
-use mathlib.Core.Bool.{Bool, true, false, not, and_false}
+use mathlib.Core.Bool.{Bool, true, false, not, and-false}
 use mathlib.Core.List.{List, [], ◌∷◌, ◌++◌}
 use native.Mathlib.Omega.{arith}
 use lib.ListN.{length, get_or, drop}
@@ -72,7 +72,7 @@ module _ (s : List ℕ) {n : ℕ} (e : n ≡ entries_at s 0) where
 
   pub date_2 : 8 < n → Broken (spot 0 0 WrongCount) ≡ first_failed (date_tests s)
   unfolding first_failed
-  date_2 h = simp (← e, lt-leb n 8 h, and_false)
+  date_2 h = simp (← e, lt-leb n 8 h, and-false)
 
   module _ {d : Day} (a : 1 ≤ n) (b : n ≤ 8) (p : d ≡ date_in s) where
     pub date_3 : d ≡ Untrue → Broken (spot 0 0 UntrueDate) ≡ first_failed (date_tests s)
@@ -262,11 +262,11 @@ module _ (s : List ℕ) where
 
   pub length_short : length s / 512 < 2 → Broken (spot 0 0 WrongLength) ≡ book_finding s
   unfolding book_finding book_tests length_right first_failed
-  length_short h = simp (lt-leb 2 (length s / 512) h, and_false)
+  length_short h = simp (lt-leb 2 (length s / 512) h, and-false)
 
   pub length_long : 5 < length s / 512 → Broken (spot 0 0 WrongLength) ≡ book_finding s
   unfolding book_finding book_tests length_right first_failed
-  length_long h = simp (lt-leb (length s / 512) 5 h, and_false)
+  length_long h = simp (lt-leb (length s / 512) 5 h, and-false)
 
   module _ (a : length s % 512 ≡ 0) (l : 2 ≤ length s / 512) (h : length s / 512 ≤ 5)
       {x : Finding} (p : x ≡ first_failed (stream_tests s (length s / 512))) where

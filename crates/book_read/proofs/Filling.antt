@@ -8,7 +8,7 @@ use lib.ListN.{length, get_or, set, drop, length-set}
 use lib.Seq.{sets}
 use lib.Dec.{leb}
 use borrow.Author.Tests.{le-leb, lt-leb, leb-true, not-true, not-false}
-use mathlib.Core.Bool.{Bool, true, false, not, and_false}
+use mathlib.Core.Bool.{Bool, true, false, not, and-false}
 use Rattle.dates.specs.declared.Day.{Day}
 use Rattle.dates.specs.declared.Day.TheVariants.{Number, Untrue}
 use Rattle.codes.specs.Codes.{short_at}
@@ -105,15 +105,15 @@ module _ (a b c d e : ℕ) where
 
   pub short_2 : b < 64 → false ≡ room_for a b c d e
   unfolding room_for
-  short_2 h = simp (lt-leb 64 b h, and_false)
+  short_2 h = simp (lt-leb 64 b h, and-false)
 
   pub short_3 : c < 64 → false ≡ room_for a b c d e
   unfolding room_for
-  short_3 h = simp (lt-leb 64 c h, and_false)
+  short_3 h = simp (lt-leb 64 c h, and-false)
 
   pub short_4 : d < 64 → false ≡ room_for a b c d e
   unfolding room_for
-  short_4 h = simp (lt-leb 64 d h, and_false)
+  short_4 h = simp (lt-leb 64 d h, and-false)
 
   pub room_last : 16 ≤ a → 64 ≤ b → 64 ≤ c → 64 ≤ d → leb 64 e ≡ room_for a b c d e
   unfolding room_for

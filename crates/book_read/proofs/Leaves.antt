@@ -1,7 +1,7 @@
 -- Laws of the check's parts: bytes and numbers at a place, zeros, headers, entries, one for each return.
 use Prim.Native.Nat.{ℕ, zero, suc, ◌+◌, ◌*◌, ◌-◌, ◌/◌, ◌^◌, ◌≤◌, ◌<◌}
 use mathlib.Core.Path.{◌≡◌, refl, sym, ◌∙◌, ap}
-use mathlib.Core.Bool.{Bool, true, false, not, ◌&&◌, and_false, and_true}
+use mathlib.Core.Bool.{Bool, true, false, not, ◌&&◌, and-false, and-true}
 use mathlib.Core.List.{List, ◌∷◌}
 use native.Mathlib.Nat.{add-zero, mul-le-mul, pow-succ', pow-le-pow_right}
 use native.Mathlib.Omega.{arith}
@@ -122,10 +122,10 @@ pub zeros_start : (s : List ℕ) (at n : ℕ) → at + n ≤ length s → Zeros 
 zeros_start s at n h = record { inside = h; same = refl }
 
 pub still_not : (all : Bool) (b : ℕ) → (b ≡ 0 → ⊥) → false ≡ (all && eqb b 0)
-still_not all b n = simp (ne_eqb _ _ n, and_false)
+still_not all b n = simp (ne_eqb _ _ n, and-false)
 
 pub still_all : (all : Bool) (b : ℕ) → b ≡ 0 → all ≡ (all && eqb b 0)
-still_all all b e = simp (eq-eqb _ _ e, and_true)
+still_all all b e = simp (eq-eqb _ _ e, and-true)
 
 with_one_lem : (all e x y : Bool) → (e ≡ true → x ≡ y) → (e ≡ false → y ≡ false) → ((all && e) && x) ≡ (all && y)
 with_one_lem true true x y f g = f refl
@@ -146,7 +146,7 @@ zeros_on {s = s} {all = all} {j = j} {left = left} g p e =
     }
 
 pub zeros_done : {s : List ℕ} {at n : ℕ} {all : Bool} {j left : ℕ} → Zeros s at n all j left → left ≡ 0 → all ≡ zeros_at s at n
-zeros_done {s = s} {all = all} {j = j} {left = left} g e = sym (and_true all) ∙ ap (λ (b : Bool). all && b) (zeros_none s j left e) ∙ g.same
+zeros_done {s = s} {all = all} {j = j} {left = left} g e = sym (and-true all) ∙ ap (λ (b : Bool). all && b) (zeros_none s j left e) ∙ g.same
 
 pub bits_step : (n bits : ℕ) → 0 < n → bits_past (n - 1) (bits / 2) ≡ bits_past n bits
 unfolding bits_past
@@ -187,7 +187,7 @@ module _ (s : List ℕ) (at letter number blocks : ℕ) (counted : Bool) (first 
 
   pub header_count : not counted ≡ true → false ≡ header_right s at letter number blocks counted first width
   unfolding header_right
-  header_count p = simp (not-true counted p, and_false)
+  header_count p = simp (not-true counted p, and-false)
 
   pub header_rest : {n : ℕ} {u : Bool} → not h ≡ false → not counted ≡ false → n ≡ entries_at s at → u ≡ unused_right s at (first + width * n)
       → u ≡ header_right s at letter number blocks counted first width
@@ -211,12 +211,12 @@ module _ (s : List ℕ) where
 
     pub streams_many : 8 < n → false ≡ streams_counted s
     unfolding streams_counted
-    streams_many h = simp (← e, lt-leb n 8 h, and_false)
+    streams_many h = simp (← e, lt-leb n 8 h, and-false)
 
     module _ {d : Day} (p : d ≡ date_in s) where
       pub streams_undated : d ≡ Untrue → false ≡ streams_counted s
       unfolding streams_counted
-      streams_undated q = simp (← p, q, and_false)
+      streams_undated q = simp (← p, q, and-false)
 
       pub streams_rest : {k : ℕ} {z : Bool} → 1 ≤ n → n ≤ 8 → d ≡ Number k → z ≡ zeros_at s 14 2 → z ≡ streams_counted s
       unfolding streams_counted
@@ -234,7 +234,7 @@ module _ (blocks k n : ℕ) where
 
     pub banks_many : 20 < n → false ≡ banks_counted blocks k n
     unfolding banks_counted
-    banks_many p = simp (le-ltb (k + 1) blocks h, lt-leb n 20 p, and_false)
+    banks_many p = simp (le-ltb (k + 1) blocks h, lt-leb n 20 p, and-false)
 
     pub banks_last : 1 ≤ n → n ≤ 20 → leb (20 * (k - 1) + n) 64 ≡ banks_counted blocks k n
     unfolding banks_counted
@@ -262,7 +262,7 @@ module _ (s : List ℕ) (at : ℕ) {r : At} (e : r ≡ code_at s at 4) where
   module _ {b : ℕ} (q : b ≡ get_or s (at + 4) 0) where
     pub stream_unsent : b < 1 → false ≡ stream_right s at
     unfolding stream_right
-    stream_unsent h = simp (← q, lt-leb 1 b h, and_false)
+    stream_unsent h = simp (← q, lt-leb 1 b h, and-false)
 
     pub stream_rest : {m : ℕ} {z : Bool} → r ≡ Next m → 1 ≤ b → b < 256 → z ≡ zeros_at s (at + 5) 3 → z ≡ stream_right s at
     unfolding stream_right
@@ -277,22 +277,22 @@ module _ (s : List ℕ) (streams at : ℕ) {r : At} (e : r ≡ code_at s at 4) w
   module _ {f : ℕ} (ef : f ≡ get_or s (at + 4) 0) where
     pub bank_flag : 1 < f → false ≡ bank_right s streams at
     unfolding bank_right
-    bank_flag h = simp (← ef, lt-leb f 1 h, and_false)
+    bank_flag h = simp (← ef, lt-leb f 1 h, and-false)
 
     module _ {b w past : ℕ} (eb : b ≡ get_or s (at + 5) 0) (ew : w ≡ b) (ep : past ≡ bits_past streams w) where
       pub bank_bits : (past ≡ 0 → ⊥) → false ≡ bank_right s streams at
       unfolding bank_right
-      bank_bits h = simp (← eb, ← ew, ← ep, ne_eqb past 0 h, and_false)
+      bank_bits h = simp (← eb, ← ew, ← ep, ne_eqb past 0 h, and-false)
 
       module _ {z : Bool} (ez : z ≡ zeros_at s (at + 6) 2) where
         pub bank_zeros : not z ≡ true → false ≡ bank_right s streams at
         unfolding bank_right
-        bank_zeros h = simp (← ez, not-true z h, and_false)
+        bank_zeros h = simp (← ez, not-true z h, and-false)
 
         module _ {m : ℕ} (em : m ≡ little 8 (drop (at + 8) s)) where
           pub bank_balance : 6400000000000000 < m → false ≡ bank_right s streams at
           unfolding bank_right
-          bank_balance h = simp (← em, lt-leb m most_money h, and_false)
+          bank_balance h = simp (← em, lt-leb m most_money h, and-false)
 
           pub bank_rest : {k l : ℕ} → r ≡ Next k → f ≤ 1 → past ≡ 0 → not z ≡ false → m ≤ 6400000000000000
               → l ≡ little 8 (drop (at + 16) s) → leb l 6400000000000000 ≡ bank_right s streams at
@@ -316,7 +316,7 @@ module _ (s : List ℕ) (width : ℕ) (right : ℕ → Bool) (before at left : �
 
     pub entries_wrong : {r : Bool} → r ≡ right at → not r ≡ true → false ≡ entries_right s width right before at left
     unfolding entries_right
-    entries_wrong {r = r} e p = rw more (simp (← e, not-true r p, and_false))
+    entries_wrong {r = r} e p = rw more (simp (← e, not-true r p, and-false))
 
     pub entries_step : {code : ℕ} {r : Bool} → code ≡ short_at s at → before < code → r ≡ right at → not r ≡ false
         → entries_right s width right code (at + width) (left - 1) ≡ entries_right s width right before at left

@@ -1,7 +1,7 @@
 -- The first rule that is broken: lists of rules one after another, and each return of the blocks and of the book.
 use Prim.Native.Nat.{ℕ, suc, ◌+◌, ◌*◌, ◌-◌, ◌/◌, ◌%◌, ◌≤◌, ◌<◌}
 use mathlib.Core.Path.{◌≡◌, refl, sym, ◌∙◌, ap}
-use mathlib.Core.Bool.{Bool, true, false, not, and_false}
+use mathlib.Core.Bool.{Bool, true, false, not, and-false}
 use mathlib.Core.List.{List, [], ◌∷◌, ◌++◌}
 use native.Mathlib.Omega.{arith}
 use lib.ListN.{length}
@@ -135,11 +135,11 @@ module _ (s : List ℕ) where
 
   pub length_short : length s / 512 < 2 → Fault BookLength ≡ book_check s
   unfolding book_check book_rules length_right first_broken
-  length_short h = simp (lt-leb 2 (length s / 512) h, and_false)
+  length_short h = simp (lt-leb 2 (length s / 512) h, and-false)
 
   pub length_long : 5 < length s / 512 → Fault BookLength ≡ book_check s
   unfolding book_check book_rules length_right first_broken
-  length_long h = simp (lt-leb (length s / 512) 5 h, and_false)
+  length_long h = simp (lt-leb (length s / 512) 5 h, and-false)
 
   module _ (a : length s % 512 ≡ 0) (l : 2 ≤ length s / 512) (h : length s / 512 ≤ 5) where
     last : List Rule

@@ -1,7 +1,7 @@
 -- Laws of the whole writing: counts and rows, and each return.
 use Prim.Native.Nat.{ℕ, ◌*◌, ◌-◌, ◌≤◌, ◌<◌}
 use mathlib.Core.Path.{◌≡◌, sym, ◌∙◌}
-use mathlib.Core.Bool.{Bool, true, false, not, and_false}
+use mathlib.Core.Bool.{Bool, true, false, not, and-false}
 use mathlib.Core.List.{List}
 use native.Mathlib.Omega.{arith}
 use lib.Dec.{leb}
@@ -28,11 +28,11 @@ module _ (m a b c d : ℕ) where
 
   pub few_flags : b < m → false ≡ holding_columns m a b c d
   unfolding holding_columns
-  few_flags h = simp (lt-leb m b h, and_false)
+  few_flags h = simp (lt-leb m b h, and-false)
 
   pub few_balances : c < m → false ≡ holding_columns m a b c d
   unfolding holding_columns
-  few_balances h = simp (lt-leb m c h, and_false)
+  few_balances h = simp (lt-leb m c h, and-false)
 
   pub columns_rest : m ≤ a → m ≤ b → m ≤ c → leb m d ≡ holding_columns m a b c d
   unfolding holding_columns
@@ -45,19 +45,19 @@ module _ (k : Book) (s a b c d : ℕ) where
 
   pub many_streams : 8 < k.streams → false ≡ holding_rows k s a b c d
   unfolding holding_rows
-  many_streams h = simp (lt-leb k.streams 8 h, and_false)
+  many_streams h = simp (lt-leb k.streams 8 h, and-false)
 
   pub no_bank : k.banks < 1 → false ≡ holding_rows k s a b c d
   unfolding holding_rows
-  no_bank h = simp (lt-leb 1 k.banks h, and_false)
+  no_bank h = simp (lt-leb 1 k.banks h, and-false)
 
   pub many_banks : 64 < k.banks → false ≡ holding_rows k s a b c d
   unfolding holding_rows
-  many_banks h = simp (lt-leb k.banks 64 h, and_false)
+  many_banks h = simp (lt-leb k.banks 64 h, and-false)
 
   pub few_streams : s < 2 * k.streams → false ≡ holding_rows k s a b c d
   unfolding holding_rows
-  few_streams h = simp (lt-leb (2 * k.streams) s h, and_false)
+  few_streams h = simp (lt-leb (2 * k.streams) s h, and-false)
 
   pub rows_rest : {r : Bool} → 1 ≤ k.streams → k.streams ≤ 8 → 1 ≤ k.banks → k.banks ≤ 64 → 2 * k.streams ≤ s
       → r ≡ holding_columns k.banks a b c d → r ≡ holding_rows k s a b c d

@@ -2,7 +2,7 @@
 use Prim.Native.Nat.{ℕ, ◌-◌, ◌≤◌, ◌<◌}
 use mathlib.Core.Path.{◌≡◌, refl, ◌∙◌, ap}
 use mathlib.Core.List.{List, [], ◌∷◌, ◌++◌, append_assoc}
-use mathlib.Core.Bool.{Bool, true, false, ◌&&◌, cond, and_false, or-true, false≢true}
+use mathlib.Core.Bool.{Bool, true, false, ◌&&◌, cond, and-false, or-true, false≢true}
 use mathlib.Core.Logic.{inl, inr}
 use native.Mathlib.Omega.{arith}
 use borrow.Author.Tests.{le-leb, lt-leb, eq-eqb, ne_eqb, leb-true}
@@ -22,7 +22,7 @@ pub below_range : (lo hi b : ℕ) → b < lo → within lo hi b ≡ false
 below_range lo hi b p = simp (lt-leb lo b p)
 
 pub above_range : (lo hi b : ℕ) → hi < b → within lo hi b ≡ false
-above_range lo hi b p = simp (lt-leb b hi p, and_false)
+above_range lo hi b p = simp (lt-leb b hi p, and-false)
 
 -- what a test of a range says
 pub range_low : (lo hi b : ℕ) → within lo hi b ≡ true → lo ≤ b

@@ -1,7 +1,7 @@
 -- Each return of the functions; then minutes and seconds and their digits, both ways, which callers cite.
 use Prim.Native.Nat.{ℕ, ◌+◌, ◌*◌, ◌/◌, ◌%◌, ◌≤◌, ◌<◌}
 use mathlib.Core.Path.{◌≡◌, refl, sym, ◌∙◌, ap}
-use mathlib.Core.Bool.{Bool, true, false, and_false}
+use mathlib.Core.Bool.{Bool, true, false, and-false}
 use native.Mathlib.Omega.{arith}
 use lib.Dec.{leb, ltb}
 use borrow.Author.Tests.{lt-ltb, le-ltb, le-leb, lt-leb, leb-true, leb-false, ltb-true, ltb-false}
@@ -76,7 +76,7 @@ module _ (n : ℕ) where
 
   pub minute_past : 60 ≤ n % 100 → NoMinute ≡ minute_of n
   unfolding minute_of
-  minute_past h = simp (le-ltb (n % 100) 60 h, and_false)
+  minute_past h = simp (le-ltb (n % 100) 60 h, and-false)
 
   pub minute_in : n / 100 < 24 → n % 100 < 60 → MinuteNumber (60 * (n / 100) + n % 100) ≡ minute_of n
   unfolding minute_of
@@ -88,11 +88,11 @@ module _ (n : ℕ) where
 
   pub second_minute : 60 ≤ n / 100 % 100 → NoSecond ≡ second_of n
   unfolding second_of
-  second_minute h = simp (le-ltb (n / 100 % 100) 60 h, and_false)
+  second_minute h = simp (le-ltb (n / 100 % 100) 60 h, and-false)
 
   pub second_past : 60 ≤ n % 100 → NoSecond ≡ second_of n
   unfolding second_of
-  second_past h = simp (le-ltb (n % 100) 60 h, and_false)
+  second_past h = simp (le-ltb (n % 100) 60 h, and-false)
 
   pub second_in_lem : n / 10000 < 24 → n / 100 % 100 < 60 → n % 100 < 60
       → SecondNumber (3600 * (n / 10000) + (60 * (n / 100 % 100) + n % 100)) ≡ second_of n

@@ -1,6 +1,6 @@
 -- Laws of the memory, in the terms of the code.
 use mathlib.Core.Path.{◌≡◌, refl, sym, ap, ◌∙◌}
-use mathlib.Core.Bool.{Bool, true, false, ◌||◌, or-true, or_false, or_assoc}
+use mathlib.Core.Bool.{Bool, true, false, ◌||◌, or-true, or-false, or_assoc}
 use mathlib.Core.List.{List, [], ◌∷◌, ◌++◌, map, append_assoc, append-nil}
 use Prim.Native.Nat.{ℕ, zero, suc, ◌+◌, ◌-◌, ◌≤◌, ◌<◌}
 use native.Mathlib.Omega.{arith}
@@ -99,12 +99,12 @@ unfolding marked_by credited_by
 mark_says (credit j c) marks k h =
     by_bool (eqb j k)
     (λ e. let q : j ≡ k = eqb-true j k e in rw (e, ← q, get_or-set_same marks j true false h) (sym (or-true (is_marked marks j))))
-    (λ e. rw (e, get_or-set_other marks j k true false (λ q. eqb-false j k e (sym q))) (sym (or_false (is_marked marks k))))
-mark_says (debit l j c) marks k h = sym (or_false (is_marked marks k))
+    (λ e. rw (e, get_or-set_other marks j k true false (λ q. eqb-false j k e (sym q))) (sym (or-false (is_marked marks k))))
+mark_says (debit l j c) marks k h = sym (or-false (is_marked marks k))
 
 marks_say : (ps : List Payment) (marks : List Bool) (k : ℕ) → Ranged ps → length marks ≡ 64 → is_marked (marked ps marks) k ≡ is_marked marks k || credited ps k
 unfolding marked credited Ranged
-marks_say [] marks k r e = sym (or_false (is_marked marks k))
+marks_say [] marks k r e = sym (or-false (is_marked marks k))
 marks_say (p ∷ ps) marks k r e =
     marks_say ps (marked_by p marks) k r.1 (marks_long p marks ∙ e)
     ∙ rw (mark_says p marks k (omega (arith, r.0.0))) (or_assoc (is_marked marks k) (credited_by p k) (credited ps k))

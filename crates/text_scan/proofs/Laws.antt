@@ -2,7 +2,7 @@
 use Prim.Native.Nat.{ℕ, zero, suc, ◌+◌, ◌-◌, ◌*◌, ◌≤◌, ◌<◌}
 use mathlib.Core.Path.{◌≡◌, refl, ap, sym, ◌∙◌}
 use mathlib.Core.List.{List, [], ◌∷◌}
-use mathlib.Core.Bool.{Bool, true, false, cond, not, and_false, false≢true}
+use mathlib.Core.Bool.{Bool, true, false, cond, not, and-false, false≢true}
 use native.Mathlib.Nat.{add-zero, add-suc, suc-add, zero-add}
 use native.Mathlib.Numerals.{add-one}
 use native.Mathlib.Omega.{arith}
@@ -36,7 +36,7 @@ begins_short : (p l : List ℕ) → length l < length p → begins p l ≡ false
 unfolding begins
 begins_short [] l h = absurd (omega arith)
 begins_short (x ∷ p) [] h = refl
-begins_short (x ∷ p) (y ∷ l) h = simp (begins_short p l (omega arith), and_false)
+begins_short (x ∷ p) (y ∷ l) h = simp (begins_short p l (omega arith), and-false)
 
 module _ (s : List ℕ) (at : ℕ) (p : List ℕ) where
   pub lit_short : {n : ℕ} → n ≡ length s - at → n < length p → No ≡ lit_at s at p

@@ -2,7 +2,7 @@
 use Prim.Native.Nat.{ℕ, ◌+◌, ◌*◌, ◌-◌, ◌≤◌, ◌<◌}
 use mathlib.Core.Path.{◌≡◌, refl, sym, ◌∙◌}
 use mathlib.Core.List.{List, []}
-use mathlib.Core.Bool.{Bool, true, false, not, or-true, and_false}
+use mathlib.Core.Bool.{Bool, true, false, not, or-true, and-false}
 use native.Mathlib.Omega.{arith}
 use borrow.Author.Tests.{eq-eqb, ne_eqb, not-true, not-false, le-leb, lt-leb}
 use lib.ListN.{length, get_or, take, drop, drop_of_length-le, length-drop}
@@ -188,11 +188,11 @@ numbered_low n m a = simp (lt-leb 1 n a)
 
 pub numbered_above : (n m : ℕ) → m < n → numbered n m ≡ false
 unfolding numbered
-numbered_above n m a = simp (lt-leb n m a, and_false)
+numbered_above n m a = simp (lt-leb n m a, and-false)
 
 pub numbered_high : (n m : ℕ) → 10 < m → numbered n m ≡ false
 unfolding numbered
-numbered_high n m a = simp (lt-leb m 10 a, and_false)
+numbered_high n m a = simp (lt-leb m 10 a, and-false)
 
 pub code_is : (s : List ℕ) (p : Part) {t : List ℕ} {c : Code} → t ≡ text_of s p → c ≡ long_at t 0 (length t) → c ≡ code_of s p
 unfolding code_of long_at

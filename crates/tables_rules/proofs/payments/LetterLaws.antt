@@ -1,6 +1,6 @@
 -- Laws of the test of letters.
 use Rattle.std.proofs.Common.{◌≡◌, ℕ, ◌<◌, ◌≤◌, Bool, true, false, not, ◌&&◌, ltb, get_or, sym, refl, ap, ◌∙◌, le-ltb, lt-ltb}
-use mathlib.Core.Bool.{and_true}
+use mathlib.Core.Bool.{and-true}
 use borrow.Author.Tests.{not-true, not-false}
 use Rattle.codes.specs.Codes.{short_text, unpacked}
 use Rattle.text_values.specs.Letters.{is_status, is_fourth}
@@ -39,4 +39,4 @@ module _ (v : ℕ) where
         pub letter_3 : not p ≡ false → {x : ℕ} {o : Bool} → x ≡ get_or (short_text v) 3 0 → o ≡ is_fourth x → o ≡ (ltb v 4294967296 && are_letters (short_text v))
         letter_3 g ex eo =
             rw (lt-ltb v 4294967296 fits, spells, char_0, not-false r e, char_1, not-false q f, char_2, not-false p g, sym (eo ∙ ap is_fourth ex))
-            (sym (and_true _))
+            (sym (and-true _))

@@ -1,4 +1,4 @@
-use mathlib.Core.Bool.{and_false}
+use mathlib.Core.Bool.{and-false}
 use borrow.Author.Tests.{lt-leb}
 use borrow.Author.Rules.{rules}
 use Rattle.call_records.proofs.Laws.{new_held, new_beyond}
@@ -9,7 +9,7 @@ returns : tie.Need-returns
 returns c = simp (lt-leb _ _ c.if1.true)
 
 returns-2 : tie.Need-returns-2
-returns-2 c = simp (lt-leb _ _ c.if2.true, and_false)
+returns-2 c = simp (lt-leb _ _ c.if2.true, and-false)
 
 new-requires : tie.Need-new-requires
 new-requires c = λ u. u
