@@ -1,4 +1,5 @@
 // Where a book breaks: the block, the entry and the test that decide the number of the book's check.
+#![tactic(auto)]
 ghost use Rattle.std.specs.Prelude.{◌≡◌, ◌+◌, ◌*◌, ◌-◌, ◌≤◌, ◌<◌};
 ghost use Rattle.book_explain.specs.Faults.{first_failed, refusal_of, head_tests, date_tests, stream_entry, money_tests, bank_entry, entry_tests, stream_tests, bank_tests, bank_block_tests, book_finding};
 
@@ -8,7 +9,7 @@ use dates::Day;
 use text_scan::At;
 
 // The tests of a book, in the order in which they are made.
-#[derive(Drop)]
+#[derive(Clone, Copy)]
 pub enum Flaw {
     WrongLength,
     WrongSum,
@@ -55,14 +56,14 @@ impl Flaw {
 }
 
 // A test that fails: the block, the entry in it (0 where the test is not one of an entry), and which test.
-#[derive(Drop)]
+#[derive(Clone, Copy)]
 pub struct Spot {
     pub block: usize,
     pub entry: usize,
     pub flaw: Flaw,
 }
 
-#[derive(Drop)]
+#[derive(Clone, Copy)]
 pub enum Finding {
     Whole,
     Broken(Spot),

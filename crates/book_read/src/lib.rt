@@ -1,4 +1,5 @@
 // The book: blocks of 512 bytes with the date, the streams and the banks. Its check and its reading.
+#![tactic(auto)]
 ghost use Rattle.std.specs.Prelude.{◌≡◌, true, ◌&&◌, eqb, min, ◌+◌, ◌*◌, ◌-◌, ◌≤◌, ◌<◌, ◌^◌, length, get_or, set, drop, replicate};
 ghost use Rattle.book_read.specs.declared.Answer.TheVariants.{Sound};
 ghost use Rattle.std.proofs.lemmas.List.Edits.{sets};
@@ -12,14 +13,14 @@ use dates::Day;
 use text_scan::{At, Fixed};
 
 // What the check of a book answers.
-#[derive(Drop)]
+#[derive(Clone, Copy)]
 pub enum Answer {
     Sound,
     Fault(Refusal),
 }
 
 // The day, and how many streams and banks a book has.
-#[derive(Drop)]
+#[derive(Clone, Copy)]
 pub struct Book {
     pub day: u64,
     pub streams: usize,
@@ -519,7 +520,7 @@ pub fn check(book: &[u8]) -> Answer
 }
 
 // A column of the banks' rows. Flags are one number: 1 if the bank is suspended, and twice its stream bits.
-#[derive(Drop)]
+#[derive(Clone, Copy)]
 pub enum Field {
     Code,
     Flags,
@@ -527,7 +528,7 @@ pub enum Field {
     Sublimit,
 }
 
-#[derive(Drop)]
+#[derive(Clone, Copy)]
 pub enum Reading {
     Held(Book),
     Unread(Refusal),

@@ -1,4 +1,5 @@
 // The closing book: its bytes into a lent buffer.
+#![tactic(auto)]
 ghost use Rattle.std.specs.Prelude.{◌≡◌, min, ◌+◌, ◌*◌, ◌-◌, ◌≤◌, ◌<◌, length, set, replicate};
 ghost use Rattle.std.proofs.lemmas.List.Edits.{sets};
 ghost use Rattle.checksum.specs.Sum.{block_sum};
@@ -9,7 +10,7 @@ ghost use Rattle.book_write.specs.Closing.{little_of, stream_bytes, bank_bytes, 
 use book_read::Book;
 use chars::Refusal;
 
-#[derive(Drop)]
+#[derive(Clone, Copy)]
 pub enum Writing {
     Written(usize),
     Unwritten(Refusal),

@@ -1,6 +1,7 @@
 // The entry points that the C gateway calls. A row is a row of words, four for a field: where its
 // value starts in the text, its length, and its value in a number or two. include/purmagheli.h has
 // the same constants and says what each word is.
+#![tactic(auto)]
 pub mod books;
 mod breaks;
 pub mod writers;
@@ -105,7 +106,7 @@ pub const REACHED_STREAM: u64 = 1;
 pub const REACHED_BIN: u64 = 2;
 
 // How the payments of a text end, and how many there are.
-#[derive(Drop)]
+#[derive(Clone, Copy)]
 pub struct Paying {
     pub ending: Ending,
     pub n: usize,
@@ -113,7 +114,7 @@ pub struct Paying {
 
 // The break of a text in full: the reader's number, where the line begins, its number, 1 if a field is missing,
 // the tags that may stand there, and where the value begins.
-#[derive(Drop)]
+#[derive(Clone, Copy)]
 pub struct Report {
     pub number: u64,
     pub at: u64,

@@ -8,7 +8,7 @@ use model::{Action, Answer};
 use tables::Desk;
 
 // What both have left: the answer, how many wait, the tries, the place reached in the buffer and the texts of the day.
-#[derive(Drop)]
+#[derive(Clone, Copy)]
 pub struct Report {
     pub answer: Answer,
     pub queued: usize,

@@ -15,7 +15,7 @@ use model::{Action, Answer};
 use tables::Desk;
 
 // What an action does: it opens a day, takes the steps (a) to (d), or gives a book of a date.
-#[derive(Drop)]
+#[derive(Clone, Copy)]
 pub enum Kind {
     Opens,
     Steps,

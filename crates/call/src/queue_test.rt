@@ -5,7 +5,7 @@ ghost use Rattle.call_texts.specs.Writing.{Wrote, Room, Legible, batches_on, day
 ghost use Rattle.call.specs.queue_test.Settling.{Testable, outcome_of, Ended};
 
 // How many batches wait, how many tries were made, the place reached in the buffer and the texts of the day.
-#[derive(Drop)]
+#[derive(Clone, Copy)]
 pub struct Tested {
     pub waiting: usize,
     pub tried: usize,

@@ -14,7 +14,7 @@ use model::{Action, Answer, Phase};
 use tables::Desk;
 
 // What a call tells: its answer, how much of buffer and row it has written, and the desk that it leaves.
-#[derive(Drop)]
+#[derive(Clone, Copy)]
 pub struct Told {
     pub answer: Answer,
     pub written: usize,

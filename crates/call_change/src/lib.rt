@@ -1,4 +1,5 @@
 // Sub-limit changes and status changes.
+#![tactic(auto)]
 mod debits;
 
 ghost use Rattle.std.specs.Prelude.{◌≡◌, ◌≤◌, length};

@@ -1,4 +1,5 @@
 // The calls on a row of records that is passed by value and handed back, and on accounts in five columns.
+#![tactic(auto)]
 pub mod columns;
 
 ghost use Rattle.std.specs.Prelude.{◌≡◌, ℕ};
@@ -13,7 +14,7 @@ use tables::Desk;
 use tables_clear::Start;
 
 // What a call tells, and the row that it leaves.
-#[derive(Drop)]
+#[derive(Clone, Copy)]
 pub struct RowTold {
     pub told: Told,
     pub row: [Account; 64],
@@ -46,7 +47,7 @@ pub fn call_row(
 }
 
 // What a clearing answers, and the row that it leaves.
-#[derive(Drop)]
+#[derive(Clone, Copy)]
 pub struct RowStart {
     pub start: Start,
     pub row: [Account; 64],

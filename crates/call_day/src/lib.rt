@@ -1,4 +1,5 @@
 // Opening and closing book, on the lent accounts.
+#![tactic(auto)]
 ghost use Rattle.std.specs.Prelude.{◌≡◌, ℕ, ◌*◌, ◌≤◌, ◌<◌, length};
 ghost use Rattle.std.proofs.lemmas.List.Edits.{sets};
 ghost use Rattle.dates.specs.Dates.{day_of};
@@ -16,7 +17,7 @@ use model::{Answer, Phase};
 use tables::Desk;
 
 // What an opening answers, and the desk that it leaves.
-#[derive(Drop)]
+#[derive(Clone, Copy)]
 pub struct Begun {
     pub answer: Answer,
     pub desk: Desk,

@@ -17,7 +17,7 @@ use request_read::whole::Reading;
 use tables::Desk;
 
 // What an action has left: its answer, how many wait, the place reached in the buffer and the texts of the day.
-#[derive(Drop)]
+#[derive(Clone, Copy)]
 pub struct Acted {
     pub answer: Answer,
     pub queued: usize,

@@ -1,4 +1,5 @@
 // The stages of a call that change the batch table. Orders and memory are loaded into rows beside the table, changed there, and stored at the call's end.
+#![tactic(auto)]
 pub mod arriving;
 pub mod heads;
 pub mod joining;
@@ -14,7 +15,7 @@ ghost use Rattle.call_orders.specs.Heads.{NeatTable};
 ghost use Rattle.call_orders.specs.Stages.{seen, Ready, Became, due_at, tailed};
 
 // How many are queued, and how many are pending.
-#[derive(Drop)]
+#[derive(Clone, Copy)]
 pub struct Counts {
     pub queued: usize,
     pub pending: usize,

@@ -11,7 +11,7 @@ use tables::Sought;
 const WIDTH: usize = 3;
 
 // Whether a code is used, and, where it is not, the lowest free place for it.
-#[derive(Drop)]
+#[derive(Clone, Copy)]
 pub struct Looked {
     pub used: bool,
     pub free: Sought,

@@ -16,7 +16,7 @@ use tables::{Desk, Sought};
 use text_fields::Break;
 
 // What becomes of a message. The numbers are places: of a batch, of its stream, and the free ones that its reference and its BIN take.
-#[derive(Drop)]
+#[derive(Clone, Copy)]
 pub enum Plan {
     // It is refused, touches no batch and is not noted.
     Untouched(Refusal),
@@ -35,7 +35,7 @@ pub enum Plan {
 }
 
 // The place of a stream whose administrator is the sender, or why there is none.
-#[derive(Drop)]
+#[derive(Clone, Copy)]
 pub enum Sent {
     In(usize),
     Not(Refusal),

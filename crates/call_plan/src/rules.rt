@@ -7,7 +7,7 @@ pub mod words;
 use chars::Refusal;
 
 // The place of a bank that may pay, or why it may not.
-#[derive(Drop)]
+#[derive(Clone, Copy)]
 pub enum Standing {
     Good(usize),
     Bad(Refusal),

@@ -1,4 +1,5 @@
 // The calls on accounts that are lent as a row of records.
+#![tactic(auto)]
 ghost use Rattle.std.specs.Prelude.{◌≡◌, ℕ, length};
 ghost use Rattle.chars.specs.declared.Refusal.TheVariants.{BrokenTables};
 ghost use Rattle.model.specs.declared.Answer.TheVariants.{Refused};
@@ -15,7 +16,7 @@ use tables_clear::Start;
 
 // A bank's account: its code, its flag and stream bits, its balance and its sub-limit in cents.
 // `waiting` is the total of the bank's debits in pending and queued batches, in cents.
-#[derive(Drop)]
+#[derive(Clone, Copy)]
 pub struct Account {
     pub code: u64,
     pub flags: u64,
@@ -24,7 +25,7 @@ pub struct Account {
     pub waiting: u64,
 }
 
-#[derive(Drop)]
+#[derive(Clone, Copy)]
 pub enum AccountOr {
     Held(Account),
     Beyond(Refusal),

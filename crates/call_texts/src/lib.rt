@@ -1,4 +1,5 @@
 // The texts that a call writes, straight into the lent buffer: each function goes on from the place reached so far.
+#![tactic(auto)]
 ghost use Rattle.std.specs.Prelude.{◌≡◌, ◌∷◌, [], ℕ, ◌+◌, ◌*◌, ◌≤◌, ◌<◌, length, take};
 ghost use Rattle.response_write.specs.declared.Outcome.TheVariants.{Rejected};
 ghost use Rattle.queue.specs.Tests.{passed_of};
@@ -15,7 +16,7 @@ use settle::Batch;
 use tables::Sought;
 
 // The place reached so far, and the texts written today.
-#[derive(Drop)]
+#[derive(Clone, Copy)]
 pub struct Progress {
     pub at: usize,
     pub texts: u64,

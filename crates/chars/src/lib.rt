@@ -1,4 +1,5 @@
 // Classes of bytes, digits, and the refusal numbers.
+#![tactic(auto)]
 ghost use Rattle.std.specs.Prelude.{◌≡◌, ◌<◌};
 ghost use Rattle.chars.specs.Chars.{is_digit, is_letter, is_code, digit_value};
 ghost use Rattle.chars.specs.Refusals.{number_of};
@@ -46,7 +47,7 @@ pub fn digit_value(b: u8) -> u64
 }
 
 // Why something is refused.
-#[derive(Drop)]
+#[derive(Clone, Copy)]
 pub enum Refusal {
     Unequal,
     NothingThere,

@@ -1,4 +1,5 @@
 // The account of a book, as it is told of an accepted one, read into the rows that a book is written from.
+#![tactic(auto)]
 ghost use Rattle.std.specs.Prelude.{◌≡◌, ◌+◌, ◌≤◌, ◌<◌, eqb};
 ghost use Rattle.dates.specs.Dates.{sum};
 ghost use Rattle.cli_book.specs.Account.{cents_at, title_at, date_at, administrator_at, stream_at, streams_at, named_at, bit_on, bits_at, AtMostOne, standing_at, money_at, bank_at, banks_at, total_at, end_at, unread, rows_at, book_account};
@@ -7,34 +8,34 @@ use dates::Day;
 use text_scan::{At, Fixed};
 
 // A number, and the place past it.
-#[derive(Drop)]
+#[derive(Clone, Copy)]
 pub enum Given {
     Value(u64, usize),
     Ungiven,
 }
 
 // A stream's code, its administrator, and the place past its line.
-#[derive(Drop)]
+#[derive(Clone, Copy)]
 pub enum StreamLine {
     Served(u64, u64, usize),
     Unserved,
 }
 
 // Balance, sub-limit, and the place past them.
-#[derive(Drop)]
+#[derive(Clone, Copy)]
 pub enum Money {
     Both(u64, u64, usize),
     Neither,
 }
 
 // The bits of the streams that were named, and the place past their names.
-#[derive(Drop)]
+#[derive(Clone, Copy)]
 pub struct Bits {
     pub bits: u64,
     pub at: usize,
 }
 
-#[derive(Drop)]
+#[derive(Clone, Copy)]
 pub struct Entry {
     pub code: u64,
     pub flags: u64,
@@ -43,14 +44,14 @@ pub struct Entry {
 }
 
 // A bank, and the place past its line.
-#[derive(Drop)]
+#[derive(Clone, Copy)]
 pub enum BankLine {
     Held(Entry, usize),
     Unheld,
 }
 
 // What a line is to say.
-#[derive(Drop)]
+#[derive(Clone, Copy)]
 pub enum Wanted {
     Title,
     Date,
@@ -62,14 +63,14 @@ pub enum Wanted {
 }
 
 // The account is read to its end, or to the line at a place that does not say what was wanted.
-#[derive(Drop)]
+#[derive(Clone, Copy)]
 pub enum Stop {
     AtEnd,
     AtLine(usize, Wanted),
 }
 
 // Codes and administrators of the first n streams, and the place past their lines.
-#[derive(Drop)]
+#[derive(Clone, Copy)]
 pub struct Streams {
     pub row: [u64; 16],
     pub n: usize,
@@ -77,7 +78,7 @@ pub struct Streams {
 }
 
 // The columns of the first n banks, and the place past their lines.
-#[derive(Drop)]
+#[derive(Clone, Copy)]
 pub struct Banks {
     pub codes: [u64; 64],
     pub flags: [u64; 64],
@@ -88,7 +89,7 @@ pub struct Banks {
 }
 
 // The rows are as far as the account was read; those of an account that is not read to its end hold nothing.
-#[derive(Drop)]
+#[derive(Clone, Copy)]
 pub struct BookAccount {
     pub day: u64,
     pub streams: Streams,

@@ -1,4 +1,5 @@
 // Where and why a text breaks, in words on standard output.
+#![tactic(auto)]
 use cli_print::Row;
 use text_explain::{Fault, Tag, Tags, Told};
 use text_scan::At;

@@ -1,4 +1,5 @@
 // Files that a program is given to read, and how it tells that something was not well.
+#![tactic(auto)]
 pub mod lines;
 pub mod paths;
 pub mod whole;
@@ -11,14 +12,14 @@ use text_scan::At;
 
 // How many bytes of a file stand at the buffer's beginning; or that it could not be read, and has been
 // told so on standard error.
-#[derive(Drop)]
+#[derive(Clone, Copy)]
 pub enum Got {
     Bytes(usize),
     Unread,
 }
 
 // A line of a script and a column, both from 1 on. Line 0 is no place.
-#[derive(Drop)]
+#[derive(Clone, Copy)]
 pub struct Place {
     pub line: u64,
     pub column: u64,

@@ -1,21 +1,21 @@
 // The lines of a script of any length, one by one.
 
 // What has been read of the script and not been taken yet: from a place of the buffer to another.
-#[derive(Drop)]
+#[derive(Clone, Copy)]
 pub struct Ahead {
     pub at: usize,
     pub end: usize,
 }
 
 // What is kept of a line: so many bytes, and whether it has more.
-#[derive(Drop)]
+#[derive(Clone, Copy)]
 struct Kept {
     n: usize,
     is_long: bool,
 }
 
 // A line of n bytes, if the script has one more; or the beginning of a line that is longer than the buffer.
-#[derive(Drop)]
+#[derive(Clone, Copy)]
 pub struct Taken {
     pub ahead: Ahead,
     pub n: usize,

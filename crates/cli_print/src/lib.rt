@@ -1,4 +1,5 @@
 // Words and numbers on standard output, as the programs tell them.
+#![tactic(auto)]
 ghost use Rattle.std.specs.Prelude.{◌≡◌, length};
 
 use chars::Refusal;

@@ -1,7 +1,7 @@
 // What is to be printed with one write, such as a line.
 
 // The first n bytes. Where a row is full, it is printed and begins anew.
-#[derive(Drop)]
+#[derive(Clone, Copy)]
 pub struct Row {
     bytes: [u8; 256],
     n: usize,

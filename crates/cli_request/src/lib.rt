@@ -1,5 +1,6 @@
 // The account of a request, as it is told of an accepted one, read into the order that an administrator
 // writes.
+#![tactic(auto)]
 pub mod refusals;
 pub mod several;
 
@@ -14,7 +15,7 @@ use request_write::{Order, Payable, Side};
 use text_scan::{At, Fixed};
 
 // How a value is spelled.
-#[derive(Drop)]
+#[derive(Clone, Copy)]
 pub enum Spelling {
     // Just so many digits.
     Digits(usize),
@@ -23,49 +24,49 @@ pub enum Spelling {
 }
 
 // A number, and the place past it.
-#[derive(Drop)]
+#[derive(Clone, Copy)]
 pub enum Told {
     Number(u64, usize),
     Untold,
 }
 
 // A number, a count, and the place past their line.
-#[derive(Drop)]
+#[derive(Clone, Copy)]
 pub enum Paired {
     Numbers(u64, u64, usize),
     Unpaired,
 }
 
 // A name, and the place past its line.
-#[derive(Drop)]
+#[derive(Clone, Copy)]
 pub enum ToldName {
     Name(Code, usize),
     Unnamed,
 }
 
 // An activation, and the place past its line.
-#[derive(Drop)]
+#[derive(Clone, Copy)]
 pub enum Timed {
     From(Activation, usize),
     Untimed,
 }
 
 // Cents, a bank, and the place past them.
-#[derive(Drop)]
+#[derive(Clone, Copy)]
 pub enum Sum {
     Owed(u64, u64, usize),
     NotOwed,
 }
 
 // A payment, and the place past its line.
-#[derive(Drop)]
+#[derive(Clone, Copy)]
 pub enum ToldPayment {
     One(Payable, usize),
     Unpaid,
 }
 
 // What a line is to say.
-#[derive(Drop)]
+#[derive(Clone, Copy)]
 pub enum Expected {
     SubType,
     Reference,
@@ -79,13 +80,13 @@ pub enum Expected {
 }
 
 // The account is read to its end, or to the line at a place that does not say what was expected.
-#[derive(Drop)]
+#[derive(Clone, Copy)]
 pub enum Extent {
     Whole,
     Unread(usize, Expected),
 }
 
-#[derive(Drop)]
+#[derive(Clone, Copy)]
 pub struct ToldHead {
     pub subtype: u64,
     pub reference: Code,
@@ -93,13 +94,13 @@ pub struct ToldHead {
     pub bin: Code,
 }
 
-#[derive(Drop)]
+#[derive(Clone, Copy)]
 pub enum Heading {
     Headed(ToldHead, usize),
     Unheaded(usize, Expected),
 }
 
-#[derive(Drop)]
+#[derive(Clone, Copy)]
 pub struct ToldTerms {
     pub number: u64,
     pub count: u64,
@@ -107,14 +108,14 @@ pub struct ToldTerms {
     pub activation: Activation,
 }
 
-#[derive(Drop)]
+#[derive(Clone, Copy)]
 pub enum Termed {
     Stated(ToldTerms, usize),
     Unstated(usize, Expected),
 }
 
 // The first n lines are payments, where no more than ten are told.
-#[derive(Drop)]
+#[derive(Clone, Copy)]
 pub struct ToldPayments {
     pub payments: [Payable; 10],
     pub n: usize,
@@ -122,7 +123,7 @@ pub struct ToldPayments {
 }
 
 // The order is as far as the account was read.
-#[derive(Drop)]
+#[derive(Clone, Copy)]
 pub struct Account {
     pub order: Order,
     pub ending: Extent,

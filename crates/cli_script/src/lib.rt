@@ -1,4 +1,5 @@
 // One line of a script: the call that it asks for, or where it is none and what was expected there.
+#![tactic(auto)]
 ghost use Rattle.std.specs.Prelude.{◌≡◌, get_or, drop};
 ghost use Rattle.cli_script.specs.Lines.{is_blank, word_start, word_end, is_end, word_at, is_word, is_long, with_digit, number_from, number_at};
 ghost use Rattle.cli_script.specs.Lines.{seconds_of, pair_at, time_at, clock_at, bank_at, letter_at, date_at, bin_at, ended, open_at, message_at, sublimit_at};
@@ -8,7 +9,7 @@ use codes::Code;
 use text_scan::{At, Fixed};
 
 // What a line asks for. A file's name is a word: it begins at a place.
-#[derive(Drop)]
+#[derive(Clone, Copy)]
 pub enum Line {
     Skip,
     Clear,
@@ -31,7 +32,7 @@ pub enum Line {
 }
 
 // What a line should have in some place.
-#[derive(Drop)]
+#[derive(Clone, Copy)]
 pub enum Wanted {
     Command,
     Clock,
@@ -46,27 +47,27 @@ pub enum Wanted {
 }
 
 // A word: where it begins, and the place past it.
-#[derive(Drop)]
+#[derive(Clone, Copy)]
 pub enum Part {
     Word(usize, usize),
     NoWord,
 }
 
 // A number, and the place past its word.
-#[derive(Drop)]
+#[derive(Clone, Copy)]
 pub enum Told {
     Number(u64, usize),
     Untold,
 }
 
 // A BIN, and the place past its word.
-#[derive(Drop)]
+#[derive(Clone, Copy)]
 pub enum Named {
     Bin(Code, usize),
     Unnamed,
 }
 
-#[derive(Drop)]
+#[derive(Clone, Copy)]
 pub enum Sum {
     Value(u64),
     Over,

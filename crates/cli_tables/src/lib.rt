@@ -1,4 +1,5 @@
 // What stands in the tables, and why what waits has not settled.
+#![tactic(auto)]
 mod orders;
 
 use model::Phase;

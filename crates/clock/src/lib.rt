@@ -1,27 +1,28 @@
 // Times of the day. The clock counts seconds from midnight; an activation is a minute of the day.
+#![tactic(auto)]
 ghost use Rattle.std.specs.Prelude.{◌≡◌};
 ghost use Rattle.clock.specs.Clock.{clock_of, has_begun, hhmmss_of, minute_of, hhmm_of, second_of};
 
-#[derive(Drop)]
+#[derive(Clone, Copy)]
 pub struct Clock {
     pub seconds: u64,
 }
 
-#[derive(Drop)]
+#[derive(Clone, Copy)]
 pub enum Moment {
     At(Clock),
     Never,
 }
 
 // A minute of the day, 0 to 1,439.
-#[derive(Drop)]
+#[derive(Clone, Copy)]
 pub enum Minute {
     Number(u64),
     Untrue,
 }
 
 // A second of the day, 0 to 86,399.
-#[derive(Drop)]
+#[derive(Clone, Copy)]
 pub enum Second {
     Number(u64),
     Untrue,

@@ -1,5 +1,6 @@
 // ./purmagheli compose FILE: the text of the request, or the book, whose account the file holds, as inspect tells it, or those of several accounts,
 // one behind another; of what cannot be composed the line that cannot be read, or the number by which request or book would be refused. A dash is standard input.
+#![tactic(auto)]
 mod books;
 mod refusals;
 

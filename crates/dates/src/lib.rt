@@ -1,11 +1,12 @@
 // Dates of 2000 to 2099. A date is the number YYMMDD; a day number counts from 2000-01-01, which is 0.
+#![tactic(auto)]
 ghost use Rattle.std.specs.Prelude.{◌≡◌, ◌≤◌};
 ghost use Rattle.dates.specs.Dates.{months, days_in, days_before, month_day, day_of, date_of, is_remembered};
 
 // For how many days after its own a thing is remembered.
 const DAYS_BACK: u64 = 14;
 
-#[derive(Drop)]
+#[derive(Clone, Copy)]
 pub enum Day {
     Number(u64),
     Untrue,

@@ -1,6 +1,7 @@
 // ./purmagheli day [--keep-going] plain|quick [SCRIPT]: runs the calls of a script and prints what each of them answers, tries and writes. The script
 // comes from standard input if it is - or none is named. day stops at the first line that is not a call, or whose file cannot be read or written,
 // and tells the place and the reason on standard error. With --keep-going it prints "line N not a call" and goes on.
+#![tactic(auto)]
 use call::step::Told;
 use cli_files::lines::Ahead;
 use cli_files::{Got, Place, lines, paths, whole};
@@ -11,7 +12,7 @@ use model::{Action, Answer, Phase};
 use tables::Desk;
 
 // A call: its clock, its action, and where in the line its file's name begins.
-#[derive(Drop)]
+#[derive(Clone, Copy)]
 struct Asked {
     clock: u64,
     action: Action,
@@ -19,7 +20,7 @@ struct Asked {
 }
 
 // What a line has the program do.
-#[derive(Drop)]
+#[derive(Clone, Copy)]
 enum Deed {
     Nothing,
     Clear,
@@ -35,14 +36,14 @@ enum Deed {
 }
 
 // A line's deed, and how many bytes of input it has.
-#[derive(Drop)]
+#[derive(Clone, Copy)]
 struct Read {
     deed: Deed,
     n: usize,
 }
 
 // The next line: its deed, its length, how many bytes of input it has, what is ahead in the script, and whether it is there at all.
-#[derive(Drop)]
+#[derive(Clone, Copy)]
 struct Next {
     deed: Deed,
     length: usize,
@@ -52,7 +53,7 @@ struct Next {
 }
 
 // What a line leaves: the desk, what is ahead in the script, and whether there may be more lines.
-#[derive(Drop)]
+#[derive(Clone, Copy)]
 struct Turn {
     desk: Desk,
     ahead: Ahead,

@@ -1,1 +1,2 @@
 // The three demands, of the functions: specs and proofs alone.
+#![tactic(auto)]

@@ -1,5 +1,6 @@
 // ./purmagheli inspect request|response|book FILE..: what each file says, or the number by which it is
 // refused, and of a book where it breaks. A dash is standard input.
+#![tactic(auto)]
 mod books;
 mod faults;
 mod requests;
@@ -9,7 +10,7 @@ use cli_files::Got;
 use libc::STDERR_FILENO;
 
 // What the files are said to be.
-#[derive(Drop)]
+#[derive(Clone, Copy)]
 enum Subject {
     Request,
     Response,

@@ -1,4 +1,5 @@
 // The engine's vocabulary: what a call asks for, and what it answers.
+#![tactic(auto)]
 ghost use Rattle.std.specs.Prelude.{◌≡◌};
 ghost use Rattle.model.specs.Answers.{answer_number};
 
@@ -6,7 +7,7 @@ use chars::Refusal;
 use codes::Code;
 
 // Where the day stands.
-#[derive(Drop)]
+#[derive(Clone, Copy)]
 pub enum Phase {
     Fresh,
     Open,
@@ -14,7 +15,7 @@ pub enum Phase {
 }
 
 // What a call asks for. Text and book are lent beside it.
-#[derive(Drop)]
+#[derive(Clone, Copy)]
 pub enum Action {
     // A book opens the day.
     Opening,
@@ -33,7 +34,7 @@ pub enum Action {
 }
 
 // Whether a call was carried out, or why not.
-#[derive(Drop)]
+#[derive(Clone, Copy)]
 pub enum Answer {
     Done,
     Refused(Refusal),

@@ -1,4 +1,5 @@
 // The queue and its two tests, over lent rows: balances, sub-limits, the batches' rows, the quick test's memory, the queue and the tries.
+#![tactic(auto)]
 ghost use Rattle.std.specs.Prelude.{◌≡◌, true, false, map, ℕ, ◌+◌, ◌*◌, ◌≤◌, ◌<◌, eqb, length, get_or, set, take};
 ghost use Rattle.settle.specs.Payments.{payment_at, row_payments};
 ghost use Rattle.settle.specs.Settlement.{accounts};
@@ -100,7 +101,7 @@ pub fn wake_credited(memory: &mut [u64], batches: &[u64], place: usize)
 }
 
 // What the turn of a queued batch came to.
-#[derive(Drop)]
+#[derive(Clone, Copy)]
 pub enum Step {
     Omitted,
     Failed,
@@ -151,7 +152,7 @@ fn attempt(
 }
 
 // How many batches wait, and the place reached in the row of tries.
-#[derive(Drop)]
+#[derive(Clone, Copy)]
 pub struct Reached {
     pub waiting: usize,
     pub tried: usize,

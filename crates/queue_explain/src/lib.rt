@@ -1,4 +1,5 @@
 // Why a queued batch has not settled: the first uncovered debit, on the balances as they stand, and what its bank lacks.
+#![tactic(auto)]
 ghost use Rattle.std.specs.Prelude.{◌≡◌, ℕ, ◌+◌, ◌*◌, ◌≤◌, get_or};
 ghost use Rattle.settle.specs.Payments.{payment_at, payments_from, table_length, needs_of};
 ghost use Rattle.settle.specs.Settlement.{accounts, uncovered};
@@ -7,7 +8,7 @@ ghost use Rattle.queue_explain.specs.Holding.{short_of, need_at, holds, held_by,
 use settle::{Batch, BatchOr};
 
 // A debit: the place of its bank, its ESA letter, its cents.
-#[derive(Drop)]
+#[derive(Clone, Copy)]
 pub struct Debit {
     pub bank: u64,
     pub letter: u64,
@@ -15,7 +16,7 @@ pub struct Debit {
 }
 
 // What holds a batch.
-#[derive(Drop)]
+#[derive(Clone, Copy)]
 pub enum Held {
     // The bank lacks so many cents for this debit.
     Short(Debit, u64),

@@ -7,7 +7,7 @@ use text_fields::{Break, Field, Item};
 use text_scan::{At, Cursor};
 
 // A payment's fields. Its side is 0 for CR and 1 for DR; a credit's letters are 0.
-#[derive(Drop)]
+#[derive(Clone, Copy)]
 pub struct Payment {
     pub side: Item,
     pub amount: Item,
@@ -31,7 +31,7 @@ impl Payment {
 }
 
 // A payment and the cursor past it, or the break.
-#[derive(Drop)]
+#[derive(Clone, Copy)]
 pub enum Paid {
     One(Payment, Cursor),
     Unpaid(Break),
@@ -98,14 +98,14 @@ pub fn read_payment(s: &[u8], c: Cursor) -> Paid
 }
 
 // How the payments end: at a cursor, or in a break.
-#[derive(Drop)]
+#[derive(Clone, Copy)]
 pub enum Ending {
     Done(Cursor),
     Cut(Break),
 }
 
 // The first n places hold the payments that were read.
-#[derive(Drop)]
+#[derive(Clone, Copy)]
 pub struct Payments {
     pub ending: Ending,
     pub n: usize,

@@ -7,14 +7,14 @@ use text_scan::{At, Cursor};
 use text_values::Part;
 
 // The minute of the day from which a batch may settle.
-#[derive(Drop)]
+#[derive(Clone, Copy)]
 pub enum Activation {
     AtOnce,
     Minute(u64),
 }
 
 // The activation, its part and the cursor past it, or the break.
-#[derive(Drop)]
+#[derive(Clone, Copy)]
 pub enum Activated {
     Given(Activation, Part, Cursor),
     Ungiven(Break),
@@ -47,7 +47,7 @@ pub fn read_activation(s: &[u8], c: Cursor) -> Activated
     Activated::Given(Activation::Minute(i.number), part, next)
 }
 
-#[derive(Drop)]
+#[derive(Clone, Copy)]
 pub struct Terms {
     pub numbers: Part,
     pub number: u64,
@@ -74,7 +74,7 @@ impl Terms {
 }
 
 // The terms and the cursor past them, or the break.
-#[derive(Drop)]
+#[derive(Clone, Copy)]
 pub enum Stated {
     Whole(Terms, Cursor),
     Partial(Break),

@@ -12,7 +12,7 @@ use text_scan::Cursor;
 use text_values::Part;
 
 // A reference or a BIN: where it stands, and its code.
-#[derive(Drop)]
+#[derive(Clone, Copy)]
 pub struct Named {
     pub part: Part,
     pub code: Code,
@@ -31,7 +31,7 @@ impl Named {
 }
 
 // How far the address of a request was read well.
-#[derive(Drop)]
+#[derive(Clone, Copy)]
 pub enum Reached {
     Nothing,
     Stream,
@@ -39,7 +39,7 @@ pub enum Reached {
 }
 
 // The stream and the BIN, zero where they were not read.
-#[derive(Drop)]
+#[derive(Clone, Copy)]
 pub struct Address {
     pub reached: Reached,
     pub stream: Item,
@@ -47,13 +47,13 @@ pub struct Address {
 }
 
 // The address and the cursor past it, or the break and what was read before it.
-#[derive(Drop)]
+#[derive(Clone, Copy)]
 pub enum Addressed {
     To(Address, Cursor),
     Lost(Break, Address),
 }
 
-#[derive(Drop)]
+#[derive(Clone, Copy)]
 pub struct Head {
     pub reference: Named,
     pub subtype: Item,
@@ -61,7 +61,7 @@ pub struct Head {
 }
 
 // What a text is.
-#[derive(Drop)]
+#[derive(Clone, Copy)]
 pub enum Outcome {
     Settlement,
     Recall,
@@ -70,7 +70,7 @@ pub enum Outcome {
 
 // What was read. The first n places hold the payments. Of a recall only the head is there; of a
 // text that is refused only the sub type and the address, as far as they were read; all else is zero.
-#[derive(Drop)]
+#[derive(Clone, Copy)]
 pub struct Reading {
     pub outcome: Outcome,
     pub head: Head,
@@ -228,7 +228,7 @@ fn read_recall(s: &[u8], c: Cursor, head: Head) -> Reading
 
 // How a text begins, up to 119: as a settlement or a recall, with its head and the cursor past it. Of a text that breaks before, the
 // head holds only the sub type and the address, as far as they were read.
-#[derive(Drop)]
+#[derive(Clone, Copy)]
 pub struct Begun {
     pub outcome: Outcome,
     pub head: Head,

@@ -1,4 +1,5 @@
 // Requests as administrators write them: 131 and 133 from values.
+#![tactic(auto)]
 ghost use Rattle.std.specs.Prelude.{◌≡◌, ◌++◌, ◌+◌, ◌/◌, ◌≤◌, ◌<◌, length, drop, get_or, ltb};
 ghost use Rattle.text_scan.specs.Scan.{ten};
 ghost use Rattle.chars.specs.Words.{bytes};
@@ -14,14 +15,14 @@ use request_read::whole::Outcome;
 use response_write::Written;
 
 // The side of a payment. A debit has four letters, a credit has none.
-#[derive(Drop)]
+#[derive(Clone, Copy)]
 pub enum Side {
     Credit,
     Debit(u64),
 }
 
 // A payment to write.
-#[derive(Drop)]
+#[derive(Clone, Copy)]
 pub struct Payable {
     pub side: Side,
     pub cents: u64,
@@ -29,7 +30,7 @@ pub struct Payable {
 }
 
 // What a request is to say. The date is YYMMDD as a number; the first n places hold the payments.
-#[derive(Drop)]
+#[derive(Clone, Copy)]
 pub struct Order {
     pub subtype: u64,
     pub reference: Code,
@@ -44,7 +45,7 @@ pub struct Order {
 }
 
 // What is given for the value of a line.
-#[derive(Drop)]
+#[derive(Clone, Copy)]
 pub enum Given {
     Nothing,
     Name(Code),

@@ -1,4 +1,5 @@
 // The reading of a response: 132, which tells how a batch ended, and 134, which answers a recall.
+#![tactic(auto)]
 ghost use Rattle.std.specs.Prelude.{◌≡◌};
 ghost use Rattle.text_values.specs.Values.{text_of};
 ghost use Rattle.response_read.specs.Reply.{refused, response_number_at, request_reference_at, batch_at, settled_at, rejected_at, ended_at, answer_at, why_lost, why_unclear, why_without, settlement_of, recall_of, settlement_at, recall_at, response_at};
@@ -13,41 +14,41 @@ use text_values::Part;
 const TIMES: u64 = 1_000_000;
 
 // 20 and 12.
-#[derive(Drop)]
+#[derive(Clone, Copy)]
 pub struct Head {
     pub number: Item,
     pub subtype: Item,
 }
 
 // 22A and 119.
-#[derive(Drop)]
+#[derive(Clone, Copy)]
 pub struct Batch {
     pub stream: Item,
     pub bin: Item,
 }
 
-#[derive(Drop)]
+#[derive(Clone, Copy)]
 pub enum Batched {
     Of(Batch, Cursor),
     Lost(Break),
 }
 
 // How a batch ended, with the parts of 451 and of 13E or 432.
-#[derive(Drop)]
+#[derive(Clone, Copy)]
 pub enum Ended {
     How(Outcome, Part, Part, Cursor),
     Unclear(Break),
 }
 
 // How a recall ended, with the parts of 451 and 432.
-#[derive(Drop)]
+#[derive(Clone, Copy)]
 pub enum Answered {
     With(Answer, Part, Part, Cursor),
     Without(Break),
 }
 
 // What a text is.
-#[derive(Drop)]
+#[derive(Clone, Copy)]
 pub enum Reply {
     Settlement(response_write::Settlement),
     Recall(response_write::Recall),
@@ -56,7 +57,7 @@ pub enum Reply {
 
 // Where each field stands: 20 with its B, 12, 21, 22A, 119, 451, and 13E or 432. A field that the
 // text does not have, and every field of one that is refused, is at 0 and 0.
-#[derive(Drop)]
+#[derive(Clone, Copy)]
 pub struct Parts {
     pub number: Part,
     pub subtype: Part,
@@ -67,7 +68,7 @@ pub struct Parts {
     pub detail: Part,
 }
 
-#[derive(Drop)]
+#[derive(Clone, Copy)]
 pub struct ReadResponse {
     pub reply: Reply,
     pub parts: Parts,

@@ -1,4 +1,5 @@
 // Responses: the texts of 132 and 134, written straight into a lent buffer.
+#![tactic(auto)]
 ghost use Rattle.std.specs.Prelude.{◌≡◌, [], ◌++◌, ◌+◌, ◌≤◌, length, leb};
 ghost use Rattle.std.proofs.lemmas.List.Edits.{sets};
 ghost use Rattle.chars.specs.Words.{bytes, line};
@@ -12,14 +13,14 @@ use clock::Clock;
 use codes::Code;
 
 // How a batch ended: settled on a day at a second of it, or rejected with a number.
-#[derive(Drop)]
+#[derive(Clone, Copy)]
 pub enum Outcome {
     Settled(u64, u64),
     Rejected(u64),
 }
 
 // 132: the response to a message of a batch.
-#[derive(Drop)]
+#[derive(Clone, Copy)]
 pub struct Settlement {
     pub number: u64,
     pub reference: Code,
@@ -29,14 +30,14 @@ pub struct Settlement {
 }
 
 // How a recall ended: the batch is recalled, or nothing was, with a number.
-#[derive(Drop)]
+#[derive(Clone, Copy)]
 pub enum Answer {
     Recalled,
     Kept(u64),
 }
 
 // 134: the response to a recall.
-#[derive(Drop)]
+#[derive(Clone, Copy)]
 pub struct Recall {
     pub number: u64,
     pub reference: Code,
@@ -44,7 +45,7 @@ pub struct Recall {
 }
 
 // The place after a written text, or why none was written.
-#[derive(Drop)]
+#[derive(Clone, Copy)]
 pub enum Written {
     End(usize),
     Unfit(Refusal),

@@ -1,5 +1,6 @@
 // Books from standard input, each after its length in two bytes: the check's number, and of a sound book its banks, streams and
 // day number, and whether it is the same after it was read and written again.
+#![tactic(auto)]
 ghost use Rattle.std.specs.Prelude.{◌<◌};
 
 use book_read::{Answer, Reading};

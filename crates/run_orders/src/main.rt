@@ -4,6 +4,7 @@
 // An order: sub type, 18 digits; reference, 16 bytes filled up with zeros; stream; BIN, 16 bytes; number; count;
 // date; activation, 0 or the minute and 1; payments; the buffer's length; ten times the side, 0 for a credit or
 // the letters and 1, the cents and the bank; a line feed. Numbers have 18 digits.
+#![tactic(auto)]
 ghost use Rattle.std.specs.Prelude.{◌≤◌};
 
 use codes::Code;

@@ -2,7 +2,7 @@
 ghost use Rattle.std.specs.Prelude.{◌≡◌, ◌≤◌, length};
 
 // A number that is being read, and how many stand before it.
-#[derive(Drop)]
+#[derive(Clone, Copy)]
 pub struct Reading {
     pub value: u64,
     pub count: usize,

@@ -10,6 +10,7 @@
 //     8 0 0 0                  the quick test
 //
 // After a test stand four lines: tries, places that wait, memory, and balances of the first banks.
+#![tactic(auto)]
 mod line;
 mod rows;
 mod rules;

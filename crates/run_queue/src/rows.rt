@@ -5,7 +5,7 @@ use crate::{line, rules};
 use settle::{Bank, Batch};
 
 // How many batches wait, and the place of the one that joined last.
-#[derive(Drop)]
+#[derive(Clone, Copy)]
 pub struct Standing {
     pub waiting: usize,
     pub last: usize,
@@ -165,7 +165,7 @@ fn tell(
 }
 
 // A line of the script.
-#[derive(Drop)]
+#[derive(Clone, Copy)]
 pub struct Line {
     pub op: u64,
     pub a: u64,

@@ -6,6 +6,7 @@
 //     p                                   the accounts that have a code are printed
 //
 // `a` and `s` are answered with 00, or with the number of the refusal.
+#![tactic(auto)]
 ghost use Rattle.std.specs.Prelude.{◌≡◌, ◌+◌, ◌≤◌, ◌<◌, length};
 
 use call_records::{Account, AccountOr};
@@ -16,7 +17,7 @@ use model::Answer;
 const WORDS: usize = 11_168;
 
 // The last five numbers of a line; `e` is being read.
-#[derive(Drop)]
+#[derive(Clone, Copy)]
 pub struct Numbers {
     pub a: u64,
     pub b: u64,

@@ -1,5 +1,6 @@
 // Reads texts from standard input, each after its length in five digits and a line feed, and writes
 // on a line for each what the reader of requests finds in it.
+#![tactic(auto)]
 use request_read::payments::Payment;
 use request_read::terms::{Activation, Terms};
 use request_read::whole::{Address, Head, Named, Outcome, Reached, Reading};

@@ -1,6 +1,7 @@
 // Reads texts from standard input, each after its length in five digits and a line feed, and writes
 // on a line for each what the reader of responses finds in it. A response is written again, into a
 // buffer of points with room for it and into one that is a byte too short.
+#![tactic(auto)]
 use codes::Code;
 use response_read::{Parts, ReadResponse, Reply};
 use response_write::{Answer, Outcome, Recall, Settlement, Written};

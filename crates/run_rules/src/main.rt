@@ -1,5 +1,6 @@
 // Runs of the table rules. Standard input has lines: an index and a value set one word of the row of all that is lent (crate `tables_as_row`); any other
 // line names the tables as they are now, and is written again with 0, or with 06 where they break the rules.
+#![tactic(auto)]
 ghost use Rattle.std.specs.Prelude.{◌≡◌, ◌+◌, ◌≤◌, ◌<◌, length};
 ghost use Rattle.tables_as_row.specs.RowWords.{row_words};
 
@@ -8,7 +9,7 @@ use libc::{STDIN_FILENO, STDOUT_FILENO};
 const WORDS: usize = 20_608;
 
 // A number that is being read, and the one before it.
-#[derive(Drop)]
+#[derive(Clone, Copy)]
 pub struct Pair {
     pub before: u64,
     pub value: u64,

@@ -1,4 +1,5 @@
 // Settlement: the cover of one debit, the first uncovered debit of a batch, and all payments of a batch at once.
+#![tactic(auto)]
 ghost use Rattle.std.specs.Prelude.{◌≡◌, ℕ, ◌+◌, ◌*◌, ◌≤◌, ◌<◌, length, get_or};
 ghost use Rattle.settle.specs.Cover.{covered, esa};
 ghost use Rattle.settle.specs.Payments.{payment_at, row_payments, needs_of};
@@ -7,13 +8,13 @@ ghost use Rattle.settle.specs.Rules.{Payable, Laid, Ready};
 ghost use Rattle.settle.specs.Types.{bank_or, batch_or};
 
 // A bank's two amounts of money, in cents.
-#[derive(Drop)]
+#[derive(Clone, Copy)]
 pub struct Bank {
     pub balance: u64,
     pub sublimit: u64,
 }
 
-#[derive(Drop)]
+#[derive(Clone, Copy)]
 pub enum BankOr {
     Is(Bank),
     Not(chars::Refusal),
@@ -37,12 +38,12 @@ impl Bank {
 }
 
 // The row of a batch in the table: where it starts.
-#[derive(Drop)]
+#[derive(Clone, Copy)]
 pub struct Batch {
     pub start: usize,
 }
 
-#[derive(Drop)]
+#[derive(Clone, Copy)]
 pub enum BatchOr {
     Stands(Batch),
     Nowhere(chars::Refusal),
@@ -118,7 +119,7 @@ pub fn covered(letters: u64, balance: u64, sublimit: u64, cents: u64) -> bool
 }
 
 // What a try of a batch finds: nothing uncovered, or the bank of the first uncovered debit.
-#[derive(Drop)]
+#[derive(Clone, Copy)]
 pub enum Verdict {
     Passes,
     Stops(u64),

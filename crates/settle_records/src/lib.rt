@@ -1,4 +1,5 @@
 // Settled payments, stored one by one in the row of records.
+#![tactic(auto)]
 pub mod testing;
 
 ghost use Rattle.std.specs.Prelude.{◌≡◌, ℕ};
@@ -61,7 +62,7 @@ fn settle_row(mut row: [Account; 64], batches: &[u64], place: usize) -> [Account
 }
 
 // What a settlement answers, and the row that it leaves.
-#[derive(Drop)]
+#[derive(Clone, Copy)]
 pub struct RowSettled {
     pub answer: Answer,
     pub row: [Account; 64],

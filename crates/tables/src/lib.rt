@@ -1,4 +1,5 @@
 // The lent tables and the day's scalars.
+#![tactic(auto)]
 pub mod house;
 pub mod moment;
 pub mod places;
@@ -6,7 +7,7 @@ pub mod places;
 use model::Phase;
 
 // The day's scalars, by value. Of the streams the first n are in use: code and administrator of each.
-#[derive(Drop)]
+#[derive(Clone, Copy)]
 pub struct Desk {
     pub phase: Phase,
     pub date: u64,
@@ -18,7 +19,7 @@ pub struct Desk {
 }
 
 // What is looked for stands at a place, or nowhere.
-#[derive(Drop)]
+#[derive(Clone, Copy)]
 pub enum Sought {
     Here(usize),
     Nowhere,

@@ -4,6 +4,7 @@
 //     6 to 21          its 16 words of streams
 //     24 to 31         how many words of each table are lent: codes, flags, balances, sub-limits, batches, references, BINs, sheet
 //     32, 128, 224, 320, 512, 11776, 17984, 19584   where these tables begin
+#![tactic(auto)]
 ghost use Rattle.std.specs.Prelude.{◌≡◌, ◌+◌, ◌≤◌, ◌<◌, length, take, drop};
 ghost use Rattle.chars.specs.Words.{Says};
 ghost use Rattle.tables.specs.Lent.{Right};

@@ -1,4 +1,5 @@
 // "Clearing accepts any contents of the right lengths (else 06, its one refusal) and is a fresh start".
+#![tactic(auto)]
 ghost use Rattle.std.specs.Prelude.{◌≡◌, ℕ, length, replicate};
 ghost use Rattle.chars.specs.Words.{Says};
 ghost use Rattle.model.specs.Calls.{cleared};
@@ -13,7 +14,7 @@ use model::{Answer, Phase};
 use tables::Desk;
 
 // What a clearing answers, and the desk that it leaves.
-#[derive(Drop)]
+#[derive(Clone, Copy)]
 pub struct Start {
     pub answer: Answer,
     pub desk: Desk,

@@ -1,5 +1,6 @@
 // What may stand where a line of a text begins, and the number of that line: what a reader expected where it
 // broke off.
+#![tactic(auto)]
 ghost use Rattle.std.specs.Prelude.{◌≡◌, cond, ◌+◌, ◌-◌, ◌≤◌, eqb, length, drop};
 ghost use Rattle.chars.specs.Words.{bytes};
 ghost use Rattle.text_scan.specs.Scan.{on_next, begins, lit_at};
@@ -18,7 +19,7 @@ use text_scan::At;
 const MOST: usize = 10;
 
 // The tags of requests and responses.
-#[derive(Drop)]
+#[derive(Clone, Copy)]
 pub enum Tag {
     T20,
     T12,
@@ -100,7 +101,7 @@ impl Tag {
 }
 
 // The tags that may stand where a line begins; none where the text is to end.
-#[derive(Drop)]
+#[derive(Clone, Copy)]
 pub enum Tags {
     Ending,
     One(Tag),
@@ -109,7 +110,7 @@ pub enum Tags {
 
 // Where a line begins, by the lines before it: `At` of a request, `On` of a response. With it goes whether a
 // settlement is asked for or answered, how many payments may still come, and whether the payment is a debit.
-#[derive(Drop)]
+#[derive(Clone, Copy)]
 pub enum Stage {
     At20,
     At12,
@@ -137,7 +138,7 @@ pub enum Stage {
 }
 
 // Which lines follow is told by three values: 12 asks for or answers a settlement, 127 is a debit, 451 is 0.
-#[derive(Drop)]
+#[derive(Clone, Copy)]
 pub struct Said {
     pub settles: bool,
     pub debit: bool,
@@ -145,7 +146,7 @@ pub struct Said {
 }
 
 // A line's beginning, its number, counted from 1, and what is expected there.
-#[derive(Drop)]
+#[derive(Clone, Copy)]
 pub struct Place {
     pub at: usize,
     pub line: usize,
@@ -153,14 +154,14 @@ pub struct Place {
 }
 
 // Which of some tags stands at a place, and where its value begins.
-#[derive(Drop)]
+#[derive(Clone, Copy)]
 pub enum Stands {
     Here(Tag, usize),
     Nowhere,
 }
 
 // From a line to the next.
-#[derive(Drop)]
+#[derive(Clone, Copy)]
 pub enum Step {
     Onto(Place),
     Stay,
@@ -168,7 +169,7 @@ pub enum Step {
 
 // How a text breaks: none of the tags that may stand there does; the tag's value is wrong; 12 has another sub
 // type; 113 stands after CR.
-#[derive(Drop)]
+#[derive(Clone, Copy)]
 pub enum Fault {
     Missing(Tags),
     Wrong(Tag),
@@ -178,7 +179,7 @@ pub enum Fault {
 
 // A break in full: the number of its line, how it breaks the text, and where the line's value begins, 0 where a
 // field is missing.
-#[derive(Drop)]
+#[derive(Clone, Copy)]
 pub struct Told {
     pub line: usize,
     pub fault: Fault,

@@ -1,4 +1,5 @@
 // A line of a text: `:tag:value` and CR LF. Each field is a step from a cursor to the next.
+#![tactic(auto)]
 ghost use Rattle.std.specs.Prelude.{◌≡◌};
 ghost use Rattle.chars.specs.Words.{bytes};
 ghost use Rattle.text_fields.specs.Fields.{absent, nothing, broken, item, place, field_at, why_not};
@@ -11,7 +12,7 @@ use text_values::{Part, Value};
 
 // Why a text is refused: the number, where the line begins that breaks it, and whether a mandatory
 // field is missing there (the text ends, or something else than a tag that is expected stands there).
-#[derive(Drop)]
+#[derive(Clone, Copy)]
 pub struct Break {
     pub refusal: Refusal,
     pub at: usize,
@@ -43,7 +44,7 @@ impl Break {
 }
 
 // Where a field's value stands, and the number beside it; 0 for a value that has none.
-#[derive(Drop)]
+#[derive(Clone, Copy)]
 pub struct Item {
     pub part: Part,
     pub number: u64,
@@ -62,7 +63,7 @@ impl Item {
 }
 
 // What a step finds: the field and the cursor past its line, or the break.
-#[derive(Drop)]
+#[derive(Clone, Copy)]
 pub enum Field {
     Good(Item, Cursor),
     Bad(Break),
@@ -108,7 +109,7 @@ impl Field {
 }
 
 // What a line's value is, for the definitions: each tag has its step below.
-#[derive(Drop)]
+#[derive(Clone, Copy)]
 pub enum Kind {
     Empty,
     Reference,

@@ -11,7 +11,7 @@ use codes::Code;
 const SHORT_END: u64 = 4_294_967_296;
 
 // Characters of a number, the last so many.
-#[derive(Drop)]
+#[derive(Clone, Copy)]
 pub struct Tail {
     pub value: u64,
     pub width: usize,

@@ -1,9 +1,10 @@
 // Steps over a text at a place: a fixed string, a run of A-Z 0-9, a number, the end of a line.
+#![tactic(auto)]
 ghost use Rattle.std.specs.Prelude.{◌≡◌, ◌-◌, ◌<◌, length};
 ghost use Rattle.text_scan.specs.Scan.{lit_at, codes_at, code_at, digits_at, number_at, line_end_at, most, ten, Fits};
 
 // A place in a text.
-#[derive(Drop)]
+#[derive(Clone, Copy)]
 pub struct Cursor {
     pub at: usize,
 }
@@ -20,7 +21,7 @@ impl Cursor {
 }
 
 // The place after what was expected, or that it does not stand there.
-#[derive(Drop)]
+#[derive(Clone, Copy)]
 pub enum At {
     Next(usize),
     No,
@@ -87,7 +88,7 @@ pub fn code(s: &[u8], at: usize, n: usize) -> At
 }
 
 // Past the digits that stand at a place, and the number that they make.
-#[derive(Drop)]
+#[derive(Clone, Copy)]
 pub struct Run {
     pub end: usize,
     pub value: u64,
@@ -117,7 +118,7 @@ pub fn digits(s: &[u8], at: usize, max: usize) -> Run
 }
 
 // A number of a fixed width and the place after it.
-#[derive(Drop)]
+#[derive(Clone, Copy)]
 pub enum Fixed {
     Value(u64, usize),
     No,

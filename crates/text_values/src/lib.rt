@@ -1,4 +1,5 @@
 // The values of a request's fields, each read at the place where it begins.
+#![tactic(auto)]
 ghost use Rattle.std.specs.Prelude.{◌≡◌, ◌+◌, ◌<◌, drop, get_or};
 ghost use Rattle.text_values.specs.Values.{no_part, why_unread, text_of, code_of, reference_at, forbidden_at, numeral_at, word_at, bin_at, numbers_at, count_in, date_at, time_at, side_at, amount_at, hundredths, count_at};
 ghost use Rattle.text_values.specs.Letters.{is_status, is_fourth, judged_at, letters_at};
@@ -8,7 +9,7 @@ use codes::Code;
 use text_scan::{At, Fixed};
 
 // Where a value stands in the text.
-#[derive(Drop)]
+#[derive(Clone, Copy)]
 pub struct Part {
     pub start: usize,
     pub end: usize,
@@ -24,7 +25,7 @@ impl Part {
 }
 
 // The number that a value stands for, 0 where it stands for none, and the place after it; or why there is no such value.
-#[derive(Drop)]
+#[derive(Clone, Copy)]
 pub enum Value {
     Read(u64, usize),
     Unread(Refusal),

@@ -1,1 +1,2 @@
 // What is told of a break is what breaks the text: proofs alone.
+#![tactic(auto)]
