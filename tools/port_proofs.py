@@ -92,6 +92,8 @@ def tuple_parts(rest):
                 return None
             break
     parts = split_top(t[1:-1])
+    if parts and not parts[-1]:
+        parts.pop()
     return parts if len(parts) > 1 else None
 
 
@@ -134,11 +136,24 @@ class Function:
                 if new.endswith("-own"):
                     continue
                 self.arms[(norm(step),) + tuple(norm(p) for p in path)] = (name, new)
+        self.parents = {p[0]: p for p in of["places"]}
+        self.at = {norm(n[0]): a[0] for n, a in zip(of["needs"], of["asked_at"])}
+        self.chain = {}
         self.loops = {norm(a): (b, vs) for (a, b), vs in of["loops"]}
         for a, (b, vs) in list(self.loops.items()):
             self.steps[a] = b
-        self.pre = of.get("pre")
+        self.pre = (of.get("pre") or {}).get("fields")
         self.asked = {norm(k): v for k, v in of["asked"].items()}
+
+    def stand(self, need):
+        """The steps on the way to a goal, the nearest first."""
+        self.chain = {}
+        place = self.at.get(need)
+        while place in self.parents:
+            row = self.parents[place]
+            if row[2][0]:
+                self.chain.setdefault(norm(row[2][0]), row[2][1])
+            place = row[1]
 
     def goal(self, need):
         for it in (need, re.sub(r"^(overflow|nonzero)-(add|sub|mul|shl|shr|cast|step|div|rem)-", r"\2-", need)):
@@ -166,7 +181,7 @@ class Function:
             if k and key in self.arms:
                 name, new = self.arms[key]
                 return ".".join(["c", name, new] + rest[k:])
-        new = self.steps.get(step)
+        new = self.chain.get(step) or self.steps.get(step)
         if new is None:
             return ".".join(["c", fields[0]] + rest)
         if rest and norm(rest[0]) in self.fields.get(step, {}):
@@ -228,7 +243,10 @@ def used(imports, text):
             name = name.strip()
             if not name:
                 continue
-            if "◌" in name:
+            if name == "[]":
+                if "[]" in text:
+                    keep.append(name)
+            elif "◌" in name:
                 ops = [p for p in name.split("◌") if p]
                 if all(o in text for o in ops):
                     keep.append(name)
@@ -311,7 +329,7 @@ def convert(crate, path, of, said):
         if new is None:
             said.append("%s no goal %s any more" % (where, k[1]))
             continue
-        extra = [b for b in binders[:-1] if b not in ("c", "κs", "_")] if len(binders) > 2 else []
+        f.stand(old)
         body = f.turned(body)
         if binders and binders[0] != "c" and "c" not in binders:
             # another name of c

@@ -1,0 +1,11 @@
+use Rattle.queue.proofs.MemoryLaws.{map_turn, map_done}
+use lib.ListN.{length-set}
+use Prim.Native.Nat.{◌-◌}
+use borrow.Author.Rules.{rules}
+use Rattle.queue.proofs.wake_marked.Goals as goal
+
+pub loop-i-preserved : goal.loop-i-preserved
+loop-i-preserved c = (simp length-set (search rules), simp length-set (search rules), search (rules, map_turn))
+
+pub returns : goal.returns
+returns c = search (rules, map_done)
