@@ -139,6 +139,8 @@ class Function:
         self.parents = {p[0]: p for p in of["places"]}
         self.at = {norm(n[0]): a[0] for n, a in zip(of["needs"], of["asked_at"])}
         self.chain = {}
+        self.own = {}
+        self.arm_of = {p[0]: a for p, a in zip(of["places"], of["arms"])}
         self.loops = {norm(a): (b, vs) for (a, b), vs in of["loops"]}
         for a, (b, vs) in list(self.loops.items()):
             self.steps[a] = b
@@ -148,9 +150,15 @@ class Function:
     def stand(self, need):
         """The steps on the way to a goal, the nearest first."""
         self.chain = {}
+        self.own = {}
         place = self.at.get(need)
         while place in self.parents:
             row = self.parents[place]
+            if self.arm_of.get(place):
+                name, _, rows = self.arm_of[place]
+                for new, step, path in rows:
+                    if new.endswith("-own"):
+                        self.own.setdefault(norm(step), ["c", name, new])
             if row[2][0]:
                 self.chain.setdefault(norm(row[2][0]), row[2][1])
             place = row[1]
@@ -181,6 +189,8 @@ class Function:
             if k and key in self.arms:
                 name, new = self.arms[key]
                 return ".".join(["c", name, new] + rest[k:])
+        if step in self.own:
+            return ".".join(self.own[step] + rest)
         new = self.chain.get(step) or self.steps.get(step)
         if new is None:
             return ".".join(["c", fields[0]] + rest)

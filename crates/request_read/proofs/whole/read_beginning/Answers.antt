@@ -19,4 +19,4 @@ returns-in-131 c =
 pub returns-in_default-n : goal.returns-in_default-n
 returns-in_default-n c =
     let reference = c in
-    beginning_4 _ reference.before.new.ensures reference.read-reference.ensures c.in-Good.is c.read_sub_type-g.ensures c.in-Good-g.is (not_member (131 ∷ 133 ∷ []) _ c.in_default-n.rest.1) c.wrong.ensures c.unread-in_default-n.ensures
+    beginning_4 _ reference.before.new.ensures reference.read-reference.ensures c.in-Good.is c.read_sub_type-g.ensures c.in-Good-g.is (not_member (131 ∷ 133 ∷ []) _ c.in_default-n.in_default-n-own.rest.1) c.wrong.ensures c.unread-in_default-n.ensures
