@@ -204,8 +204,13 @@ class Function:
 
     def turned(self, body):
         aliases = {"c"}
-        for m in re.finditer(r"let (" + N + r") = c((?:\.before)*) in", body):
-            aliases.add(m[1])
+        more = True
+        while more:
+            more = False
+            for m in re.finditer(r"let (" + N + r") = (" + N + r")((?:\.before)*) in", body):
+                if m[2] in aliases and m[1] not in aliases:
+                    aliases.add(m[1])
+                    more = True
 
         def one(m):
             out = self.path(m[1], m[2][1:].split("."), aliases)
