@@ -414,6 +414,7 @@ module _ {s : List ℕ} {at i : ℕ} (g : Seeking s at i) where
 -- ---- the number of a line
 
 fed_step : (s : List ℕ) (i : ℕ) → i < length s → fed (take (suc i) s) ≡ fed (take i s) + feed (get_or s i 0)
+fed_step [] i h = absurd (omega arith)
 fed_step (x ∷ s) zero h = omega arith
 fed_step (x ∷ s) (suc i) h = ap (λ (n : ℕ). feed x + n) (fed_step s i (omega arith)) ∙ omega arith
 

@@ -15,4 +15,4 @@ returns-then-is_word-4 c = search next_4
 
 pub returns : goal.returns
 returns c =
-    next_5 _ _ _ c.is_IsWord.ensures c.if-is_word.false c.is_word-2.ensures c.if-is_word-2.false c.is_word-3.ensures c.if-is_word-3.false c.is_word-4.ensures c.if-is_word-4.false
+    next_5 _ _ _ c.is_word.ensures c.if-is_word.false c.is_word-2.ensures c.if-is_word-2.false c.is_word-3.ensures c.if-is_word-3.false c.is_word-4.ensures c.if-is_word-4.false

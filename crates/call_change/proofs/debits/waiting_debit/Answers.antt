@@ -19,6 +19,10 @@ overflow_add-e c = omega (arith, place_below _ _ _ _ _ c.args.bin c.requires.0 c
 pub offset_bounds-batches-a : goal.offset_bounds-batches-a
 offset_bounds-batches-a c = omega (arith, place_below _ _ _ _ _ c.args.bin c.requires.0 c.waiting-found.result c.waiting-found.ensures _ c.in-Here.is)
 
+-- src/debits.rt:46:40
+pub slice_bounds-has_debit-end : goal.slice_bounds-has_debit-end
+slice_bounds-has_debit-end c = omega (arith, place_below _ _ _ _ _ c.args.bin c.requires.0 c.waiting-found.result c.waiting-found.ensures _ c.in-Here.is)
+
 -- src/debits.rt:46:8
 pub has_debit-requires : goal.has_debit-requires
 has_debit-requires c = lent_right _ _ _ _ _ c.args.bin c.args.bank c.waiting-found.result c.waiting-found.ensures c.requires.0 c.requires.1 _ c.in-Here.is
