@@ -1,5 +1,6 @@
 // Where and why a text breaks, in words on standard output.
 #![tactic(auto)]
+
 use cli_files::Console;
 use cli_print::Row;
 use text_explain::{Fault, Tag, Tags, Told};

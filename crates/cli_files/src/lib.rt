@@ -1,5 +1,6 @@
 // Files that a program is given to read, and how it tells that something was not well.
 #![tactic(auto)]
+
 pub mod lines;
 pub mod paths;
 pub mod whole;
@@ -9,13 +10,11 @@ ghost use Rattle.cli_files.specs.Files.{Within};
 
 use std::cell::Cell;
 use std::env::{Env, FillError};
-use std::fmt;
 use std::fmt::Write;
-use std::fs;
 use std::fs::Files;
-use std::io;
 use std::io::{Error, Input, Print, Read, Stderr, Stdout};
 use std::process::ExitCode;
+use std::{fmt, fs, io};
 use text_scan::At;
 
 // Numbers of the system's errors.

@@ -1,9 +1,8 @@
 // Paths of files that a script names.
 ghost use Rattle.std.specs.Prelude.{◌≡◌, length};
 
-use std::io;
 use std::io::Error;
-use std::str;
+use std::{io, str};
 
 // A path has fewer bytes than this.
 const PATH_MAX: usize = 4096;

@@ -1,10 +1,9 @@
 // A file that is written whole or not at all.
 use crate::{Console, Place, paths};
-use std::fs;
 use std::fs::{File, Files, OpenFile, OpenOptions};
-use std::io;
 use std::io::Write;
 use std::random::RandomSource;
+use std::{fs, io};
 
 fn letter(b: u8) -> u8 {
     b'a' + b % 26

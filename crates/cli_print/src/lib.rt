@@ -1,5 +1,6 @@
 // Words and numbers on standard output, as the programs tell them.
 #![tactic(auto)]
+
 ghost use Rattle.std.specs.Prelude.{◌≡◌, length};
 
 use chars::Refusal;

@@ -1,5 +1,6 @@
 // What stands in the tables, and why what waits has not settled.
 #![tactic(auto)]
+
 mod orders;
 
 use cli_files::Console;
@@ -77,7 +78,14 @@ fn show_bin(console: &Console, batches: &[u64], place: usize) {
 }
 
 // The BINs of a phase.
-fn show_order(console: &Console, name: &[u8], batches: &[u64], bins: &[u64], date: u64, phase: u64) {
+fn show_order(
+    console: &Console,
+    name: &[u8],
+    batches: &[u64],
+    bins: &[u64],
+    date: u64,
+    phase: u64,
+) {
     cli_print::text(console, name);
     let mut last = orders::next(batches, bins, date, phase, orders::NOWHERE);
     let mut left = Batch::LIVE;
@@ -105,14 +113,31 @@ pub fn show(
 ) {
     let date = desk.date;
     show_day(console, desk);
-    show_banks(console, codes, flags, balances, sublimits, sheet, desk.banks);
+    show_banks(
+        console, codes, flags, balances, sublimits, sheet, desk.banks,
+    );
     show_order(console, b"queue", batches, bins, date, orders::QUEUED);
     show_order(console, b"pending", batches, bins, date, orders::PENDING);
-    show_order(console, b"assembling", batches, bins, date, orders::ASSEMBLING);
+    show_order(
+        console,
+        b"assembling",
+        batches,
+        bins,
+        date,
+        orders::ASSEMBLING,
+    );
 }
 
 // The debit that holds a batch, and the account that it is held at.
-fn tell_debit(console: &Console, batches: &[u64], place: usize, debit: Debit, code: u64, balance: u64, sublimit: u64) {
+fn tell_debit(
+    console: &Console,
+    batches: &[u64],
+    place: usize,
+    debit: Debit,
+    code: u64,
+    balance: u64,
+    sublimit: u64,
+) {
     cli_print::text(console, b"held");
     show_bin(console, batches, place);
     cli_print::space(console);
@@ -145,7 +170,14 @@ fn tell_account(
     );
 }
 
-fn tell_held(console: &Console, codes: &[u64], balances: &[u64], sublimits: &[u64], batches: &[u64], place: usize) {
+fn tell_held(
+    console: &Console,
+    codes: &[u64],
+    balances: &[u64],
+    sublimits: &[u64],
+    batches: &[u64],
+    place: usize,
+) {
     match queue_explain::held_at(balances, sublimits, batches, place) {
         Held::Short(debit, short) => {
             tell_account(console, codes, balances, sublimits, batches, place, debit);
@@ -176,7 +208,11 @@ fn tell_pending(console: &Console, batches: &[u64], place: usize) {
 fn tell_assembling(console: &Console, batches: &[u64], place: usize) {
     cli_print::text(console, b"assembling");
     show_bin(console, batches, place);
-    cli_print::field(console, b" ", orders::word(batches, place, Batch::MESSAGES_THERE));
+    cli_print::field(
+        console,
+        b" ",
+        orders::word(batches, place, Batch::MESSAGES_THERE),
+    );
     cli_print::field(console, b" of ", orders::word(batches, place, Batch::COUNT));
     cli_print::end(console);
 }

@@ -1,8 +1,8 @@
 // The book whose account is given.
 use book_read::{Answer, Book};
 use book_write::Writing;
-use cli_files::Console;
 use cli_book::{BookAccount, Stop, Wanted};
+use cli_files::Console;
 use text_scan::At;
 
 // Whether an account is one of a book, by its first line.
@@ -26,7 +26,10 @@ fn say_wanted(console: &Console, wanted: Wanted) {
             )
         }
         Wanted::BankOrTotal => {
-            crate::say(console, b"bank CODE active|suspended BALANCE SUBLIMIT STREAM.. or total CENTS")
+            crate::say(
+                console,
+                b"bank CODE active|suspended BALANCE SUBLIMIT STREAM.. or total CENTS",
+            )
         }
         Wanted::Sum => crate::say(console, b"the sum of the balances"),
         Wanted::Nothing => crate::say(console, b"no further line"),

@@ -1,6 +1,7 @@
 // ./purmagheli compose FILE: the text of the request, or the book, whose account the file holds, as inspect tells it, or those of several accounts,
 // one behind another; of what cannot be composed the line that cannot be read, or the number by which request or book would be refused. A dash is standard input.
 #![tactic(auto)]
+
 mod books;
 mod refusals;
 
@@ -32,7 +33,10 @@ fn say_expected(console: &Console, expected: Expected) {
         Expected::Message => say(console, b"message and number/count, two digits each"),
         Expected::Date => say(console, b"date and six digits, YYMMDD"),
         Expected::Activation => say(console, b"activation and four digits, HHMM, or none"),
-        Expected::Payment => say(console, b"payment CR CENTS BANK or payment DR CENTS BANK LETTERS"),
+        Expected::Payment => say(
+            console,
+            b"payment CR CENTS BANK or payment DR CENTS BANK LETTERS",
+        ),
         Expected::Nothing => say(console, b"no further line"),
     }
 }

@@ -57,7 +57,13 @@ fn say_text(console: &Console, order: Order, first: usize, text: &[u8]) {
     let reading = request_read::whole::read_request(text);
     let outcome = reading.outcome;
     match outcome {
-        Outcome::Refused(b) => say_break(console, order, first, b, text_explain::request_break(text, b)),
+        Outcome::Refused(b) => say_break(
+            console,
+            order,
+            first,
+            b,
+            text_explain::request_break(text, b),
+        ),
         Outcome::Settlement => (),
         Outcome::Recall => (),
     }

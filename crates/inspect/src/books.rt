@@ -50,7 +50,14 @@ fn show_standing<'a>(row: Row<'a>, flags: u64) -> Row<'a> {
     row.text(b" active ")
 }
 
-fn show_bank(console: &Console, streams: &[u64], code: u64, flags: u64, balance: u64, sublimit: u64) {
+fn show_bank(
+    console: &Console,
+    streams: &[u64],
+    code: u64,
+    flags: u64,
+    balance: u64,
+    sublimit: u64,
+) {
     let named = cli_print::begin(console).text(b"bank ").code(code);
     let row = show_standing(named, flags)
         .number(balance)
@@ -129,7 +136,9 @@ pub fn show(console: &Console, s: &[u8]) {
         Reading::Held(book) => {
             show_head(console, book);
             show_streams(console, &streams, book.streams);
-            show_banks(console, &streams, &codes, &flags, &balances, &sublimits, book.banks);
+            show_banks(
+                console, &streams, &codes, &flags, &balances, &sublimits, book.banks,
+            );
             show_total(console, total(&balances, book.banks));
         }
     }

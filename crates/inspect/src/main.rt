@@ -1,6 +1,7 @@
 // ./purmagheli inspect request|response|book FILE..: what each file says, or the number by which it is
 // refused, and of a book where it breaks. A dash is standard input.
 #![tactic(auto)]
+
 mod books;
 mod faults;
 mod requests;
@@ -65,12 +66,7 @@ fn show_file(rt: &(impl Files + Input), console: &Console, subject: Subject, pat
     }
 }
 
-fn show_argument(
-    rt: &(impl Env + Files + Input),
-    console: &Console,
-    subject: Subject,
-    i: usize,
-) {
+fn show_argument(rt: &(impl Env + Files + Input), console: &Console, subject: Subject, i: usize) {
     let mut path = [0u8; 4096];
     match cli_files::argument(rt, i, &mut path) {
         Ok(n) => show_file(rt, console, subject, &path[..n]),

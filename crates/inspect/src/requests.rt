@@ -8,9 +8,21 @@ use text_fields::Break;
 
 fn show_head(console: &Console, s: &[u8], h: Head) {
     let address = h.address;
-    cli_print::line(console, b"accepted", request_read::parts::sub_type_text(s, h));
-    cli_print::line(console, b"reference", request_read::parts::reference_text(s, h));
-    cli_print::line(console, b"stream", request_read::parts::stream_text(s, address));
+    cli_print::line(
+        console,
+        b"accepted",
+        request_read::parts::sub_type_text(s, h),
+    );
+    cli_print::line(
+        console,
+        b"reference",
+        request_read::parts::reference_text(s, h),
+    );
+    cli_print::line(
+        console,
+        b"stream",
+        request_read::parts::stream_text(s, address),
+    );
     cli_print::line(console, b"bin", request_read::parts::bin_text(s, address));
 }
 

@@ -11,14 +11,18 @@
 //
 // After a test stand four lines: tries, places that wait, memory, and balances of the first banks.
 #![tactic(auto)]
+
 mod line;
 mod rows;
 mod rules;
 
-fn main() {
-    let mut text = io::large_buffer();
-    let length = io::read_full(0, &mut text);
+use std::io;
+use std::io::Read;
+
+fn main(rt: HostRuntime) -> io::Result<()> {
+    let mut text = Vec::new(rt.alloc());
+    rt.stdin().take(65536).read_to_end(&mut text)?;
     let mut numbers = [0u64; 8192];
-    let count = line::read(&text[..length], &mut numbers);
-    rows::run(&numbers, count);
+    let count = line::read(&text, &mut numbers);
+    rows::run(&rt, &numbers, count)
 }
