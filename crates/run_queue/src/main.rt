@@ -17,12 +17,11 @@ mod rows;
 mod rules;
 
 use std::io;
-use std::io::Read;
 
 fn main(rt: HostRuntime) -> io::Result<()> {
-    let mut text = Vec::new(rt.alloc());
-    rt.stdin().take(65536).read_to_end(&mut text)?;
+    let mut text = [0u8; 65536];
+    let length = cli_files::read_full(&mut rt.stdin(), &mut text);
     let mut numbers = [0u64; 8192];
-    let count = line::read(&text, &mut numbers);
+    let count = line::read(&text[..length], &mut numbers);
     rows::run(&rt, &numbers, count)
 }

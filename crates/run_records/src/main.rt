@@ -14,8 +14,6 @@ use call_records::{Account, AccountOr};
 use chars::Refusal;
 use cli_files::Console;
 use model::Answer;
-use std::io;
-use std::io::Read;
 use std::process::ExitCode;
 
 const WORDS: usize = 11_168;
@@ -220,10 +218,10 @@ fn run(console: &Console, text: &[u8]) {
     }
 }
 
-fn main(rt: HostRuntime) -> io::Result<ExitCode> {
-    let mut text = Vec::new(rt.alloc());
-    rt.stdin().take(65536).read_to_end(&mut text)?;
+fn main(rt: HostRuntime) -> ExitCode {
+    let mut text = [0u8; 65536];
+    let length = cli_files::read_full(&mut rt.stdin(), &mut text);
     let console = Console::new(rt.stdout(), rt.stderr());
-    run(&console, &text);
-    Ok(console.exit_code())
+    run(&console, &text[..length]);
+    console.exit_code()
 }

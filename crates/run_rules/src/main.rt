@@ -6,7 +6,6 @@ ghost use Rattle.std.specs.Prelude.{◌≡◌, ◌+◌, ◌≤◌, ◌<◌, leng
 ghost use Rattle.tables_as_row.specs.RowWords.{row_words};
 
 use std::io;
-use std::io::Read;
 
 const WORDS: usize = 20_608;
 
@@ -108,7 +107,7 @@ fn run(rt: &impl Print, text: &[u8]) -> io::Result<()> {
 }
 
 fn main(rt: HostRuntime) -> io::Result<()> {
-    let mut text = Vec::new(rt.alloc());
-    rt.stdin().take(65536).read_to_end(&mut text)?;
-    run(&rt, &text)
+    let mut text = [0u8; 65536];
+    let length = cli_files::read_full(&mut rt.stdin(), &mut text);
+    run(&rt, &text[..length])
 }
