@@ -1,5 +1,7 @@
 // Where and why a text breaks, in words on standard output.
 #![tactic(auto)]
+
+use cli_files::Console;
 use cli_print::Row;
 use text_explain::{Fault, Tag, Tags, Told};
 use text_scan::At;
@@ -7,12 +9,12 @@ use text_scan::At;
 // So much of a line is shown.
 const SHOWN: usize = 40;
 
-fn show_tag(row: Row, t: Tag) -> Row {
+fn show_tag<'a>(row: Row<'a>, t: Tag) -> Row<'a> {
     let text = t.text();
     row.first(&text, t.size())
 }
 
-fn show_expected(row: Row, tags: Tags) -> Row {
+fn show_expected<'a>(row: Row<'a>, tags: Tags) -> Row<'a> {
     match tags {
         Tags::Ending => row.text(b"the end of the text expected"),
         Tags::One(t) => show_tag(row, t).text(b" expected"),
@@ -21,7 +23,7 @@ fn show_expected(row: Row, tags: Tags) -> Row {
 }
 
 // How a line breaks the text.
-fn show_fault(row: Row, fault: Fault) -> Row {
+fn show_fault<'a>(row: Row<'a>, fault: Fault) -> Row<'a> {
     match fault {
         Fault::Missing(tags) => show_expected(row, tags),
         Fault::Wrong(t) => show_tag(row, t).text(b" has a wrong value"),
@@ -38,7 +40,7 @@ fn hex_digit(n: u8) -> u8 {
 }
 
 // What is not printable ASCII shows, and so do a quote and a backslash.
-fn show_byte(row: Row, b: u8) -> Row {
+fn show_byte<'a>(row: Row<'a>, b: u8) -> Row<'a> {
     if b == b'\r' {
         return row.text(b"\\r");
     }
@@ -54,7 +56,7 @@ fn show_byte(row: Row, b: u8) -> Row {
     row.text(&[b])
 }
 
-fn show_bytes(before: Row, line: &[u8]) -> Row {
+fn show_bytes<'a>(before: Row<'a>, line: &[u8]) -> Row<'a> {
     let mut row = before;
     let mut i = 0;
     while i < line.len() {
@@ -65,7 +67,7 @@ fn show_bytes(before: Row, line: &[u8]) -> Row {
 }
 
 // In quotes, two dots behind a line that is longer than what is shown.
-fn quote(row: Row, line: &[u8]) -> Row {
+fn quote<'a>(row: Row<'a>, line: &[u8]) -> Row<'a> {
     if SHOWN < line.len() {
         return show_bytes(row.text(b"\""), &line[..SHOWN]).text(b"\"..");
     }
@@ -80,7 +82,7 @@ fn line_end(s: &[u8], at: usize) -> usize {
     }
 }
 
-fn quote_line(row: Row, s: &[u8], at: usize) -> Row {
+fn quote_line<'a>(row: Row<'a>, s: &[u8], at: usize) -> Row<'a> {
     let end = line_end(s, at);
     if end < at {
         return row;
@@ -91,18 +93,18 @@ fn quote_line(row: Row, s: &[u8], at: usize) -> Row {
     quote(row, &s[at..end])
 }
 
-fn show_instead(row: Row, s: &[u8], at: usize) -> Row {
+fn show_instead<'a>(row: Row<'a>, s: &[u8], at: usize) -> Row<'a> {
     if at < s.len() {
         return quote_line(row.text(b", not "), s, at);
     }
     row.text(b", and the text ends")
 }
 
-fn show_within(row: Row, s: &[u8], at: usize) -> Row {
+fn show_within<'a>(row: Row<'a>, s: &[u8], at: usize) -> Row<'a> {
     quote_line(row.text(b", in "), s, at)
 }
 
-fn show_line(row: Row, s: &[u8], at: usize, fault: Fault) -> Row {
+fn show_line<'a>(row: Row<'a>, s: &[u8], at: usize, fault: Fault) -> Row<'a> {
     match fault {
         Fault::Missing(_) => show_instead(row, s, at),
         Fault::Wrong(_) => show_within(row, s, at),
@@ -112,9 +114,9 @@ fn show_line(row: Row, s: &[u8], at: usize, fault: Fault) -> Row {
 }
 
 // A break on a line: where, why, and what stands there.
-pub fn show_break(s: &[u8], at: usize, told: Told) {
+pub fn show_break(console: &Console, s: &[u8], at: usize, told: Told) {
     let fault = told.fault;
-    let place = cli_print::begin()
+    let place = cli_print::begin(console)
         .field(b"at byte ", at as u64)
         .field(b", line ", told.line as u64)
         .text(b": ");

@@ -1,14 +1,32 @@
 // Files that a program is given to read, and how it tells that something was not well.
 #![tactic(auto)]
+
 pub mod lines;
 pub mod paths;
 pub mod whole;
 
-ghost use Rattle.std.specs.Prelude.{◌≤◌, length};
+ghost use Rattle.std.specs.Prelude.{◌≤◌, IfOk, length};
 ghost use Rattle.cli_files.specs.Files.{Within};
 
-use libc::{STDERR_FILENO, STDIN_FILENO, STDOUT_FILENO};
+use std::cell::Cell;
+use std::env::{Env, FillError};
+use std::fmt::Write;
+use std::fs::Files;
+use std::io::{Error, Input, Print, Read, Stderr, Stdout};
+use std::process::ExitCode;
+use std::{fmt, fs, io};
 use text_scan::At;
+
+// Numbers of the system's errors.
+pub(crate) const ENOENT: i32 = 2;
+
+const EBADF: i32 = 9;
+
+pub(crate) const EINVAL: i32 = 22;
+
+pub(crate) const ENAMETOOLONG: i32 = 36;
+
+pub(crate) const EILSEQ: i32 = 84;
 
 // How many bytes of a file stand at the buffer's beginning; or that it could not be read, and has been
 // told so on standard error.
@@ -25,17 +43,56 @@ pub struct Place {
     pub column: u64,
 }
 
-// A program of this language has no exit status. The script ./purmagheli opens this descriptor, and its own status is the greatest digit that it finds there.
-const STATUS: i32 = 3;
+// Standard output and standard error of a program, whether all that it printed was written, and its exit status so far.
+#[derive(Drop)]
+pub struct Console {
+    output: Stdout,
+    errors: Stderr,
+    written: Cell<bool>,
+    status: Cell<u8>,
+}
+
+impl Console {
+    pub fn new(output: Stdout, errors: Stderr) -> Console {
+        Console {
+            output,
+            errors,
+            written: Cell::new(true),
+            status: Cell::new(0),
+        }
+    }
+
+    // 0 where all was well, 1 where something was refused or could not be read or written, 2 for a wrong call.
+    pub fn exit_code(&self) -> ExitCode {
+        ExitCode::from(self.status.get())
+    }
+
+    // The status is the greatest that was told.
+    fn raise(&self, status: u8) {
+        if self.status.get() < status {
+            self.status.set(status);
+        }
+    }
+}
 
 // Something was refused, or could not be read or written.
-pub fn tell_refusal() {
-    io::write_all(STATUS, b"1");
+pub fn tell_refusal(console: &Console) {
+    console.raise(1);
 }
 
 // The program was called in a way that it does not know.
-pub fn tell_wrong_call() {
-    io::write_all(STATUS, b"2");
+pub fn tell_wrong_call(console: &Console) {
+    console.raise(2);
+}
+
+// A text on standard error.
+pub fn say(console: &Console, text: &[u8]) {
+    let _ = console.errors.write_all(text);
+}
+
+// A number on standard error.
+pub fn say_number(console: &Console, v: u64) {
+    let _ = console.errors.print(v);
 }
 
 // Whether a word is just this one.
@@ -48,119 +105,220 @@ fn is_word(word: &[u8], name: &[u8]) -> bool {
 }
 
 // Whether an argument of the program is this word, which has at most 16 bytes.
-pub fn is_argument(i: usize, name: &[u8]) -> bool {
+pub fn is_argument(rt: &impl Env, i: usize, name: &[u8]) -> bool {
     let mut word = [0u8; 16];
-    let n = os::arg(i, &mut word);
-    is_word(&word[..n], name)
+    match rt.arg(i, &mut word) {
+        Ok(n) => is_word(&word[..n], name),
+        Err(_) => is_word(b"", name),
+    }
+}
+
+// How many arguments the program was started with, its own name among them.
+pub fn argument_count(rt: &impl Env) -> usize {
+    let mut none = [0u8; 0];
+    for i in 0..usize::MAX {
+        if let Err(FillError::NotPresent) = rt.arg(i, &mut none) {
+            return i;
+        }
+    }
+    usize::MAX
+}
+
+// How many bytes an argument of the program has, which stand at the buffer's beginning.
+pub fn argument(rt: &impl Env, i: usize, buf: &mut [u8]) -> io::Result<usize>
+    ensures { IfOk result (λ n. n ≤ length buf.old) }
+{
+    match rt.arg(i, buf) {
+        Ok(n) => Ok(n),
+        Err(FillError::NotPresent) => Err(Error::from_raw_os_error(EINVAL)),
+        Err(FillError::TooLong) => Err(Error::from_raw_os_error(ENAMETOOLONG)),
+    }
 }
 
 // What a program prints for --help.
-pub fn help(usage: &[u8]) {
-    print(usage);
+pub fn help(console: &Console, usage: &[u8]) {
+    print(console, usage);
     print(
-        b"A program has no exit status of its own. It writes a digit to descriptor 3 for each thing that was not well: 1 if something\n",
-    );
-    print(
-        b"was refused or could not be read or written, 2 for a wrong call. ./purmagheli opens the descriptor; its status is the greatest digit.\n",
+        console,
+        b"The exit status is 0 where all went well, 1 if something was refused or could not be read or written, 2 for a wrong call.\n",
     );
 }
 
 // Whether standard output can be written. Where it cannot, the reason is told. A program asks this before it does anything.
-pub fn has_output() -> bool {
-    if libc::write(STDOUT_FILENO, b"") < 0 {
-        unwritable(b"standard output");
+pub fn has_output(console: &Console) -> bool {
+    if let Err(why) = console.output.write_some(b"") {
+        unwritable(console, b"standard output", &why);
         return false;
     }
     true
 }
 
 // Whether all that was printed so far has been written. A program that is not heard stops: it makes no further call and opens no file.
-pub fn is_heard() -> bool {
-    0 <= libc::write(STDOUT_FILENO, b"")
+pub fn is_heard(console: &Console) -> bool {
+    console.written.get() && console.output.write_some(b"").is_ok()
 }
 
-// A text on standard output. Where it cannot be written, the reason is told once and standard output is closed, so that nothing more is written.
-pub fn print(text: &[u8]) {
-    if io::write_all(STDOUT_FILENO, text) {
+// A text on standard output. Where it cannot be written, the reason is told once, and nothing more is written.
+pub fn print(console: &Console, text: &[u8]) {
+    if !console.written.get() {
         return;
     }
-    if os::errno() != libc::EBADF {
-        unwritable(b"standard output");
-        libc::close(STDOUT_FILENO);
+    if let Err(why) = console.output.write_all(text) {
+        if why.raw_os_error() != Some(EBADF) {
+            unwritable(console, b"standard output", &why);
+        }
+        console.written.set(false);
     }
 }
 
 // The place in a script that a message is about, on standard error.
-pub fn tell_place(script: &[u8], place: Place) {
+pub fn tell_place(console: &Console, script: &[u8], place: Place) {
     if place.line == 0 {
         return;
     }
-    io::write_all(STDERR_FILENO, script);
-    io::write_all(STDERR_FILENO, b":");
-    io::print_decimal(STDERR_FILENO, place.line);
-    io::write_all(STDERR_FILENO, b":");
-    io::print_decimal(STDERR_FILENO, place.column);
-    io::write_all(STDERR_FILENO, b": ");
+    say(console, script);
+    say(console, b":");
+    say_number(console, place.line);
+    say(console, b":");
+    say_number(console, place.column);
+    say(console, b": ");
 }
 
-// The reason is the system's.
-pub fn unreadable(path: &[u8]) {
-    io::write_all(STDERR_FILENO, b"cannot read ");
-    os::fail(path);
-    tell_refusal();
+// An error's words without the number of the system's.
+#[derive(Drop)]
+struct Words {
+    errors: Stderr,
+    is_over: bool,
 }
 
-pub fn unreadable_at(script: &[u8], place: Place, path: &[u8]) {
-    tell_place(script, place);
-    unreadable(path);
+impl fmt::Write for Words {
+    fn write_str(&mut self, s: &str) -> fmt::Result {
+        if self.is_over {
+            return Ok(());
+        }
+        match s.split_once(" (os error ") {
+            Some((words, _)) => {
+                self.is_over = true;
+                self.put(words);
+            }
+            None => self.put(s),
+        }
+        Ok(())
+    }
 }
 
-pub fn unwritable(path: &[u8]) {
-    io::write_all(STDERR_FILENO, b"cannot write ");
-    os::fail(path);
-    tell_refusal();
+impl Words {
+    fn put(&self, s: &str) {
+        let _ = self.errors.write_all(s.as_bytes());
+    }
 }
 
-pub fn unwritable_at(script: &[u8], place: Place, path: &[u8]) {
-    tell_place(script, place);
-    unwritable(path);
+// What could not be read or written, and the reason, which is the system's.
+fn fail(console: &Console, what: &[u8], why: &Error) {
+    say(console, what);
+    say(console, b": ");
+    let mut words = Words {
+        errors: console.errors,
+        is_over: false,
+    };
+    let _ = write!(words, "{why}");
+    say(console, b"\n");
+}
+
+pub fn unreadable(console: &Console, path: &[u8], why: &Error) {
+    say(console, b"cannot read ");
+    fail(console, path, why);
+    tell_refusal(console);
+}
+
+pub fn unreadable_at(console: &Console, script: &[u8], place: Place, path: &[u8], why: &Error) {
+    tell_place(console, script, place);
+    unreadable(console, path, why);
+}
+
+pub fn unwritable(console: &Console, path: &[u8], why: &Error) {
+    say(console, b"cannot write ");
+    fail(console, path, why);
+    tell_refusal(console);
+}
+
+pub fn unwritable_at(console: &Console, script: &[u8], place: Place, path: &[u8], why: &Error) {
+    tell_place(console, script, place);
+    unwritable(console, path, why);
+}
+
+// Reads until the buffer is full, or the input ends or cannot be read, and answers how many bytes there are.
+pub fn read_full(from: &mut impl Read, buf: &mut [u8]) -> usize
+    ensures { result ≤ length buf.old }
+{
+    let mut done = 0;
+    while done < buf.len() {
+        match from.read(&mut buf[done..]) {
+            Ok(n) => {
+                if n == 0 {
+                    return done;
+                }
+                done += n;
+            }
+            Err(_) => return done,
+        }
+    }
+    done
 }
 
 // Reads on after the first n bytes, and answers how many there are then.
-fn read_on(fd: i32, buf: &mut [u8], n: usize) -> usize
+fn read_on(from: &mut impl Read, buf: &mut [u8], n: usize) -> usize
     requires { n ≤ length buf.old }
     ensures { result ≤ length buf.old }
 {
     if n < buf.len() {
-        return n + io::read_full(fd, &mut buf[n..]);
+        return n + read_full(from, &mut buf[n..]);
     }
     n
 }
 
-fn read_open(script: &[u8], place: Place, path: &[u8], fd: i32, buf: &mut [u8]) -> Got
+fn read_open(
+    console: &Console,
+    script: &[u8],
+    place: Place,
+    path: &[u8],
+    from: &mut impl Read,
+    buf: &mut [u8],
+) -> Got
     ensures { Within (length buf.old) result }
 {
-    let got = libc::read(fd, buf);
-    if got < 0 {
-        unreadable_at(script, place, path);
-        return Got::Unread;
+    match from.read(buf) {
+        Err(why) => {
+            unreadable_at(console, script, place, path, &why);
+            Got::Unread
+        }
+        Ok(first) => Got::Bytes(read_on(from, buf, first)),
     }
-    let first = io::count(got, buf);
-    Got::Bytes(read_on(fd, buf, first))
+}
+
+// A file that is opened for reading.
+pub fn open_read<R: Files>(rt: &R, path: &[u8]) -> io::Result<R::File> {
+    fs::open(rt, paths::text_of(path)?)
 }
 
 // As much of a file as the buffer holds. The place is where a script names the file.
-pub fn read_at(script: &[u8], place: Place, path: &[u8], buf: &mut [u8]) -> Got
+pub fn read_at(
+    rt: &impl Files,
+    console: &Console,
+    script: &[u8],
+    place: Place,
+    path: &[u8],
+    buf: &mut [u8],
+) -> Got
     ensures { Within (length buf.old) result }
 {
-    let fd = os::open_read(path);
-    if fd < 0 {
-        unreadable_at(script, place, path);
-        return Got::Unread;
+    match open_read(rt, path) {
+        Err(why) => {
+            unreadable_at(console, script, place, path, &why);
+            Got::Unread
+        }
+        Ok(mut file) => read_open(console, script, place, path, &mut file, buf),
     }
-    let got = read_open(script, place, path, fd, buf);
-    libc::close(fd);
-    got
 }
 
 // Whether a path is the dash that stands for standard input.
@@ -173,12 +331,12 @@ pub fn is_dash(path: &[u8]) -> bool {
 }
 
 // As much of a file that is named where a program is called: a dash is standard input.
-pub fn read_named(path: &[u8], buf: &mut [u8]) -> Got
+pub fn read_named<R: Files + Input>(rt: &R, console: &Console, path: &[u8], buf: &mut [u8]) -> Got
     ensures { Within (length buf.old) result }
 {
     let nowhere = Place { line: 0, column: 0 };
     if is_dash(path) {
-        return read_open(path, nowhere, path, STDIN_FILENO, buf);
+        return read_open(console, path, nowhere, path, &mut rt.reader(), buf);
     }
-    read_at(path, nowhere, path, buf)
+    read_at(rt, console, path, nowhere, path, buf)
 }

@@ -1,4 +1,6 @@
 // The lines of a script of any length, one by one.
+use crate::Console;
+use std::io::Read;
 
 // What has been read of the script and not been taken yet: from a place of the buffer to another.
 #[derive(Clone, Copy)]
@@ -38,16 +40,23 @@ pub fn nothing_ahead() -> Ahead {
 }
 
 // Reads on where nothing is ahead; still nothing is ahead at the end of the script.
-fn read_ahead(name: &[u8], fd: i32, buf: &mut [u8], ahead: Ahead) -> Ahead {
+fn read_ahead(
+    console: &Console,
+    name: &[u8],
+    from: &mut impl Read,
+    buf: &mut [u8],
+    ahead: Ahead,
+) -> Ahead {
     if ahead.at < ahead.end {
         return ahead;
     }
-    let got = libc::read(fd, buf);
-    if got < 0 {
-        crate::unreadable(name);
+    match from.read(buf) {
+        Ok(end) => Ahead { at: 0, end },
+        Err(why) => {
+            crate::unreadable(console, name, &why);
+            nothing_ahead()
+        }
     }
-    let end = io::count(got, buf);
-    Ahead { at: 0, end }
 }
 
 // A byte that does not fit is left out.
@@ -64,7 +73,14 @@ fn keep(line: &mut [u8], kept: Kept, b: u8) -> Kept {
 }
 
 // The next line, without its line feed, at the beginning of a buffer. The script is named where it cannot be read.
-pub fn take(name: &[u8], fd: i32, buf: &mut [u8], line: &mut [u8], before: Ahead) -> Taken {
+pub fn take(
+    console: &Console,
+    name: &[u8],
+    from: &mut impl Read,
+    buf: &mut [u8],
+    line: &mut [u8],
+    before: Ahead,
+) -> Taken {
     let mut ahead = before;
     let mut kept = Kept {
         n: 0,
@@ -73,7 +89,7 @@ pub fn take(name: &[u8], fd: i32, buf: &mut [u8], line: &mut [u8], before: Ahead
     let mut turns = u64::MAX;
     let mut is_there = false;
     while 0 < turns {
-        ahead = read_ahead(name, fd, buf, ahead);
+        ahead = read_ahead(console, name, from, buf, ahead);
         let at = ahead.at;
         let end = ahead.end;
         if end <= at {

@@ -1,6 +1,26 @@
 // Paths of files that a script names.
 ghost use Rattle.std.specs.Prelude.{◌≡◌, length};
 
+use std::io::Error;
+use std::{io, str};
+
+// A path has fewer bytes than this.
+const PATH_MAX: usize = 4096;
+
+// A path as text, which is what the system's calls take here.
+pub fn text_of(path: &[u8]) -> io::Result<&str> {
+    if PATH_MAX <= path.len() {
+        return Err(Error::from_raw_os_error(crate::ENAMETOOLONG));
+    }
+    if path.contains(&0) {
+        return Err(Error::from_raw_os_error(crate::EINVAL));
+    }
+    match str::from_utf8(path) {
+        Ok(text) => Ok(text),
+        Err(_) => Err(Error::from_raw_os_error(crate::EILSEQ)),
+    }
+}
+
 // How many bytes of a path name its folder, the last slash among them.
 fn folder(path: &[u8]) -> usize {
     let mut n = 0;

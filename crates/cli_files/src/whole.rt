@@ -1,14 +1,18 @@
 // A file that is written whole or not at all.
-use crate::{Place, paths};
+use crate::{Console, Place, paths};
+use std::fs::{File, Files, OpenFile, OpenOptions};
+use std::io::Write;
+use std::random::RandomSource;
+use std::{fs, io};
 
 fn letter(b: u8) -> u8 {
     b'a' + b % 26
 }
 
 // Six letters by chance, so that no other file beside this one has the name.
-fn put_letters(name: &mut [u8; 4096], at: usize) -> usize {
+fn put_letters(rt: &impl RandomSource, name: &mut [u8; 4096], at: usize) -> usize {
     let mut b = [0u8; 6];
-    libc::getentropy(&mut b);
+    let _ = rt.fill_bytes(&mut b);
     let letters = [
         letter(b[0]),
         letter(b[1]),
@@ -21,73 +25,111 @@ fn put_letters(name: &mut [u8; 4096], at: usize) -> usize {
 }
 
 // The name of the new file beside an old one.
-fn name_new(path: &[u8], name: &mut [u8; 4096]) -> usize {
+fn name_new(rt: &impl RandomSource, path: &[u8], name: &mut [u8; 4096]) -> usize {
     let n = paths::put(name, 0, path);
     let e = paths::put(name, n, b".new-");
-    put_letters(name, e)
+    put_letters(rt, name, e)
 }
 
-fn is_link(path: &[u8]) -> bool {
-    let mut name = io::buffer();
-    paths::put(&mut name, 0, path);
-    name[4095] = 0;
-    let mut text = [0u8; 1];
-    0 <= libc::readlink(&name, &mut text)
+fn is_link(rt: &impl Files, path: &[u8]) -> bool {
+    let Ok(path) = paths::text_of(path) else {
+        return false;
+    };
+    match fs::symlink_metadata(rt, path) {
+        Ok(found) => found.is_symlink(),
+        Err(_) => false,
+    }
+}
+
+// A file that stands there, for reading and writing.
+fn open_update<R: Files>(rt: &R, path: &[u8]) -> io::Result<R::File> {
+    OpenOptions::new()
+        .read(true)
+        .write(true)
+        .open(rt, paths::text_of(path)?)
 }
 
 // What cannot be replaced by a file beside it is written in place: a link, a device, a pipe. The system syncs no device or pipe.
-fn is_in_place(path: &[u8]) -> bool {
-    if is_link(path) {
+fn is_in_place(rt: &impl Files, path: &[u8]) -> bool {
+    if is_link(rt, path) {
         return true;
     }
-    let fd = os::open_update(path);
-    if fd < 0 {
-        return os::errno() != libc::ENOENT;
+    match open_update(rt, path) {
+        Ok(file) => file.sync_all().is_err(),
+        Err(why) => why.raw_os_error() != Some(crate::ENOENT),
     }
-    let synced = libc::fsync(fd);
-    libc::close(fd);
-    synced < 0
 }
 
-fn write_over(script: &[u8], place: Place, path: &[u8], bytes: &[u8]) -> bool {
-    let fd = os::open_overwrite(path);
-    if fd < 0 {
-        crate::unwritable_at(script, place, path);
+// What stands in the file goes before the bytes are written.
+fn overwrite(rt: &impl Files, path: &[u8], bytes: &[u8]) -> io::Result<()> {
+    let mut file = File::create(rt, paths::text_of(path)?)?;
+    file.write_all(bytes)
+}
+
+fn write_over(
+    rt: &impl Files,
+    console: &Console,
+    script: &[u8],
+    place: Place,
+    path: &[u8],
+    bytes: &[u8],
+) -> bool {
+    if let Err(why) = overwrite(rt, path, bytes) {
+        crate::unwritable_at(console, script, place, path, &why);
         return false;
     }
-    let is_written = io::write_all(fd, bytes);
-    if !is_written {
-        crate::unwritable_at(script, place, path);
-    }
-    libc::close(fd);
-    is_written
+    true
+}
+
+// A file of a name that no other has.
+fn create<R: Files>(rt: &R, path: &[u8]) -> io::Result<R::File> {
+    OpenOptions::new()
+        .write(true)
+        .create_new(true)
+        .open(rt, paths::text_of(path)?)
 }
 
 // All bytes have reached the device.
-fn is_stored(fd: i32, bytes: &[u8]) -> bool {
-    if !io::write_all(fd, bytes) {
-        return false;
+fn store<F: Write + OpenFile + Drop>(mut file: F, bytes: &[u8]) -> io::Result<()> {
+    file.write_all(bytes)?;
+    file.sync_all()
+}
+
+fn rename(rt: &impl Files, new: &[u8], path: &[u8]) -> io::Result<()> {
+    fs::rename(rt, paths::text_of(new)?, paths::text_of(path)?)
+}
+
+fn remove(rt: &impl Files, path: &[u8]) {
+    if let Ok(path) = paths::text_of(path) {
+        let _ = fs::remove_file(rt, path);
     }
-    0 <= libc::fsync(fd)
 }
 
 // The old file stands until the new one is complete.
-fn replace(script: &[u8], place: Place, path: &[u8], new: &[u8], bytes: &[u8]) -> bool {
-    let fd = os::create(new);
-    if fd < 0 {
-        crate::unwritable_at(script, place, path);
+fn replace(
+    rt: &impl Files,
+    console: &Console,
+    script: &[u8],
+    place: Place,
+    path: &[u8],
+    new: &[u8],
+    bytes: &[u8],
+) -> bool {
+    let file = match create(rt, new) {
+        Ok(file) => file,
+        Err(why) => {
+            crate::unwritable_at(console, script, place, path, &why);
+            return false;
+        }
+    };
+    if let Err(why) = store(file, bytes) {
+        crate::unwritable_at(console, script, place, path, &why);
+        remove(rt, new);
         return false;
     }
-    if !is_stored(fd, bytes) {
-        crate::unwritable_at(script, place, path);
-        libc::close(fd);
-        os::unlink(new);
-        return false;
-    }
-    libc::close(fd);
-    if os::rename(new, path) < 0 {
-        crate::unwritable_at(script, place, path);
-        os::unlink(new);
+    if let Err(why) = rename(rt, new, path) {
+        crate::unwritable_at(console, script, place, path, &why);
+        remove(rt, new);
         return false;
     }
     true
@@ -95,6 +137,8 @@ fn replace(script: &[u8], place: Place, path: &[u8], new: &[u8], bytes: &[u8]) -
 
 // The name of the new file has n bytes.
 fn replace_named(
+    rt: &impl Files,
+    console: &Console,
     script: &[u8],
     place: Place,
     path: &[u8],
@@ -103,28 +147,37 @@ fn replace_named(
     bytes: &[u8],
 ) -> bool {
     if n <= new.len() {
-        replace(script, place, path, &new[..n], bytes)
+        replace(rt, console, script, place, path, &new[..n], bytes)
     } else {
         false
     }
 }
 
-fn replace_beside(
+fn replace_beside<R: Files + RandomSource>(
+    rt: &R,
+    console: &Console,
     script: &[u8],
     place: Place,
     path: &[u8],
     new: &mut [u8; 4096],
     bytes: &[u8],
 ) -> bool {
-    let n = name_new(path, new);
-    replace_named(script, place, path, new, n, bytes)
+    let n = name_new(rt, path, new);
+    replace_named(rt, console, script, place, path, new, n, bytes)
 }
 
 // Writes a file: to a new one beside it, which then takes its name. Where that fails, the reason is told.
-pub fn write(script: &[u8], place: Place, path: &[u8], bytes: &[u8]) -> bool {
-    if is_in_place(path) {
-        return write_over(script, place, path, bytes);
+pub fn write<R: Files + RandomSource>(
+    rt: &R,
+    console: &Console,
+    script: &[u8],
+    place: Place,
+    path: &[u8],
+    bytes: &[u8],
+) -> bool {
+    if is_in_place(rt, path) {
+        return write_over(rt, console, script, place, path, bytes);
     }
-    let mut new = io::buffer();
-    replace_beside(script, place, path, &mut new, bytes)
+    let mut new = [0u8; 4096];
+    replace_beside(rt, console, script, place, path, &mut new, bytes)
 }

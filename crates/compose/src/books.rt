@@ -2,6 +2,7 @@
 use book_read::{Answer, Book};
 use book_write::Writing;
 use cli_book::{BookAccount, Stop, Wanted};
+use cli_files::Console;
 use text_scan::At;
 
 // Whether an account is one of a book, by its first line.
@@ -13,46 +14,50 @@ pub fn is_book(s: &[u8]) -> bool {
     }
 }
 
-fn say_wanted(wanted: Wanted) {
+fn say_wanted(console: &Console, wanted: Wanted) {
     match wanted {
-        Wanted::Title => crate::say(b"accepted book"),
-        Wanted::Date => crate::say(b"date and the six digits of a true date, YYMMDD"),
-        Wanted::Stream => crate::say(b"stream CODE ADMINISTRATOR"),
+        Wanted::Title => crate::say(console, b"accepted book"),
+        Wanted::Date => crate::say(console, b"date and the six digits of a true date, YYMMDD"),
+        Wanted::Stream => crate::say(console, b"stream CODE ADMINISTRATOR"),
         Wanted::StreamOrBank => {
             crate::say(
+                console,
                 b"stream CODE ADMINISTRATOR or bank CODE active|suspended BALANCE SUBLIMIT STREAM..",
             )
         }
         Wanted::BankOrTotal => {
-            crate::say(b"bank CODE active|suspended BALANCE SUBLIMIT STREAM.. or total CENTS")
+            crate::say(
+                console,
+                b"bank CODE active|suspended BALANCE SUBLIMIT STREAM.. or total CENTS",
+            )
         }
-        Wanted::Sum => crate::say(b"the sum of the balances"),
-        Wanted::Nothing => crate::say(b"no further line"),
+        Wanted::Sum => crate::say(console, b"the sum of the balances"),
+        Wanted::Nothing => crate::say(console, b"no further line"),
     }
 }
 
-fn say_line(s: &[u8], first: usize, at: usize, wanted: Wanted) {
-    crate::say_expecting(s, first, at);
-    say_wanted(wanted);
-    crate::say(b"\n");
-    cli_files::tell_refusal();
+fn say_line(console: &Console, s: &[u8], first: usize, at: usize, wanted: Wanted) {
+    crate::say_expecting(console, s, first, at);
+    say_wanted(console, wanted);
+    crate::say(console, b"\n");
+    cli_files::tell_refusal(console);
 }
 
 // The bytes of a book that the book's check finds sound.
-fn show(book: &[u8]) {
+fn show(console: &Console, book: &[u8]) {
     match book_read::check(book) {
-        Answer::Fault(why) => crate::say_refused(why),
-        Answer::Sound => cli_print::text(book),
+        Answer::Fault(why) => crate::say_refused(console, why),
+        Answer::Sound => cli_print::text(console, book),
     }
 }
 
-fn show_first(out: &[u8], n: usize) {
+fn show_first(console: &Console, out: &[u8], n: usize) {
     if n <= out.len() {
-        show(&out[..n]);
+        show(console, &out[..n]);
     }
 }
 
-fn write_book(account: BookAccount) {
+fn write_book(console: &Console, account: BookAccount) {
     let streams = account.streams;
     let banks = account.banks;
     let row = streams.row;
@@ -67,17 +72,17 @@ fn write_book(account: BookAccount) {
     };
     let mut out = [0u8; 2560];
     match book_write::write(&mut out, book, &row, &codes, &flags, &balances, &sublimits) {
-        Writing::Unwritten(why) => crate::say_refused(why),
-        Writing::Written(n) => show_first(&out, n),
+        Writing::Unwritten(why) => crate::say_refused(console, why),
+        Writing::Written(n) => show_first(console, &out, n),
     }
 }
 
 // The account whose first line is the file's line `first`.
-pub fn compose(s: &[u8], first: usize) {
+pub fn compose(console: &Console, s: &[u8], first: usize) {
     let account = cli_book::read_account(s);
     let stop = account.stop;
     match stop {
-        Stop::AtLine(at, wanted) => say_line(s, first, at, wanted),
-        Stop::AtEnd => write_book(account),
+        Stop::AtLine(at, wanted) => say_line(console, s, first, at, wanted),
+        Stop::AtEnd => write_book(console, account),
     }
 }

@@ -1,83 +1,86 @@
 // ./purmagheli compose FILE: the text of the request, or the book, whose account the file holds, as inspect tells it, or those of several accounts,
 // one behind another; of what cannot be composed the line that cannot be read, or the number by which request or book would be refused. A dash is standard input.
 #![tactic(auto)]
+
 mod books;
 mod refusals;
 
 ghost use Rattle.std.specs.Prelude.{◌≤◌, length};
 
 use chars::Refusal;
-use cli_files::Got;
+use cli_files::{Console, Got};
 use cli_request::{Account, Expected, Extent, several};
-use libc::STDERR_FILENO;
 use response_write::Written;
+use std::env::Env;
+use std::fs::Files;
+use std::process::ExitCode;
 
-fn say(text: &[u8]) {
-    io::write_all(STDERR_FILENO, text);
+fn say(console: &Console, text: &[u8]) {
+    cli_files::say(console, text);
 }
 
-fn usage() {
-    say(b"usage: compose FILE\n");
-    cli_files::tell_wrong_call();
+fn usage(console: &Console) {
+    say(console, b"usage: compose FILE\n");
+    cli_files::tell_wrong_call(console);
 }
 
-fn say_expected(expected: Expected) {
+fn say_expected(console: &Console, expected: Expected) {
     match expected {
-        Expected::SubType => say(b"accepted and a sub type of three digits"),
-        Expected::Reference => say(b"reference and up to 16 of A-Z 0-9"),
-        Expected::Stream => say(b"stream and 4 of A-Z 0-9"),
-        Expected::Bin => say(b"bin and up to 8 of A-Z 0-9"),
-        Expected::Message => say(b"message and number/count, two digits each"),
-        Expected::Date => say(b"date and six digits, YYMMDD"),
-        Expected::Activation => say(b"activation and four digits, HHMM, or none"),
-        Expected::Payment => say(b"payment CR CENTS BANK or payment DR CENTS BANK LETTERS"),
-        Expected::Nothing => say(b"no further line"),
+        Expected::SubType => say(console, b"accepted and a sub type of three digits"),
+        Expected::Reference => say(console, b"reference and up to 16 of A-Z 0-9"),
+        Expected::Stream => say(console, b"stream and 4 of A-Z 0-9"),
+        Expected::Bin => say(console, b"bin and up to 8 of A-Z 0-9"),
+        Expected::Message => say(console, b"message and number/count, two digits each"),
+        Expected::Date => say(console, b"date and six digits, YYMMDD"),
+        Expected::Activation => say(console, b"activation and four digits, HHMM, or none"),
+        Expected::Payment => say(
+            console,
+            b"payment CR CENTS BANK or payment DR CENTS BANK LETTERS",
+        ),
+        Expected::Nothing => say(console, b"no further line"),
     }
 }
 
 // A line of the account whose first line is the file's line `first`.
-fn say_line(first: usize, line: usize) {
-    let behind = std::num::wrapping_sub_u64(line as u64, 1);
-    say(b"line ");
-    io::print_decimal(
-        STDERR_FILENO,
-        std::num::wrapping_add_u64(first as u64, behind),
-    );
+fn say_line(console: &Console, first: usize, line: usize) {
+    let behind = (line as u64).wrapping_sub(1);
+    say(console, b"line ");
+    cli_files::say_number(console, (first as u64).wrapping_add(behind));
 }
 
 // The line at a place of such an account does not say what is told next.
-fn say_expecting(s: &[u8], first: usize, at: usize) {
-    say_line(first, cli_request::line_of(s, at));
-    say(b": expected ");
+fn say_expecting(console: &Console, s: &[u8], first: usize, at: usize) {
+    say_line(console, first, cli_request::line_of(s, at));
+    say(console, b": expected ");
 }
 
-fn say_unread(s: &[u8], first: usize, at: usize, expected: Expected) {
-    say_expecting(s, first, at);
-    say_expected(expected);
-    say(b"\n");
-    cli_files::tell_refusal();
+fn say_unread(console: &Console, s: &[u8], first: usize, at: usize, expected: Expected) {
+    say_expecting(console, s, first, at);
+    say_expected(console, expected);
+    say(console, b"\n");
+    cli_files::tell_refusal(console);
 }
 
-fn say_number(why: Refusal) {
+fn say_number(console: &Console, why: Refusal) {
     let mut b = [0u8; 2];
     text_put::digits(&mut b, 0, why.number(), 2);
-    say(b"refused ");
-    say(&b);
+    say(console, b"refused ");
+    say(console, &b);
 }
 
-fn say_refused(why: Refusal) {
-    say_number(why);
-    say(b"\n");
-    cli_files::tell_refusal();
+fn say_refused(console: &Console, why: Refusal) {
+    say_number(console, why);
+    say(console, b"\n");
+    cli_files::tell_refusal(console);
 }
 
 // The file's line `first` is that of the account's sub type. A buffer of so many bytes holds every request.
-fn write_order(account: Account, first: usize) {
+fn write_order(console: &Console, account: Account, first: usize) {
     let order = account.order;
-    let mut text = io::buffer();
+    let mut text = [0u8; 4096];
     match request_write::write_request(&mut text, 0, order) {
-        Written::Unfit(_) => refusals::say_order(order, first),
-        Written::End(n) => cli_print::first(&text, n),
+        Written::Unfit(_) => refusals::say_order(console, order, first),
+        Written::End(n) => cli_print::first(console, &text, n),
     }
 }
 
@@ -90,21 +93,21 @@ fn head_line(s: &[u8], first: usize) -> usize {
 }
 
 // One account, whose first line is the file's line `first`.
-fn compose(s: &[u8], first: usize) {
+fn compose(console: &Console, s: &[u8], first: usize) {
     if books::is_book(s) {
-        books::compose(s, first);
+        books::compose(console, s, first);
         return;
     }
     let account = cli_request::read_account(s);
     let ending = account.ending;
     match ending {
-        Extent::Unread(at, expected) => say_unread(s, first, at, expected),
-        Extent::Whole => write_order(account, head_line(s, first)),
+        Extent::Unread(at, expected) => say_unread(console, s, first, at, expected),
+        Extent::Whole => write_order(console, account, head_line(s, first)),
     }
 }
 
 // The account that begins at a place, and the place where it ends.
-fn compose_at(s: &[u8], at: usize) -> usize
+fn compose_at(console: &Console, s: &[u8], at: usize) -> usize
     requires { at ≤ length s.now }
     ensures { result ≤ length s.now }
 {
@@ -112,18 +115,18 @@ fn compose_at(s: &[u8], at: usize) -> usize
     let line = cli_request::line_of(s, at);
     let n = several::first_end(rest);
     if rest.len() <= n {
-        compose(rest, line);
+        compose(console, rest, line);
         return s.len();
     }
-    compose(&rest[..n], line);
+    compose(console, &rest[..n], line);
     at + n
 }
 
 // The accounts of a file, one behind another.
-fn compose_each(s: &[u8]) {
-    let mut at = compose_at(s, 0);
+fn compose_each(console: &Console, s: &[u8]) {
+    let mut at = compose_at(console, s, 0);
     while at < s.len() {
-        let next = compose_at(s, at);
+        let next = compose_at(console, s, at);
         if next <= at {
             return;
         }
@@ -131,46 +134,49 @@ fn compose_each(s: &[u8]) {
     }
 }
 
-fn say_too_long() {
-    say(b"the file has more than 65,535 bytes\n");
-    cli_files::tell_refusal();
+fn say_too_long(console: &Console) {
+    say(console, b"the file has more than 65,535 bytes\n");
+    cli_files::tell_refusal(console);
 }
 
 // A file that fills the buffer may go on past it.
-fn compose_first(buf: &[u8], n: usize) {
+fn compose_first(console: &Console, buf: &[u8], n: usize) {
     if buf.len() <= n {
-        say_too_long();
+        say_too_long(console);
         return;
     }
-    compose_each(&buf[..n]);
+    compose_each(console, &buf[..n]);
 }
 
-fn compose_file(path: &[u8]) {
-    let mut buf = io::large_buffer();
-    match cli_files::read_named(path, &mut buf) {
+fn compose_file(rt: &(impl Files + Input), console: &Console, path: &[u8]) {
+    let mut buf = [0u8; 65536];
+    match cli_files::read_named(rt, console, path, &mut buf) {
         Got::Unread => (),
-        Got::Bytes(n) => compose_first(&buf, n),
+        Got::Bytes(n) => compose_first(console, &buf, n),
     }
 }
 
-fn main() {
-    if cli_files::is_argument(1, b"--help") {
-        cli_files::help(b"usage: compose FILE\n");
+fn run(rt: &(impl Env + Files + Input), console: &Console) {
+    if cli_files::is_argument(rt, 1, b"--help") {
+        cli_files::help(console, b"usage: compose FILE\n");
         return;
     }
-    if !cli_files::has_output() {
+    if !cli_files::has_output(console) {
         return;
     }
-    let mut path = io::buffer();
-    let count = os::arg_count();
-    let n = os::arg(1, &mut path);
-    if count != 2 {
-        usage();
+    if cli_files::argument_count(rt) != 2 {
+        usage(console);
         return;
     }
-    if os::errno() != 0 {
-        cli_files::unreadable(b"argument");
-        return;
+    let mut path = [0u8; 4096];
+    match cli_files::argument(rt, 1, &mut path) {
+        Ok(n) => compose_file(rt, console, &path[..n]),
+        Err(why) => cli_files::unreadable(console, b"argument", &why),
     }
-    compose_file(&path[..n]);
+}
+
+fn main(rt: HostRuntime) -> ExitCode {
+    let console = Console::new(rt.stdout(), rt.stderr());
+    run(&rt, &console);
+    console.exit_code()
 }

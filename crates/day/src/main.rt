@@ -2,13 +2,18 @@
 // comes from standard input if it is - or none is named. day stops at the first line that is not a call, or whose file cannot be read or written,
 // and tells the place and the reason on standard error. With --keep-going it prints "line N not a call" and goes on.
 #![tactic(auto)]
+
 use call::step::Told;
 use cli_files::lines::Ahead;
-use cli_files::{Got, Place, lines, paths, whole};
+use cli_files::{Console, Got, Place, lines, paths, whole};
 use cli_print::Row;
 use cli_script::{Line, Wanted};
-use libc::{STDERR_FILENO, STDIN_FILENO};
 use model::{Action, Answer, Phase};
+use std::env::Env;
+use std::fs::Files;
+use std::io;
+use std::process::ExitCode;
+use std::random::RandomSource;
 use tables::Desk;
 
 // A call: its clock, its action, and where in the line its file's name begins.
@@ -87,27 +92,28 @@ fn deed_of(line: Line) -> Deed {
     }
 }
 
-fn expected(wanted: Wanted) {
+fn expected(console: &Console, wanted: Wanted) {
     match wanted {
         Wanted::Command => error(
+            console,
             b"clear, open, message, sublimit, status, tick, close, closing, show or why",
         ),
-        Wanted::Clock => error(b"a clock: seconds of the day, or HH:MM:SS"),
-        Wanted::Sender => error(b"the number of the sender"),
-        Wanted::Bank => error(b"a bank of 4 characters"),
-        Wanted::Cents => error(b"whole cents, at most 18446744073709551615"),
-        Wanted::BinCode => error(b"a BIN of 8 characters"),
-        Wanted::Letter => error(b"a letter"),
-        Wanted::Date => error(b"a date of 6 characters, YYMMDD"),
-        Wanted::FileName => error(b"the name of a file"),
-        Wanted::LineEnd => error(b"the end of the line"),
+        Wanted::Clock => error(console, b"a clock: seconds of the day, or HH:MM:SS"),
+        Wanted::Sender => error(console, b"the number of the sender"),
+        Wanted::Bank => error(console, b"a bank of 4 characters"),
+        Wanted::Cents => error(console, b"whole cents, at most 18446744073709551615"),
+        Wanted::BinCode => error(console, b"a BIN of 8 characters"),
+        Wanted::Letter => error(console, b"a letter"),
+        Wanted::Date => error(console, b"a date of 6 characters, YYMMDD"),
+        Wanted::FileName => error(console, b"the name of a file"),
+        Wanted::LineEnd => error(console, b"the end of the line"),
     }
 }
 
-fn error(wanted: &[u8]) {
-    io::write_all(STDERR_FILENO, b"expected ");
-    io::write_all(STDERR_FILENO, wanted);
-    io::write_all(STDERR_FILENO, b"\n");
+fn error(console: &Console, wanted: &[u8]) {
+    cli_files::say(console, b"expected ");
+    cli_files::say(console, wanted);
+    cli_files::say(console, b"\n");
 }
 
 // Columns are counted in bytes, from 1 on. A line has at most 65,536 of them.
@@ -124,19 +130,20 @@ fn place_at(number: u64, at: usize) -> Place {
 }
 
 // What is told of a line that is no call, after its place if the script ends there. Answers whether it goes on.
-fn goes_on(keep_going: bool, number: u64) -> bool {
-    cli_files::tell_refusal();
+fn goes_on(console: &Console, keep_going: bool, number: u64) -> bool {
+    cli_files::tell_refusal(console);
     if !keep_going {
         return false;
     }
-    cli_print::begin()
+    cli_print::begin(console)
         .field(b"line ", number)
         .text(b" not a call")
         .print_line();
-    cli_files::is_heard()
+    cli_files::is_heard(console)
 }
 
 fn not_a_call(
+    console: &Console,
     keep_going: bool,
     number: u64,
     name: &[u8],
@@ -145,33 +152,40 @@ fn not_a_call(
     wanted: Wanted,
 ) -> bool {
     if !keep_going {
-        cli_files::tell_place(name, place_at(number, cli_script::word_start(s, at)));
-        expected(wanted);
+        cli_files::tell_place(
+            console,
+            name,
+            place_at(number, cli_script::word_start(s, at)),
+        );
+        expected(console, wanted);
     }
-    goes_on(keep_going, number)
+    goes_on(console, keep_going, number)
 }
 
-fn too_long(keep_going: bool, number: u64, name: &[u8]) -> bool {
+fn too_long(console: &Console, keep_going: bool, number: u64, name: &[u8]) -> bool {
     if !keep_going {
-        cli_files::tell_place(name, place_at(number, 65536));
-        error(b"the end of the line: it has more than 65,536 bytes");
+        cli_files::tell_place(console, name, place_at(number, 65536));
+        error(
+            console,
+            b"the end of the line: it has more than 65,536 bytes",
+        );
     }
-    goes_on(keep_going, number)
+    goes_on(console, keep_going, number)
 }
 
-fn command(action: Action) -> Row {
+fn command(console: &Console, action: Action) -> Row<'_> {
     match action {
-        Action::Opening => cli_print::begin().text(b"open "),
-        Action::Message(_) => cli_print::begin().text(b"message "),
-        Action::SubLimit(_, _) => cli_print::begin().text(b"sublimit "),
-        Action::Status(_, _, _) => cli_print::begin().text(b"status "),
-        Action::Tick => cli_print::begin().text(b"tick "),
-        Action::Close => cli_print::begin().text(b"close "),
-        Action::ClosingBook(_) => cli_print::begin().text(b"closing "),
+        Action::Opening => cli_print::begin(console).text(b"open "),
+        Action::Message(_) => cli_print::begin(console).text(b"message "),
+        Action::SubLimit(_, _) => cli_print::begin(console).text(b"sublimit "),
+        Action::Status(_, _, _) => cli_print::begin(console).text(b"status "),
+        Action::Tick => cli_print::begin(console).text(b"tick "),
+        Action::Close => cli_print::begin(console).text(b"close "),
+        Action::ClosingBook(_) => cli_print::begin(console).text(b"closing "),
     }
 }
 
-fn tell_tries(before: Row, tries: &[u64], n: usize) -> Row {
+fn tell_tries<'a>(before: Row<'a>, tries: &[u64], n: usize) -> Row<'a> {
     let mut row = before.text(b" tries");
     let mut i = 0;
     while i < tries.len() {
@@ -183,26 +197,58 @@ fn tell_tries(before: Row, tries: &[u64], n: usize) -> Row {
     row
 }
 
-fn write_beside(name: &[u8], place: Place, path: &[u8], n: usize, book: &[u8]) -> bool {
+fn write_beside(
+    rt: &(impl Files + RandomSource),
+    console: &Console,
+    name: &[u8],
+    place: Place,
+    path: &[u8],
+    n: usize,
+    book: &[u8],
+) -> bool {
     if n <= path.len() {
-        whole::write(name, place, &path[..n], book)
+        whole::write(rt, console, name, place, &path[..n], book)
     } else {
         false
     }
 }
 
-fn write_book(name: &[u8], place: Place, file: &[u8], path: &mut [u8; 4096], book: &[u8]) -> bool {
+fn write_book(
+    rt: &(impl Files + RandomSource),
+    console: &Console,
+    name: &[u8],
+    place: Place,
+    file: &[u8],
+    path: &mut [u8; 4096],
+    book: &[u8],
+) -> bool {
     let n = paths::beside(name, file, path);
-    write_beside(name, place, path, n, book)
+    write_beside(rt, console, name, place, path, n, book)
 }
 
 // Whether a book was written to the file that a line names.
-fn give_file(name: &[u8], place: Place, file: &[u8], book: &[u8]) -> bool {
-    let mut path = io::buffer();
-    write_book(name, place, file, &mut path, book)
+fn give_file(
+    rt: &(impl Files + RandomSource),
+    console: &Console,
+    name: &[u8],
+    place: Place,
+    file: &[u8],
+    book: &[u8],
+) -> bool {
+    let mut path = [0u8; 4096];
+    write_book(rt, console, name, place, file, &mut path, book)
 }
 
-fn give_book(name: &[u8], number: u64, s: &[u8], file: usize, out: &[u8], n: usize) -> bool {
+fn give_book(
+    rt: &(impl Files + RandomSource),
+    console: &Console,
+    name: &[u8],
+    number: u64,
+    s: &[u8],
+    file: usize,
+    out: &[u8],
+    n: usize,
+) -> bool {
     let end = cli_script::word_end(s, file);
     if s.len() < end {
         return false;
@@ -213,16 +259,25 @@ fn give_book(name: &[u8], number: u64, s: &[u8], file: usize, out: &[u8], n: usi
     if out.len() < n {
         return false;
     }
-    give_file(name, place_at(number, file), &s[file..end], &out[..n])
+    give_file(
+        rt,
+        console,
+        name,
+        place_at(number, file),
+        &s[file..end],
+        &out[..n],
+    )
 }
 
-fn give_text(out: &[u8], n: usize) -> bool {
-    cli_print::first(out, n);
-    cli_files::is_heard()
+fn give_text(console: &Console, out: &[u8], n: usize) -> bool {
+    cli_print::first(console, out, n);
+    cli_files::is_heard(console)
 }
 
 // A closing book that is given goes to its file, anything else to standard output. Answers whether the script goes on.
 fn give(
+    rt: &(impl Files + RandomSource),
+    console: &Console,
     keep_going: bool,
     number: u64,
     name: &[u8],
@@ -238,21 +293,23 @@ fn give(
             if answer.number() != 0 {
                 return true;
             }
-            if give_book(name, number, s, asked.file, out, n) {
+            if give_book(rt, console, name, number, s, asked.file, out, n) {
                 return true;
             }
             keep_going
         }
-        Action::Opening => give_text(out, n),
-        Action::Message(_) => give_text(out, n),
-        Action::SubLimit(_, _) => give_text(out, n),
-        Action::Status(_, _, _) => give_text(out, n),
-        Action::Tick => give_text(out, n),
-        Action::Close => give_text(out, n),
+        Action::Opening => give_text(console, out, n),
+        Action::Message(_) => give_text(console, out, n),
+        Action::SubLimit(_, _) => give_text(console, out, n),
+        Action::Status(_, _, _) => give_text(console, out, n),
+        Action::Tick => give_text(console, out, n),
+        Action::Close => give_text(console, out, n),
     }
 }
 
 fn tell_call(
+    rt: &(impl Files + RandomSource),
+    console: &Console,
     keep_going: bool,
     number: u64,
     name: &[u8],
@@ -264,14 +321,16 @@ fn tell_call(
 ) -> bool {
     let action = asked.action;
     let answer = told.answer;
-    let row = command(action).two_digits(answer.number());
+    let row = command(console, action).two_digits(answer.number());
     tell_tries(row, tries, told.tried)
         .field(b" bytes ", told.written as u64)
         .print_line();
-    if !cli_files::is_heard() {
+    if !cli_files::is_heard(console) {
         return false;
     }
     give(
+        rt,
+        console,
         keep_going,
         number,
         name,
@@ -283,14 +342,24 @@ fn tell_call(
     )
 }
 
-fn read_path(name: &[u8], place: Place, path: &[u8], n: usize, input: &mut [u8]) -> Got {
+fn read_path(
+    rt: &impl Files,
+    console: &Console,
+    name: &[u8],
+    place: Place,
+    path: &[u8],
+    n: usize,
+    input: &mut [u8],
+) -> Got {
     if path.len() < n {
         return Got::Unread;
     }
-    cli_files::read_at(name, place, &path[..n], input)
+    cli_files::read_at(rt, console, name, place, &path[..n], input)
 }
 
 fn read_beside(
+    rt: &impl Files,
+    console: &Console,
     name: &[u8],
     place: Place,
     file: &[u8],
@@ -298,15 +367,30 @@ fn read_beside(
     input: &mut [u8],
 ) -> Got {
     let n = paths::beside(name, file, path);
-    read_path(name, place, path, n, input)
+    read_path(rt, console, name, place, path, n, input)
 }
 
-fn read_named(name: &[u8], place: Place, file: &[u8], input: &mut [u8]) -> Got {
-    let mut path = io::buffer();
-    read_beside(name, place, file, &mut path, input)
+fn read_named(
+    rt: &impl Files,
+    console: &Console,
+    name: &[u8],
+    place: Place,
+    file: &[u8],
+    input: &mut [u8],
+) -> Got {
+    let mut path = [0u8; 4096];
+    read_beside(rt, console, name, place, file, &mut path, input)
 }
 
-fn read_file(name: &[u8], number: u64, s: &[u8], file: usize, input: &mut [u8]) -> Got {
+fn read_file(
+    rt: &impl Files,
+    console: &Console,
+    name: &[u8],
+    number: u64,
+    s: &[u8],
+    file: usize,
+    input: &mut [u8],
+) -> Got {
     let end = cli_script::word_end(s, file);
     if s.len() < end {
         return Got::Unread;
@@ -314,16 +398,31 @@ fn read_file(name: &[u8], number: u64, s: &[u8], file: usize, input: &mut [u8]) 
     if end < file {
         return Got::Unread;
     }
-    read_named(name, place_at(number, file), &s[file..end], input)
+    read_named(
+        rt,
+        console,
+        name,
+        place_at(number, file),
+        &s[file..end],
+        input,
+    )
 }
 
 // The text or the book of a call. A file past the buffer's 65,536 bytes has the answer that these have: a text
 // is read to its 4,096th byte at the most, and a book of more than 2,560 bytes is refused for its length.
-fn read_input(name: &[u8], number: u64, s: &[u8], asked: Asked, input: &mut [u8]) -> Got {
+fn read_input(
+    rt: &impl Files,
+    console: &Console,
+    name: &[u8],
+    number: u64,
+    s: &[u8],
+    asked: Asked,
+    input: &mut [u8],
+) -> Got {
     let action = asked.action;
     match action {
-        Action::Opening => read_file(name, number, s, asked.file, input),
-        Action::Message(_) => read_file(name, number, s, asked.file, input),
+        Action::Opening => read_file(rt, console, name, number, s, asked.file, input),
+        Action::Message(_) => read_file(rt, console, name, number, s, asked.file, input),
         Action::SubLimit(_, _) => Got::Bytes(0),
         Action::Status(_, _, _) => Got::Bytes(0),
         Action::Tick => Got::Bytes(0),
@@ -333,10 +432,17 @@ fn read_input(name: &[u8], number: u64, s: &[u8], asked: Asked, input: &mut [u8]
 }
 
 // The line's deed, and how many bytes of a call's text or book were read.
-fn read_deed(name: &[u8], number: u64, s: &[u8], input: &mut [u8]) -> Read {
+fn read_deed(
+    rt: &impl Files,
+    console: &Console,
+    name: &[u8],
+    number: u64,
+    s: &[u8],
+    input: &mut [u8],
+) -> Read {
     let deed = deed_of(cli_script::read_line(s));
     match deed {
-        Deed::Call(asked) => match read_input(name, number, s, asked, input) {
+        Deed::Call(asked) => match read_input(rt, console, name, number, s, asked, input) {
             Got::Unread => Read {
                 deed: Deed::Unread,
                 n: 0,
@@ -353,9 +459,17 @@ fn is_comment(s: &[u8]) -> bool {
 }
 
 // A line that is longer than its buffer is no call, whatever its beginning says.
-fn read_line(name: &[u8], number: u64, s: &[u8], is_long: bool, input: &mut [u8]) -> Read {
+fn read_line(
+    rt: &impl Files,
+    console: &Console,
+    name: &[u8],
+    number: u64,
+    s: &[u8],
+    is_long: bool,
+    input: &mut [u8],
+) -> Read {
     if !is_long {
-        return read_deed(name, number, s, input);
+        return read_deed(rt, console, name, number, s, input);
     }
     if is_comment(s) {
         return Read {
@@ -381,15 +495,17 @@ fn no_line(ahead: Ahead) -> Next {
 
 // Takes the next line of the script and reads the file that it names.
 fn read_next(
+    rt: &impl Files,
+    console: &Console,
     number: u64,
     name: &[u8],
-    fd: i32,
+    from: &mut impl io::Read,
     buf: &mut [u8],
     line: &mut [u8],
     input: &mut [u8],
     before: Ahead,
 ) -> Next {
-    let taken = lines::take(name, fd, buf, line, before);
+    let taken = lines::take(console, name, from, buf, line, before);
     let length = taken.n;
     let ahead = taken.ahead;
     if !taken.is_there {
@@ -398,7 +514,15 @@ fn read_next(
     if line.len() < length {
         return no_line(ahead);
     }
-    let read = read_line(name, number, &line[..length], taken.is_long, input);
+    let read = read_line(
+        rt,
+        console,
+        name,
+        number,
+        &line[..length],
+        taken.is_long,
+        input,
+    );
     let deed = read.deed;
     Next {
         deed,
@@ -513,17 +637,19 @@ fn perform(
     }
 }
 
-fn tell_clear(answer: Answer) -> bool {
-    cli_print::begin()
+fn tell_clear(console: &Console, answer: Answer) -> bool {
+    cli_print::begin(console)
         .text(b"clear ")
         .two_digits(answer.number())
         .text(b" tries bytes 0")
         .print_line();
-    cli_files::is_heard()
+    cli_files::is_heard(console)
 }
 
 // What a line has to tell, once it is done. Answers whether the script goes on.
 fn tell(
+    rt: &(impl Files + RandomSource),
+    console: &Console,
     keep_going: bool,
     number: u64,
     name: &[u8],
@@ -549,6 +675,7 @@ fn tell(
     match deed {
         Deed::Nothing => true,
         Deed::NotACall(at, wanted) => not_a_call(
+            console,
             keep_going,
             number,
             name,
@@ -556,21 +683,25 @@ fn tell(
             at,
             wanted,
         ),
-        Deed::TooLong => too_long(keep_going, number, name),
-        Deed::Unread => goes_on(keep_going, number),
+        Deed::TooLong => too_long(console, keep_going, number, name),
+        Deed::Unread => goes_on(console, keep_going, number),
         Deed::Show => {
             cli_tables::show(
-                desk, codes, flags, balances, sublimits, batches, bins, sheet,
+                console, desk, codes, flags, balances, sublimits, batches, bins, sheet,
             );
-            cli_files::is_heard()
+            cli_files::is_heard(console)
         }
         Deed::Why => {
-            cli_tables::tell_why(desk.date, codes, balances, sublimits, batches, bins);
-            cli_files::is_heard()
+            cli_tables::tell_why(
+                console, desk.date, codes, balances, sublimits, batches, bins,
+            );
+            cli_files::is_heard(console)
         }
-        Deed::Clear => tell_clear(answer),
+        Deed::Clear => tell_clear(console, answer),
         Deed::Call(asked) => {
             tell_call(
+                rt,
+                console,
                 keep_going,
                 number,
                 name,
@@ -586,11 +717,13 @@ fn tell(
 
 // The next line of the script: read, done and told.
 fn do_next(
+    rt: &(impl Files + RandomSource),
+    console: &Console,
     quick: bool,
     keep_going: bool,
     number: u64,
     name: &[u8],
-    fd: i32,
+    from: &mut impl io::Read,
     buf: &mut [u8; 65536],
     line: &mut [u8; 65536],
     input: &mut [u8; 65536],
@@ -607,7 +740,7 @@ fn do_next(
     out: &mut [u8; 33705],
     tries: &mut [u64; 528],
 ) -> Turn {
-    let next = read_next(number, name, fd, buf, line, input, ahead);
+    let next = read_next(rt, console, number, name, from, buf, line, input, ahead);
     let deed = next.deed;
     let rest = next.ahead;
     let told = perform(
@@ -615,6 +748,8 @@ fn do_next(
         bins, sheet, out, tries,
     );
     let is_well = tell(
+        rt,
+        console,
         keep_going,
         number,
         name,
@@ -641,10 +776,17 @@ fn do_next(
 }
 
 // No script has so many lines that the numbers run out.
-fn run(quick: bool, keep_going: bool, name: &[u8], fd: i32) {
-    let mut buf = io::large_buffer();
-    let mut line = io::large_buffer();
-    let mut input = io::large_buffer();
+fn run(
+    rt: &(impl Files + RandomSource),
+    console: &Console,
+    quick: bool,
+    keep_going: bool,
+    name: &[u8],
+    from: &mut impl io::Read,
+) {
+    let mut buf = [0u8; 65536];
+    let mut line = [0u8; 65536];
+    let mut input = [0u8; 65536];
     let mut codes = [0u64; 64];
     let mut flags = [0u64; 64];
     let mut balances = [0u64; 64];
@@ -670,11 +812,13 @@ fn run(quick: bool, keep_going: bool, name: &[u8], fd: i32) {
     while number < u64::MAX && more {
         number += 1;
         let turn = do_next(
+            rt,
+            console,
             quick,
             keep_going,
             number,
             name,
-            fd,
+            from,
             &mut buf,
             &mut line,
             &mut input,
@@ -697,72 +841,98 @@ fn run(quick: bool, keep_going: bool, name: &[u8], fd: i32) {
     }
 }
 
-fn usage() {
-    io::write_all(
-        STDERR_FILENO,
-        b"usage: day [--keep-going] plain|quick [SCRIPT]\n",
-    );
-    cli_files::tell_wrong_call();
+fn usage(console: &Console) {
+    cli_files::say(console, b"usage: day [--keep-going] plain|quick [SCRIPT]\n");
+    cli_files::tell_wrong_call(console);
 }
 
-fn run_file(quick: bool, keep_going: bool, path: &[u8]) {
+fn run_file(
+    rt: &(impl Files + Input + RandomSource),
+    console: &Console,
+    quick: bool,
+    keep_going: bool,
+    path: &[u8],
+) {
     if cli_files::is_dash(path) {
-        run(quick, keep_going, b"standard input", STDIN_FILENO);
+        run(
+            rt,
+            console,
+            quick,
+            keep_going,
+            b"standard input",
+            &mut rt.reader(),
+        );
         return;
     }
-    let fd = os::open_read(path);
-    if fd < 0 {
-        cli_files::unreadable(path);
-        return;
+    match cli_files::open_read(rt, path) {
+        Ok(mut file) => run(rt, console, quick, keep_going, path, &mut file),
+        Err(why) => cli_files::unreadable(console, path, &why),
     }
-    run(quick, keep_going, path, fd);
-    libc::close(fd);
 }
 
 // The script is the argument at a place, or standard input where there is none.
-fn run_script(quick: bool, keep_going: bool, at: usize, count: usize) {
+fn run_script(
+    rt: &(impl Env + Files + Input + RandomSource),
+    console: &Console,
+    quick: bool,
+    keep_going: bool,
+    at: usize,
+    count: usize,
+) {
     if count <= at {
-        run_file(quick, keep_going, b"-");
+        run_file(rt, console, quick, keep_going, b"-");
         return;
     }
-    let mut path = io::buffer();
-    let n = os::arg(at, &mut path);
-    if os::errno() != 0 {
-        cli_files::unreadable(b"argument");
-        return;
+    let mut path = [0u8; 4096];
+    match cli_files::argument(rt, at, &mut path) {
+        Ok(n) => run_file(rt, console, quick, keep_going, &path[..n]),
+        Err(why) => cli_files::unreadable(console, b"argument", &why),
     }
-    run_file(quick, keep_going, &path[..n]);
 }
 
 // The argument at a place names the queue test, and the one at another the script. There are at most so many.
-fn run_test(keep_going: bool, at: usize, script: usize, most: usize, count: usize) {
+fn run_test(
+    rt: &(impl Env + Files + Input + RandomSource),
+    console: &Console,
+    keep_going: bool,
+    at: usize,
+    script: usize,
+    most: usize,
+    count: usize,
+) {
     if most < count {
-        usage();
+        usage(console);
         return;
     }
-    if cli_files::is_argument(at, b"plain") {
-        run_script(false, keep_going, script, count);
+    if cli_files::is_argument(rt, at, b"plain") {
+        run_script(rt, console, false, keep_going, script, count);
         return;
     }
-    if cli_files::is_argument(at, b"quick") {
-        run_script(true, keep_going, script, count);
+    if cli_files::is_argument(rt, at, b"quick") {
+        run_script(rt, console, true, keep_going, script, count);
         return;
     }
-    usage();
+    usage(console);
 }
 
-fn main() {
-    if cli_files::is_argument(1, b"--help") {
-        cli_files::help(b"usage: day [--keep-going] plain|quick [SCRIPT]\n");
+fn run_program(rt: &(impl Env + Files + Input + RandomSource), console: &Console) {
+    if cli_files::is_argument(rt, 1, b"--help") {
+        cli_files::help(console, b"usage: day [--keep-going] plain|quick [SCRIPT]\n");
         return;
     }
-    if !cli_files::has_output() {
+    if !cli_files::has_output(console) {
         return;
     }
-    let count = os::arg_count();
-    if cli_files::is_argument(1, b"--keep-going") {
-        run_test(true, 2, 3, 4, count);
+    let count = cli_files::argument_count(rt);
+    if cli_files::is_argument(rt, 1, b"--keep-going") {
+        run_test(rt, console, true, 2, 3, 4, count);
         return;
     }
-    run_test(false, 1, 2, 3, count);
+    run_test(rt, console, false, 1, 2, 3, count);
+}
+
+fn main(rt: HostRuntime) -> ExitCode {
+    let console = Console::new(rt.stdout(), rt.stderr());
+    run_program(&rt, &console);
+    console.exit_code()
 }

@@ -1,6 +1,7 @@
 // The account of a book.
 use crate::faults;
 use book_read::{Book, Reading};
+use cli_files::Console;
 use cli_print::Row;
 
 // The number at a place of a row; 0 past its end.
@@ -8,8 +9,8 @@ fn at(row: &[u64], i: usize) -> u64 {
     if i < row.len() { row[i] } else { 0 }
 }
 
-fn show_stream(code: u64, administrator: u64) {
-    cli_print::begin()
+fn show_stream(console: &Console, code: u64, administrator: u64) {
+    cli_print::begin(console)
         .text(b"stream ")
         .code(code)
         .text(b" ")
@@ -17,18 +18,18 @@ fn show_stream(code: u64, administrator: u64) {
         .print_line();
 }
 
-fn show_streams(streams: &[u64], n: usize) {
+fn show_streams(console: &Console, streams: &[u64], n: usize) {
     let mut i = 0;
     while i < Book::STREAMS {
         if i < n {
-            show_stream(at(streams, 2 * i), at(streams, 2 * i + 1));
+            show_stream(console, at(streams, 2 * i), at(streams, 2 * i + 1));
         }
         i += 1;
     }
 }
 
 // The streams of a bank's bits, in their order.
-fn show_bits(before: Row, streams: &[u64], bits: u64) -> Row {
+fn show_bits<'a>(before: Row<'a>, streams: &[u64], bits: u64) -> Row<'a> {
     let mut row = before;
     let mut rest = bits;
     let mut i = 0;
@@ -42,15 +43,22 @@ fn show_bits(before: Row, streams: &[u64], bits: u64) -> Row {
     row
 }
 
-fn show_standing(row: Row, flags: u64) -> Row {
+fn show_standing<'a>(row: Row<'a>, flags: u64) -> Row<'a> {
     if flags % 2 == 1 {
         return row.text(b" suspended ");
     }
     row.text(b" active ")
 }
 
-fn show_bank(streams: &[u64], code: u64, flags: u64, balance: u64, sublimit: u64) {
-    let named = cli_print::begin().text(b"bank ").code(code);
+fn show_bank(
+    console: &Console,
+    streams: &[u64],
+    code: u64,
+    flags: u64,
+    balance: u64,
+    sublimit: u64,
+) {
+    let named = cli_print::begin(console).text(b"bank ").code(code);
     let row = show_standing(named, flags)
         .number(balance)
         .text(b" ")
@@ -59,6 +67,7 @@ fn show_bank(streams: &[u64], code: u64, flags: u64, balance: u64, sublimit: u64
 }
 
 fn show_banks(
+    console: &Console,
     streams: &[u64],
     codes: &[u64],
     flags: &[u64],
@@ -70,6 +79,7 @@ fn show_banks(
     while i < Book::BANKS {
         if i < n {
             show_bank(
+                console,
                 streams,
                 at(codes, i),
                 at(flags, i),
@@ -87,25 +97,25 @@ fn total(balances: &[u64], n: usize) -> u64 {
     let mut i = 0;
     while i < Book::BANKS {
         if i < n {
-            sum = std::num::wrapping_add_u64(sum, at(balances, i));
+            sum = sum.wrapping_add(at(balances, i));
         }
         i += 1;
     }
     sum
 }
 
-fn show_head(book: Book) {
-    cli_print::begin()
+fn show_head(console: &Console, book: Book) {
+    cli_print::begin(console)
         .text(b"accepted book\ndate ")
         .six_digits(dates::date_of(book.day))
         .print_line();
 }
 
-fn show_total(sum: u64) {
-    cli_print::begin().field(b"total ", sum).print_line();
+fn show_total(console: &Console, sum: u64) {
+    cli_print::begin(console).field(b"total ", sum).print_line();
 }
 
-pub fn show(s: &[u8]) {
+pub fn show(console: &Console, s: &[u8]) {
     let mut streams = [0u64; 16];
     let mut codes = [0u64; 64];
     let mut flags = [0u64; 64];
@@ -120,14 +130,16 @@ pub fn show(s: &[u8]) {
         &mut sublimits,
     ) {
         Reading::Unread(why) => {
-            cli_print::refused(why);
-            faults::show(s);
+            cli_print::refused(console, why);
+            faults::show(console, s);
         }
         Reading::Held(book) => {
-            show_head(book);
-            show_streams(&streams, book.streams);
-            show_banks(&streams, &codes, &flags, &balances, &sublimits, book.banks);
-            show_total(total(&balances, book.banks));
+            show_head(console, book);
+            show_streams(console, &streams, book.streams);
+            show_banks(
+                console, &streams, &codes, &flags, &balances, &sublimits, book.banks,
+            );
+            show_total(console, total(&balances, book.banks));
         }
     }
 }

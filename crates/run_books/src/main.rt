@@ -1,11 +1,13 @@
 // Books from standard input, each after its length in two bytes: the check's number, and of a sound book its banks, streams and
 // day number, and whether it is the same after it was read and written again.
 #![tactic(auto)]
+
 ghost use Rattle.std.specs.Prelude.{◌<◌};
 
 use book_read::{Answer, Reading};
 use book_write::Writing;
-use libc::{STDIN_FILENO, STDOUT_FILENO};
+use std::io;
+use std::io::{ErrorKind, Read};
 
 // Whether the first n bytes of a buffer are a book.
 fn same(a: &[u8], n: usize, b: &[u8]) -> bool {
@@ -56,41 +58,50 @@ fn tell_sound(line: &mut [u8], text: &[u8]) {
     }
 }
 
-fn tell(text: &[u8]) {
+fn tell(rt: &impl Print, text: &[u8]) -> io::Result<()> {
     let mut line = [b' '; 20];
     line[19] = b'\n';
     match book_read::check(text) {
         Answer::Sound => {
             text_put::digits(&mut line, 0, 0, 2);
             tell_sound(&mut line, text);
-            io::write_all(STDOUT_FILENO, &line);
+            rt.write_all(&line)
         }
         Answer::Fault(f) => {
             text_put::digits(&mut line, 0, f.number(), 2);
-            io::write_all(STDOUT_FILENO, &line);
+            rt.write_all(&line)
         }
+    }
+}
+
+// Whether the input had as many bytes more as the buffer; what it had stands at the beginning.
+fn take_all(from: &mut impl Read, buf: &mut [u8]) -> io::Result<bool> {
+    match from.read_exact(buf) {
+        Ok(()) => Ok(true),
+        Err(why) if why.kind() == ErrorKind::UnexpectedEof => Ok(false),
+        Err(why) => Err(why),
     }
 }
 
 // One book of the length of a buffer.
-fn tell_read(text: &mut [u8]) {
-    io::read_full(STDIN_FILENO, text);
-    tell(text);
+fn tell_read(rt: &impl Print, from: &mut impl Read, text: &mut [u8]) -> io::Result<()> {
+    take_all(from, text)?;
+    tell(rt, text)
 }
 
 // One book, if there is one more.
-fn tell_next() -> bool {
+fn tell_next(rt: &impl Print, from: &mut impl Read) -> io::Result<bool> {
     let mut head = [0u8; 2];
-    if io::read_full(STDIN_FILENO, &mut head) < 2 {
-        return false;
+    if !take_all(from, &mut head)? {
+        return Ok(false);
     }
     let n = wide(head[0]) + 256 * wide(head[1]);
     if 4096 < n {
-        return false;
+        return Ok(false);
     }
     let mut text = [0u8; 4096];
-    tell_read(&mut text[..n]);
-    true
+    tell_read(rt, from, &mut text[..n])?;
+    Ok(true)
 }
 
 fn wide(b: u8) -> usize
@@ -99,12 +110,13 @@ fn wide(b: u8) -> usize
     b as usize
 }
 
-fn main() {
+fn main(rt: HostRuntime) -> io::Result<()> {
     let mut left: u64 = 1000;
     while left > 0 {
-        if !tell_next() {
-            return;
+        if !tell_next(&rt, &mut rt.stdin())? {
+            return Ok(());
         }
         left -= 1;
     }
+    Ok(())
 }

@@ -5,12 +5,15 @@
 // date; activation, 0 or the minute and 1; payments; the buffer's length; ten times the side, 0 for a credit or
 // the letters and 1, the cents and the bank; a line feed. Numbers have 18 digits.
 #![tactic(auto)]
+
 ghost use Rattle.std.specs.Prelude.{◌≤◌};
 
 use codes::Code;
 use request_read::terms::Activation;
 use request_write::{Order, Payable, Side};
 use response_write::Written;
+use std::io;
+use std::io::{ErrorKind, Read};
 
 const RECORD: usize = 717;
 
@@ -81,50 +84,61 @@ fn order(s: &[u8]) -> Order {
     }
 }
 
-fn tell(written: Written) {
+fn tell(rt: &impl Print, written: Written) -> io::Result<()> {
     match written {
         Written::End(e) => {
-            io::write_all(1, b"written to ");
-            io::print_decimal(1, e as u64);
+            rt.write_all(b"written to ")?;
+            rt.print(e as u64)?;
         }
         Written::Unfit(why) => {
-            io::write_all(1, b"refused ");
-            io::print_decimal(1, why.number());
+            rt.write_all(b"refused ")?;
+            rt.print(why.number())?;
         }
     }
-    io::write_all(1, b"\n");
+    rt.write_all(b"\n")
 }
 
-fn show(s: &[u8], out: &mut [u8]) {
-    tell(request_write::write_request(out, PLACE, order(s)));
-    io::write_all(1, out);
-    io::write_all(1, b"\n");
+fn show(rt: &impl Print, s: &[u8], out: &mut [u8]) -> io::Result<()> {
+    tell(rt, request_write::write_request(out, PLACE, order(s)))?;
+    rt.write_all(out)?;
+    rt.write_all(b"\n")
 }
 
 // Into the first n bytes.
-fn show_in(s: &[u8], out: &mut [u8], n: usize) {
+fn show_in(rt: &impl Print, s: &[u8], out: &mut [u8], n: usize) -> io::Result<()> {
     if n <= out.len() {
-        show(s, &mut out[..n]);
+        show(rt, s, &mut out[..n])?;
+    }
+    Ok(())
+}
+
+// Whether the input had as many bytes more as the buffer.
+fn take_all(from: &mut impl Read, buf: &mut [u8]) -> io::Result<bool> {
+    match from.read_exact(buf) {
+        Ok(()) => Ok(true),
+        Err(why) if why.kind() == ErrorKind::UnexpectedEof => Ok(false),
+        Err(why) => Err(why),
     }
 }
 
 // The next order; whether there was one.
-fn one_order() -> bool {
+fn one_order(rt: &impl Print, from: &mut impl Read) -> io::Result<bool> {
     let mut record = [0u8; RECORD];
-    if io::read_full(0, &mut record) < RECORD {
-        return false;
+    if !take_all(from, &mut record)? {
+        return Ok(false);
     }
     let mut out = [b'.'; 1200];
-    show_in(&record, &mut out, number(&record, 158) as usize);
-    true
+    show_in(rt, &record, &mut out, number(&record, 158) as usize)?;
+    Ok(true)
 }
 
-fn main() {
+fn main(rt: HostRuntime) -> io::Result<()> {
     let mut turns: u64 = 1000;
     while turns > 0 {
-        if !one_order() {
-            return;
+        if !one_order(&rt, &mut rt.stdin())? {
+            return Ok(());
         }
         turns -= 1;
     }
+    Ok(())
 }

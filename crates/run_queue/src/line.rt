@@ -1,6 +1,8 @@
 // Lines of numbers: reading them, and writing them.
 ghost use Rattle.std.specs.Prelude.{◌≡◌, ◌≤◌, length};
 
+use std::io;
+
 // A number that is being read, and how many stand before it.
 #[derive(Clone, Copy)]
 pub struct Reading {
@@ -43,16 +45,15 @@ pub fn read(text: &[u8], numbers: &mut [u64]) -> usize {
 }
 
 // The first numbers of a row, in a line after a letter.
-pub fn write(letter: u8, row: &[u64], count: usize) {
+pub fn write(rt: &impl Print, letter: u8, row: &[u64], count: usize) -> io::Result<()> {
     let start = [letter];
-    io::write_all(1, &start);
+    rt.write_all(&start)?;
     let mut i = 0;
     while i < count {
         if i < row.len() {
-            io::write_all(1, b" ");
-            io::print_decimal(1, row[i]);
+            print!(rt; " {}", row[i])?;
         }
         i += 1;
     }
-    io::write_all(1, b"\n");
+    rt.write_all(b"\n")
 }

@@ -11,14 +11,17 @@
 //
 // After a test stand four lines: tries, places that wait, memory, and balances of the first banks.
 #![tactic(auto)]
+
 mod line;
 mod rows;
 mod rules;
 
-fn main() {
-    let mut text = io::large_buffer();
-    let length = io::read_full(0, &mut text);
+use std::io;
+
+fn main(rt: HostRuntime) -> io::Result<()> {
+    let mut text = [0u8; 65536];
+    let length = cli_files::read_full(&mut rt.stdin(), &mut text);
     let mut numbers = [0u64; 8192];
     let count = line::read(&text[..length], &mut numbers);
-    rows::run(&numbers, count);
+    rows::run(&rt, &numbers, count)
 }

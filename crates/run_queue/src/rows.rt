@@ -3,6 +3,7 @@ ghost use Rattle.std.specs.Prelude.{◌≡◌, ◌≤◌, length};
 
 use crate::{line, rules};
 use settle::{Bank, Batch};
+use std::io;
 
 // How many batches wait, and the place of the one that joined last.
 #[derive(Clone, Copy)]
@@ -141,6 +142,7 @@ fn test(
 
 // A test, and what it leaves in four lines.
 fn tell(
+    rt: &impl Print,
     quick: bool,
     standing: Standing,
     balances: &mut [u64; 64],
@@ -149,19 +151,19 @@ fn tell(
     memory: &mut [u64; 32],
     queue: &mut [u64; 32],
     tries: &mut [u64; 528],
-) -> Standing {
+) -> io::Result<Standing> {
     let waiting = standing.waiting;
     let reached = test(
         quick, balances, sublimits, batches, memory, queue, waiting, tries,
     );
-    line::write(b't', tries, reached.tried);
-    line::write(b'q', queue, reached.waiting);
-    line::write(b'm', memory, Batch::LIVE);
-    line::write(b'b', balances, 40);
-    Standing {
+    line::write(rt, b't', tries, reached.tried)?;
+    line::write(rt, b'q', queue, reached.waiting)?;
+    line::write(rt, b'm', memory, Batch::LIVE)?;
+    line::write(rt, b'b', balances, 40)?;
+    Ok(Standing {
         waiting: reached.waiting,
         last: standing.last,
-    }
+    })
 }
 
 // A line of the script.
@@ -218,6 +220,7 @@ fn change(
 
 // Does what a line says.
 fn step(
+    rt: &impl Print,
     line: Line,
     standing: Standing,
     balances: &mut [u64; 64],
@@ -226,39 +229,39 @@ fn step(
     memory: &mut [u64; 32],
     queue: &mut [u64; 32],
     tries: &mut [u64; 528],
-) -> Standing {
+) -> io::Result<Standing> {
     let op = line.op;
     match op {
         1 => {
             zero(balances);
             zero(sublimits);
             zero(memory);
-            Standing {
+            Ok(Standing {
                 waiting: 0,
                 last: 0,
-            }
+            })
         }
         2 => {
             put(balances, index(line.a), line.b);
-            standing
+            Ok(standing)
         }
         3 => {
             put(sublimits, index(line.a), line.b);
             queue::wake_bank(memory, line.a);
-            standing
+            Ok(standing)
         }
         7 => tell(
-            false, standing, balances, sublimits, batches, memory, queue, tries,
+            rt, false, standing, balances, sublimits, batches, memory, queue, tries,
         ),
         8 => tell(
-            true, standing, balances, sublimits, batches, memory, queue, tries,
+            rt, true, standing, balances, sublimits, batches, memory, queue, tries,
         ),
-        _ => change(line, standing, batches, memory, queue),
+        _ => Ok(change(line, standing, batches, memory, queue)),
     }
 }
 
 // The whole script.
-pub fn run(numbers: &[u64], count: usize) {
+pub fn run(rt: &impl Print, numbers: &[u64], count: usize) -> io::Result<()> {
     let mut balances = [0u64; 64];
     let mut sublimits = [0u64; 64];
     let mut batches = [0u64; 11168];
@@ -274,6 +277,7 @@ pub fn run(numbers: &[u64], count: usize) {
     while i < lines {
         let line = line_at(numbers, i);
         standing = step(
+            rt,
             line,
             standing,
             &mut balances,
@@ -282,7 +286,8 @@ pub fn run(numbers: &[u64], count: usize) {
             &mut memory,
             &mut queue,
             &mut tries,
-        );
+        )?;
         i += 1;
     }
+    Ok(())
 }

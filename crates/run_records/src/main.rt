@@ -7,12 +7,14 @@
 //
 // `a` and `s` are answered with 00, or with the number of the refusal.
 #![tactic(auto)]
+
 ghost use Rattle.std.specs.Prelude.{◌≡◌, ◌+◌, ◌≤◌, ◌<◌, length};
 
 use call_records::{Account, AccountOr};
 use chars::Refusal;
-use libc::STDIN_FILENO;
+use cli_files::Console;
 use model::Answer;
+use std::process::ExitCode;
 
 const WORDS: usize = 11_168;
 
@@ -71,36 +73,36 @@ fn index(x: u64) -> usize {
     x as usize
 }
 
-fn answer(letter: &[u8], place: u64, number: u64) {
-    cli_print::text(letter);
-    cli_print::space();
-    cli_print::number(place);
-    cli_print::space();
-    cli_print::two_digits(number);
-    cli_print::end();
+fn answer(console: &Console, letter: &[u8], place: u64, number: u64) {
+    cli_print::text(console, letter);
+    cli_print::space(console);
+    cli_print::number(console, place);
+    cli_print::space(console);
+    cli_print::two_digits(console, number);
+    cli_print::end(console);
 }
 
-fn refuse(letter: &[u8], place: u64, why: Refusal) {
-    answer(letter, place, why.number());
+fn refuse(console: &Console, letter: &[u8], place: u64, why: Refusal) {
+    answer(console, letter, place, why.number());
 }
 
-fn store(mut row: [Account; 64], place: u64, account: Account) -> [Account; 64] {
+fn store(console: &Console, mut row: [Account; 64], place: u64, account: Account) -> [Account; 64] {
     let i = index(place);
     if i < Account::ROW {
         row[i] = account;
-        answer(b"a", place, 0);
+        answer(console, b"a", place, 0);
     } else {
-        refuse(b"a", place, Refusal::OutOfRange);
+        refuse(console, b"a", place, Refusal::OutOfRange);
     }
     row
 }
 
-fn open_account(row: [Account; 64], n: Numbers) -> [Account; 64] {
+fn open_account(console: &Console, row: [Account; 64], n: Numbers) -> [Account; 64] {
     let made = Account::new(n.b, n.c, n.d, n.e);
     match made {
-        AccountOr::Held(account) => store(row, n.a, account),
+        AccountOr::Held(account) => store(console, row, n.a, account),
         AccountOr::Beyond(why) => {
-            refuse(b"a", n.a, why);
+            refuse(console, b"a", n.a, why);
             row
         }
     }
@@ -112,33 +114,41 @@ fn set_word(words: &mut [u64], at: usize, value: u64) {
     }
 }
 
-fn settle(row: [Account; 64], batches: &[u64], place: u64) -> [Account; 64] {
+fn settle(console: &Console, row: [Account; 64], batches: &[u64], place: u64) -> [Account; 64] {
     let left = settle_records::settle_batch(row, batches, index(place));
     let after = left.row;
     let said = left.answer;
     match said {
-        Answer::Done => answer(b"s", place, 0),
-        Answer::Refused(why) => refuse(b"s", place, why),
+        Answer::Done => answer(console, b"s", place, 0),
+        Answer::Refused(why) => refuse(console, b"s", place, why),
     }
     after
 }
 
-fn show_account(place: usize, code: u64, flags: u64, balance: u64, sublimit: u64) {
+fn show_account(
+    console: &Console,
+    place: usize,
+    code: u64,
+    flags: u64,
+    balance: u64,
+    sublimit: u64,
+) {
     if code == 0 {
         return;
     }
-    cli_print::number(place as u64);
-    cli_print::field(b" ", code);
-    cli_print::field(b" ", flags);
-    cli_print::field(b" ", balance);
-    cli_print::field(b" ", sublimit);
-    cli_print::end();
+    cli_print::number(console, place as u64);
+    cli_print::field(console, b" ", code);
+    cli_print::field(console, b" ", flags);
+    cli_print::field(console, b" ", balance);
+    cli_print::field(console, b" ", sublimit);
+    cli_print::end(console);
 }
 
-fn show(row: [Account; 64]) {
+fn show(console: &Console, row: [Account; 64]) {
     let mut i = 0;
     while i < Account::ROW {
         show_account(
+            console,
             i,
             row[i].code,
             row[i].flags,
@@ -149,18 +159,23 @@ fn show(row: [Account; 64]) {
     }
 }
 
-fn read_line(line: &[u8], row: [Account; 64], batches: &mut [u64]) -> [Account; 64] {
+fn read_line(
+    console: &Console,
+    line: &[u8],
+    row: [Account; 64],
+    batches: &mut [u64],
+) -> [Account; 64] {
     if line.len() == 0 {
         return row;
     }
     let n = read_numbers(line);
     match line[0] {
-        b'a' => open_account(row, n),
+        b'a' => open_account(console, row, n),
         b'p' => {
-            show(row);
+            show(console, row);
             row
         }
-        b's' => settle(row, batches, n.e),
+        b's' => settle(console, row, batches, n.e),
         b'w' => {
             set_word(batches, index(n.d), n.e);
             row
@@ -184,7 +199,7 @@ fn line_end(text: &[u8], at: usize) -> usize
     i
 }
 
-fn run(text: &[u8]) {
+fn run(console: &Console, text: &[u8]) {
     let mut batches = [0u64; WORDS];
     let none = Account {
         code: 0,
@@ -197,14 +212,16 @@ fn run(text: &[u8]) {
     let mut at = 0;
     while at < text.len() {
         let e = line_end(text, at);
-        let after = read_line(&text[at..e], row, &mut batches);
+        let after = read_line(console, &text[at..e], row, &mut batches);
         row = after;
         at = e + 1;
     }
 }
 
-fn main() {
-    let mut text = io::large_buffer();
-    let length = io::read_full(STDIN_FILENO, &mut text);
-    run(&text[..length]);
+fn main(rt: HostRuntime) -> ExitCode {
+    let mut text = [0u8; 65536];
+    let length = cli_files::read_full(&mut rt.stdin(), &mut text);
+    let console = Console::new(rt.stdout(), rt.stderr());
+    run(&console, &text[..length]);
+    console.exit_code()
 }

@@ -1,10 +1,11 @@
 // Runs of the table rules. Standard input has lines: an index and a value set one word of the row of all that is lent (crate `tables_as_row`); any other
 // line names the tables as they are now, and is written again with 0, or with 06 where they break the rules.
 #![tactic(auto)]
+
 ghost use Rattle.std.specs.Prelude.{◌≡◌, ◌+◌, ◌≤◌, ◌<◌, length};
 ghost use Rattle.tables_as_row.specs.RowWords.{row_words};
 
-use libc::{STDIN_FILENO, STDOUT_FILENO};
+use std::io;
 
 const WORDS: usize = 20_608;
 
@@ -55,14 +56,14 @@ fn set_word(line: &[u8], words: &mut [u64]) {
     }
 }
 
-fn judge(name: &[u8], words: &[u64])
+fn judge(rt: &impl Print, name: &[u8], words: &[u64]) -> io::Result<()>
     requires { length words.now ≡ row_words }
 {
-    io::write_all(STDOUT_FILENO, name);
+    rt.write_all(name)?;
     if tables_as_row::right(words) {
-        io::write_all(STDOUT_FILENO, b" 0\n");
+        rt.write_all(b" 0\n")
     } else {
-        io::write_all(STDOUT_FILENO, b" 06\n");
+        rt.write_all(b" 06\n")
     }
 }
 
@@ -81,31 +82,32 @@ fn line_end(text: &[u8], at: usize) -> usize
     i
 }
 
-fn read_line(line: &[u8], words: &mut [u64])
+fn read_line(rt: &impl Print, line: &[u8], words: &mut [u64]) -> io::Result<()>
     requires { length words.old ≡ row_words }
 {
     if line.len() == 0 {
-        return;
+        return Ok(());
     }
     if chars::is_digit(line[0]) {
         set_word(line, words);
-        return;
+        return Ok(());
     }
-    judge(line, words);
+    judge(rt, line, words)
 }
 
-fn run(text: &[u8]) {
+fn run(rt: &impl Print, text: &[u8]) -> io::Result<()> {
     let mut words = [0u64; WORDS];
     let mut at = 0;
     while at < text.len() {
         let e = line_end(text, at);
-        read_line(&text[at..e], &mut words);
+        read_line(rt, &text[at..e], &mut words)?;
         at = e + 1;
     }
+    Ok(())
 }
 
-fn main() {
-    let mut text = io::large_buffer();
-    let length = io::read_full(STDIN_FILENO, &mut text);
-    run(&text[..length]);
+fn main(rt: HostRuntime) -> io::Result<()> {
+    let mut text = [0u8; 65536];
+    let length = cli_files::read_full(&mut rt.stdin(), &mut text);
+    run(&rt, &text[..length])
 }

@@ -1,5 +1,4 @@
 use borrow.Author.Rules.{rules}
-use Prim.Native.Nat.{◌-◌}
 use Rattle.run_queue.proofs.RuleLaws.{no, apart_back, apart_none}
 use Rattle.run_queue.proofs.rules.apart.Goals as goal
 

@@ -1,5 +1,4 @@
 use borrow.Author.Rules.{rules}
-use Prim.Native.Nat.{◌-◌}
 use borrow.Author.Tests.{not-false}
 use Rattle.run_queue.proofs.RuleLaws.{no, distinct_back, distinct_none}
 use Rattle.run_queue.proofs.rules.distinct.Goals as goal

@@ -1,5 +1,4 @@
 use borrow.Author.Rules.{rules}
-use Prim.Native.Nat.{◌-◌}
 use Rattle.run_queue.proofs.RuleLaws.{no, ranged_back, ranged_none}
 use Rattle.run_queue.proofs.rules.ranged.Goals as goal
 

@@ -1,5 +1,4 @@
 use borrow.Author.Rules.{rules}
-use Prim.Native.Nat.{◌-◌}
 use native.Mathlib.Omega.{arith}
 use Rattle.run_queue.proofs.RuleLaws.{no, total_turn, total_done}
 use Rattle.run_queue.proofs.rules.total_fits.Goals as goal
