@@ -139,6 +139,8 @@ class Function:
         self.parents = {p[0]: p for p in of["places"]}
         self.at = {norm(n[0]): a[0] for n, a in zip(of["needs"], of["asked_at"])}
         self.chain = {}
+        self.own = {}
+        self.arm_of = {p[0]: a for p, a in zip(of["places"], of["arms"])}
         self.loops = {norm(a): (b, vs) for (a, b), vs in of["loops"]}
         for a, (b, vs) in list(self.loops.items()):
             self.steps[a] = b
@@ -148,9 +150,15 @@ class Function:
     def stand(self, need):
         """The steps on the way to a goal, the nearest first."""
         self.chain = {}
+        self.own = {}
         place = self.at.get(need)
         while place in self.parents:
             row = self.parents[place]
+            if self.arm_of.get(place):
+                name, _, rows = self.arm_of[place]
+                for new, step, path in rows:
+                    if new.endswith("-own"):
+                        self.own.setdefault(norm(step), ["c", name, new])
             if row[2][0]:
                 self.chain.setdefault(norm(row[2][0]), row[2][1])
             place = row[1]
@@ -181,6 +189,8 @@ class Function:
             if k and key in self.arms:
                 name, new = self.arms[key]
                 return ".".join(["c", name, new] + rest[k:])
+        if step in self.own:
+            return ".".join(self.own[step] + rest)
         new = self.chain.get(step) or self.steps.get(step)
         if new is None:
             return ".".join(["c", fields[0]] + rest)
@@ -194,8 +204,13 @@ class Function:
 
     def turned(self, body):
         aliases = {"c"}
-        for m in re.finditer(r"let (" + N + r") = c((?:\.before)*) in", body):
-            aliases.add(m[1])
+        more = True
+        while more:
+            more = False
+            for m in re.finditer(r"let (" + N + r") = (" + N + r")((?:\.before)*) in", body):
+                if m[2] in aliases and m[1] not in aliases:
+                    aliases.add(m[1])
+                    more = True
 
         def one(m):
             out = self.path(m[1], m[2][1:].split("."), aliases)
@@ -324,7 +339,7 @@ def convert(crate, path, of, said):
             said.append("%s the answer %s is read as none" % (where, name))
             continue
         binders, body = eq[1].split(), eq[2]
-        if " ".join(body.split()) in TRIVIAL:
+        if " ".join(body.split()) in TRIVIAL and not re.search(r"(?m)^unfolding ", block):
             continue
         if new is None:
             said.append("%s no goal %s any more" % (where, k[1]))

@@ -55,7 +55,7 @@ pub clearing_worked_out : (d : Desk) (t : Tables) (y : Beginning) (c : Cleared d
 clearing_worked_out d t y c = sym (wiped_back y) ∙ ap (λ (z : Wiped). beginning_of z) c.is
 
 pub clearing_determined : (d : Desk) (t : Tables) (y z : Beginning) → Cleared d t (wiped_as y) → Cleared d t (wiped_as z) → y ≡ z
-clearing_determined d t y z c e = sym (wiped_back y) ∙ ap (λ (u : Wiped). beginning_of u) (rules.cleared-determined d t (wiped_as y) (wiped_as z) c e) ∙ wiped_back z
+clearing_determined d t y z c e = sym (wiped_back y) ∙ ap (λ (u : Wiped). beginning_of u) (rules.cleared_determined d t (wiped_as y) (wiped_as z) c e) ∙ wiped_back z
 
 pub clearing_short : (d : Desk) (row : List Account) (batches references bins : List ℕ) (y : Beginning) → (length row ≡ 64 → ⊥) → Cleared d (tables_in row batches references bins) (wiped_as y)
     → y ≡ record { start = record { answer = Refused BrokenTables; desk = d }; row = row; batches = batches; references = references; bins = bins }

@@ -148,7 +148,7 @@ one_of_calls x k y c = record {
 one_of_clearings : (x : EngineWords) (y : Started) → ClearedWords x y → OneOfClearings x y
 unfolding clear_words
 one_of_clearings x y c = record {
-  one = λ z d. words.clearing-determined x y z c d;
+  one = λ z d. words.clearing_determined x y z c d;
   broken_tables = λ h. refuses c.long c.says c.is h;
   fresh = λ l. done x y l c;
 }

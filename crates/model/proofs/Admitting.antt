@@ -219,9 +219,9 @@ module _ (s : State) (r : Reading) (stream : ℕ) where
           number = (g.number.0, omega (arith, m.count, g.number.1));
           some = rw (lines_many (lines s r)) g.some;
           few = rw (lines_many (lines s r)) g.few;
-          priced = lines_priced (banks_in ps) (lines s r) m.lines-hold g.money;
+          priced = lines_priced (banks_in ps) (lines s r) m.lines_hold g.money;
           lettered = lines_lettered (lines s r) g.letters;
         });
         apart = rw (numbers_last b.messages (arrived s r)) (once_last r.terms.number (numbers b.messages) t.apart (no_number r.terms.number b.messages m.new));
-        banks_differ = rw (payments_last b.messages (arrived s r)) (lines_distinct (lines s r) (banks_in ps) ps (covers_banks s r ps) t.banks_differ m.lines-hold);
+        banks_differ = rw (payments_last b.messages (arrived s r)) (lines_distinct (lines s r) (banks_in ps) ps (covers_banks s r ps) t.banks_differ m.lines_hold);
       }

@@ -255,16 +255,16 @@ pub accounted : (ds : List Deed) → Accounted (then ds) (answered ds)
 accounted ds = once.accounted readers ds
 
 pub only_noted : (ds : List Deed) (r : Code) → times_in r (todays (then ds)) ≡ 0 → times_in r (answered ds) ≡ 0
-only_noted ds r h = once.only-noted readers ds r h
+only_noted ds r h = once.only_noted readers ds r h
 
 pub never_twice : (ds : List Deed) (r : Code) → times_in r (answered ds) ≤ 1
-never_twice ds r = once.never-twice readers ds r
+never_twice ds r = once.never_twice readers ds r
 
 pub none_left_at_close : (ds : List Deed) → (then ds).day.phase ≡ Closed → awaiting (then ds) ≡ []
-none_left_at_close ds h = once.none-left-at-close readers ds h
+none_left_at_close ds h = once.none_left_at_close readers ds h
 
 pub answered_once : (ds : List Deed) → (then ds).day.phase ≡ Closed → (r : Code) → 0 < times_in r (todays (then ds)) → times_in r (answered ds) ≡ 1
-answered_once ds h r n = once.answered-once readers ds h r n
+answered_once ds h r n = once.answered_once readers ds h r n
 
 -- ---- an opening leaves its book, and what was remembered
 

@@ -93,7 +93,7 @@ module _ (quick : Bool) (batch : ℕ → List Payment) where
       (λ e k v t.
       let w = walk_turn quick batch a m p q t in
       let h : Trusted batch quick (turn quick batch a m p).books (turn quick batch a m p).memory = trusted_turn batch quick a m p g in
-      let i = walk_quiet a _ q (rw t at h) (rw t at n) in
+      let i = walk_quiet a (remember quick m p k) q (rw t at h) (rw t at n) in
       record { books = ap (λ (o : Outcome). o.books) w ∙ i.books; queue = ap (λ (o : Outcome). o.queue) w ∙ ap (λ (l : List ℕ). p ∷ l) i.queue; stuck = ((λ f. passes≢stops (sym f ∙ v)), i.stuck) })
 
   pub test_stuck : (f : ℕ) (a : Accounts) (m q : List ℕ) → Trusted batch quick a m → length q < f → Stuck batch (test quick batch f a m q).books (test quick batch f a m q).queue

@@ -76,10 +76,10 @@ module _ (s : List ℕ) (g : Accepted s) (t : Rows) (h : roomy t ≡ true) where
       (λ j q.
       let p : j < n = omega arith in
       rw (
-        column_at t.codes Code f n j (omega (arith, wide.for-codes)) p,
-        column_at t.flags Flags f n j (omega (arith, wide.for-flags)) p,
-        column_at t.balances Balance f n j (omega (arith, wide.for-balances)) p,
-        column_at t.sublimits Sublimit f n j (omega (arith, wide.for-sublimits)) p,
+        column_at t.codes Code f n j (omega (arith, wide.for_codes)) p,
+        column_at t.flags Flags f n j (omega (arith, wide.for_flags)) p,
+        column_at t.balances Balance f n j (omega (arith, wide.for_balances)) p,
+        column_at t.sublimits Sublimit f n j (omega (arith, wide.for_sublimits)) p,
       ))
 
   pub streams_kept : streams_of (filled s t) (entries_at s 0) ≡ streams_in s
@@ -93,8 +93,8 @@ module _ (s : List ℕ) (g : Accepted s) (t : Rows) (h : roomy t ≡ true) where
       (λ j q.
       let p : j < n = omega arith in
       rw (
-        row_at t.streams (stream_row (each f 0 n)) (2 * j) (omega (arith, wide.for-streams)) (omega arith),
-        row_at t.streams (stream_row (each f 0 n)) (2 * j + 1) (omega (arith, wide.for-streams)) (omega arith),
+        row_at t.streams (stream_row (each f 0 n)) (2 * j) (omega (arith, wide.for_streams)) (omega arith),
+        row_at t.streams (stream_row (each f 0 n)) (2 * j + 1) (omega (arith, wide.for_streams)) (omega arith),
         row_code f 0 n j p,
         row_sender f 0 n j p,
         zero-add j,
@@ -117,11 +117,11 @@ module _ (s : List ℕ) (g : Accepted s) (t : Rows) (h : roomy t ≡ true) where
         le-leb n 8 few,
         le-leb 1 m (banks_some s b g),
         le-leb m 64 most,
-        le-leb (2 * n) (length t.streams) (omega (arith, wide.for-streams)),
-        le-leb m (length t.codes) (omega (arith, wide.for-codes)),
-        le-leb m (length t.flags) (omega (arith, wide.for-flags)),
-        le-leb m (length t.balances) (omega (arith, wide.for-balances)),
-        le-leb m (length t.sublimits) (omega (arith, wide.for-sublimits)),
+        le-leb (2 * n) (length t.streams) (omega (arith, wide.for_streams)),
+        le-leb m (length t.codes) (omega (arith, wide.for_codes)),
+        le-leb m (length t.flags) (omega (arith, wide.for_flags)),
+        le-leb m (length t.balances) (omega (arith, wide.for_balances)),
+        le-leb m (length t.sublimits) (omega (arith, wide.for_sublimits)),
       )
 
   -- what `read` left in the rows, given to `write`, is the book itself

@@ -15,14 +15,12 @@ put_payment-requires c = omega (arith, put_long c.loop-n.invariant.1)
 
 pub returns-then-not-more : goal.returns-then-not-more
 returns-then-not-more c =
-    let read = c in
-    put_last read.before.before.loop.invariant.1 (omega arith) read.read-payment.ensures c.in-One.is c.put_payment.ensures c.more.ensures c.if-not-more.true-raw
+    put_last c.loop-n.invariant.1 (omega arith) c.read_payment-r.ensures c.in-One.is c.put_payment.ensures c.more.ensures c.if-not-more.true-raw
 
 pub loop-n-preserved : goal.loop-n-preserved
 loop-n-preserved c = (
   omega arith,
-  let read = c in
-      put_on read.before.before.loop.invariant.1 (omega arith) read.read-payment.ensures c.in-One.is c.put_payment.ensures c.more.ensures c.if-not-more.false-raw,
+  put_on c.loop-n.invariant.1 (omega arith) c.read_payment-r.ensures c.in-One.is c.put_payment.ensures c.more.ensures c.if-not-more.false-raw,
 )
 
 pub returns : goal.returns

@@ -38,18 +38,18 @@ pub returns-in_default-2 : goal.returns-in_default-2
 unfolding days_in months february
 returns-in_default-2 c =
     let m = c.args.month in
-    let r = c.in_default-1.rest in record { value = no_month c.args.year m (past m c.if-month-lt9.false (none_of (4 ∷ 6 ∷ 9 ∷ 11 ∷ []) m r.0.0.1) (none_of (1 ∷ 3 ∷ 5 ∷ 10 ∷ 12 ∷ []) m r.1)); small = omega arith }
+    let r = c.in_default.in_default-own.rest in record { value = no_month c.args.year m (past m c.in_default.if-month-lt9-own.false (none_of (4 ∷ 6 ∷ 9 ∷ 11 ∷ []) m r.0.0.1) (none_of (1 ∷ 3 ∷ 5 ∷ 10 ∷ 12 ∷ []) m r.1)); small = omega arith }
 
 pub returns-in-1-to-12 : goal.returns-in-1-to-12
 unfolding days_in months february
-returns-in-1-to-12 c = record { value = ⊎_elim (λ e. rw e) (⊎_elim (λ e. rw e) (⊎_elim (λ e. rw e) (⊎_elim (λ e. rw e) (λ e. rw e)))) c.in-1-to-12.keys3; small = omega arith }
+returns-in-1-to-12 c = record { value = ⊎_elim (λ e. rw e) (⊎_elim (λ e. rw e) (⊎_elim (λ e. rw e) (⊎_elim (λ e. rw e) (λ e. rw e)))) c.in-1-to-12.in-1-to-12-own.keys3; small = omega arith }
 
 pub returns-in-1-to-12-2 : goal.returns-in-1-to-12-2
 unfolding days_in months february
 returns-in-1-to-12-2 c =
     let m = c.args.month in
-    let r = c.in_default-1.rest in
+    let r = c.in-1-to-12.in_default-own.rest in
     let a = none_of (4 ∷ 6 ∷ 9 ∷ 11 ∷ []) m r.0.0.1 in
     let b = none_of (1 ∷ 3 ∷ 5 ∷ 10 ∷ 12 ∷ []) m r.1 in record { value = july_august c.args.year m
-          (from_seven m c.if-month-lt1.false b.0 r.0.1 b.1.0 a.0 b.1.1.0 a.1.0)
-          c.if-month-lt9.true; small = omega arith }
+          (from_seven m c.in-1-to-12.if-month-lt1-own.false b.0 r.0.1 b.1.0 a.0 b.1.1.0 a.1.0)
+          c.in-1-to-12.if-month-lt9-own.true; small = omega arith }

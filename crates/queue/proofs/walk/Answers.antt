@@ -17,9 +17,7 @@ note-reached-requires c =
 
 pub loop-i-preserved : goal.loop-i-preserved
 loop-i-preserved c =
-    let tried = c in
-    let at = tried.before.before.before.before in
-    step _ _ _ _ _ _ _ _ _ _ _ _ _ _ _ at.before.loop.invariant at.loop-test.true _ _ _ tried.attempt.ensures _ _ _ _ c.note-reached.ensures
+    step _ _ _ _ _ _ _ _ _ _ _ _ _ _ _ c.loop-i.invariant c.loop-i-test.true _ _ _ c.attempt-step.ensures _ _ _ _ c.note-reached.ensures
 
 pub returns : goal.returns
 returns c = search (rules, finish)

@@ -3,4 +3,4 @@ use Rattle.response_read.proofs.settlement_of.Goals as goal
 
 pub returns : goal.returns
 unfolding settlement_of
-returns c = simp (c.code_of_lem.ensures, c.code_of-2.ensures)
+returns c = simp (c.code_of.ensures, c.code_of-2.ensures)

@@ -277,8 +277,8 @@ module _ (t : List ℕ) (n today : ℕ) where
           let k : kept_at t n today (i - 1) ≡ false = sym e ∙ not-true a f in
           record {
             few = omega (arith, u.few);
-            first_long = u.first-long;
-            next_long = u.next-long;
+            first_long = u.first_long;
+            next_long = u.next_long;
             chained = chain_skip first next (i - 1) k under_chained;
             unlike = all_skip (i - 1) inside k under_unlike;
           }
@@ -290,8 +290,8 @@ module _ (t : List ℕ) (n today : ℕ) where
         pub under_on : not r ≡ false → length first' ≡ length first → length next' ≡ length next → Under first' next' (i - 1)
         under_on g l m = record {
           few = omega (arith, u.few);
-          first_long = l ∙ u.first-long;
-          next_long = m ∙ u.next-long;
+          first_long = l ∙ u.first_long;
+          next_long = m ∙ u.next_long;
           chained = x.chained (not-false r g);
           unlike = all_more (i - 1) inside (under_kept f) r x.says g under_unlike;
         }

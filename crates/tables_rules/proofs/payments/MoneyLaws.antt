@@ -175,8 +175,8 @@ module _ (row : List ℕ) (n : ℕ) where
         let a = ap credits p in
         let b = ap debits p in
         record {
-          same_credits = omega (arith, a, s.same-credits);
-          same_debits = omega (arith, b, s.same-debits);
+          same_credits = omega (arith, a, s.same_credits);
+          same_debits = omega (arith, b, s.same_debits);
           small = omega (arith, s.small, sum_cents h);
           rest = (rw (pays_cut j h) at s.rest).1;
         }
@@ -192,8 +192,8 @@ module _ (row : List ℕ) (n : ℕ) where
             let a = ap credits p in
             let b = ap debits p in
             record {
-              same_credits = omega (arith, a, s.same-credits);
-              same_debits = omega (arith, b, s.same-debits);
+              same_credits = omega (arith, a, s.same_credits);
+              same_debits = omega (arith, b, s.same_debits);
               small = omega (arith, s.small, sum_cents h);
               rest = (rw (pays_cut j h) at s.rest).1;
             }
@@ -204,8 +204,8 @@ module _ (row : List ℕ) (n : ℕ) where
         let a = ap credits (pays_none j h) in
         let b = ap debits (pays_none j h) in
         by_bool (eqb c d)
-        (λ y. rw y (let z : c ≡ d = eqb-true c d y in omega (arith, a, b, s.same-credits, s.same-debits)))
-        (λ y. rw y (λ x. eqb-false c d y (omega (arith, a, b, s.same-credits, s.same-debits))))
+        (λ y. rw y (let z : c ≡ d = eqb-true c d y in omega (arith, a, b, s.same_credits, s.same_debits)))
+        (λ y. rw y (λ x. eqb-false c d y (omega (arith, a, b, s.same_credits, s.same_debits))))
 
   -- a debit of a bank
   abbrev pub Sought : ℕ → ℕ → Type 0

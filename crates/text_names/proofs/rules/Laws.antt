@@ -19,9 +19,9 @@ use Rattle.text_names.specs.rules.Names.{all_are, same_code, is_whole, forbidden
 
 -- ---- yes and no
 
-pub and-true : (x y : Bool) → (x && y) ≡ true → (x ≡ true) × (y ≡ true)
-and-true true y h = (refl, h)
-and-true false y h = absurd (false≢true h)
+pub and_true : (x y : Bool) → (x && y) ≡ true → (x ≡ true) × (y ≡ true)
+and_true true y h = (refl, h)
+and_true false y h = absurd (false≢true h)
 
 -- two tests that are passed together are equal
 same_test : (x y : Bool) → (x ≡ true → y ≡ true) → (y ≡ true → x ≡ true) → x ≡ y
@@ -33,7 +33,7 @@ same_test false false f g = refl
 
 pub same_code_lem : (c d : Code) → same_code c d ≡ true → c ≡ d
 same_code_lem c d h =
-    let g = and-true (eqb c.high d.high) (eqb c.low d.low) h in
+    let g = and_true (eqb c.high d.high) (eqb c.low d.low) h in
     ap (λ (x : ℕ). record { high = x; low = c.low }) (eqb-true c.high d.high g.0) ∙ ap (λ (x : ℕ). record { high = d.high; low = x }) (eqb-true c.low d.low g.1)
 
 pub same_self : (c : Code) → same_code c c ≡ true
@@ -55,8 +55,8 @@ long_most c = omega (arith, named_most (spelled c), spelled_length c)
 
 pub bin_eight : (c : Code) → is_bin c ≡ true → length (long_text c) ≡ 8
 bin_eight c h =
-    let g = and-true (is_whole c) (eqb (length (long_text c)) 8 && (all_are is_code (take 4 (long_text c)) && all_are is_digit (drop 4 (long_text c)))) h in
-    eqb-true (length (long_text c)) 8 (and-true (eqb (length (long_text c)) 8) (all_are is_code (take 4 (long_text c)) && all_are is_digit (drop 4 (long_text c))) g.1).0
+    let g = and_true (is_whole c) (eqb (length (long_text c)) 8 && (all_are is_code (take 4 (long_text c)) && all_are is_digit (drop 4 (long_text c)))) h in
+    eqb-true (length (long_text c)) 8 (and_true (eqb (length (long_text c)) 8) (all_are is_code (take 4 (long_text c)) && all_are is_digit (drop 4 (long_text c))) g.1).0
 
 -- ---- a loop over the bytes of a class
 
@@ -99,7 +99,7 @@ named_bytes (x ∷ s) b = go (eqb x 0) refl (named_bytes s b.1)
 
 zeros_filled : (s : List ℕ) → all_are is_zero s ≡ true → filled (length s) [] ≡ s
 zeros_filled [] z = refl
-zeros_filled (x ∷ s) z = let g = and-true (eqb x 0) (all_are is_zero s) z in rw (eqb-true x 0 g.0, zeros_filled s g.1)
+zeros_filled (x ∷ s) z = let g = and_true (eqb x 0) (all_are is_zero s) z in rw (eqb-true x 0 g.0, zeros_filled s g.1)
 
 named_filled : (s : List ℕ) → all_are is_zero (drop (length (named s)) s) ≡ true → filled (length s) (named s) ≡ s
 unfolding named
@@ -176,7 +176,7 @@ module _ (c : Code) where
     whole_zeros : is_whole c ≡ true → all_are is_zero (drop (length text) (spelled c)) ≡ true
     unfolding long_of spelled
     whole_zeros h =
-        let g = and-true (eqb (packed 8 text) c.high) (eqb (packed 8 (drop 8 text)) c.low) h in
+        let g = and_true (eqb (packed 8 text) c.high) (eqb (packed 8 (drop 8 text)) c.low) h in
         let a : packed 8 text ≡ c.high = eqb-true (packed 8 text) c.high g.0 in
         let b : packed 8 (drop 8 text) ≡ c.low = eqb-true (packed 8 (drop 8 text)) c.low g.1 in
         let e : unpacked 8 c.high ++ unpacked 8 c.low ≡ filled 16 text =

@@ -6,10 +6,11 @@ use borrow.Author.Tests.{lt-ltb, le-ltb}
 use Rattle.text_scan.specs.Scan.{most}
 use Rattle.text_scan.proofs.Laws.{going_start, going_end, going_stop, going_none, going_on, going_fits, most_18}
 use Rattle.text_scan.proofs.digits.Goals as goal
+use Rattle.text_scan.proofs.digits.Goals.{then-max-lt18, else-max-lt18}
 
 pub loop-n-init : goal.loop-n-init
 loop-n-init c = let n = c.args.max in
-    let z : c.if-max-lt18.n ≡ most n = ⊎_elim (λ v. rw (lt-ltb n 18 v.0.taken) v.1) (λ v. rw (le-ltb n 18 v.0.left) v.1) c.if-max-lt18.branch-raw in
+    let z : c.if-max-lt18.n ≡ most n = elim c.if-max-lt18.branch [ then-max-lt18 w ↦ rw (lt-ltb n 18 w.if-max-lt18.true) w.n-is | else-max-lt18 w ↦ rw (le-ltb n 18 w.if-max-lt18.false) w.n-is ] in
     rw z (going_start _ _ (most n))
 
 pub returns-then-j-s : goal.returns-then-j-s

@@ -8,4 +8,4 @@ pub returns-in-134 : goal.returns-in-134
 returns-in-134 c = recall_kind _ _ c.value-kind.ensures c.in-134.is c.write_recall.ensures
 
 pub returns-in_default : goal.returns-in_default
-returns-in_default c = other_kind _ _ c.value-kind.ensures c.in_default.rest.0.1 c.in_default.rest.1
+returns-in_default c = other_kind _ _ c.value-kind.ensures c.in_default.in_default-own.rest.0.1 c.in_default.in_default-own.rest.1

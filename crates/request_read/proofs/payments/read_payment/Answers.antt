@@ -15,7 +15,4 @@ returns-in_default-k c = search no_bank
 
 pub returns : goal.returns
 returns c =
-    let letters = c in
-    let amount = letters.before.before.before.before in
-    let side = amount.before.before.before.before in
-    whole _ _ side.read-side.ensures amount.before.before.f.given.1 amount.read-amount.ensures letters.before.before.g.given.1 letters.read_letters.ensures c.in-Good-h.is c.read_bank-k.ensures c.in-Good-k.is
+    whole _ _ c.read_side-f.ensures c.in-Good.is c.read_amount-g.ensures c.in-Good-g.is c.read_letters-h.ensures c.in-Good-h.is c.read_bank-k.ensures c.in-Good-k.is

@@ -13,8 +13,7 @@ pub returns-then-not-more : goal.returns-then-not-more
 returns-then-not-more c = search going_last
 
 pub loop-n-preserved : goal.loop-n-preserved
-loop-n-preserved c = let l = c in
-    going_on l.loop.invariant (omega arith) c.read_payment.ensures c.in-One.is c.more.ensures c.if-not-more.false-raw
+loop-n-preserved c = going_on c.loop-n.invariant (omega arith) c.read_payment.ensures c.in-One.is c.more.ensures c.if-not-more.false-raw
 
 pub returns : goal.returns
 returns c = search going_full

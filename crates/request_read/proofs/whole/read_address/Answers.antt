@@ -11,12 +11,8 @@ returns-in_default-g c = search address_2
 
 pub returns-in_default-h : goal.returns-in_default-h
 returns-in_default-h c =
-    let stream = c in
-    let empty = stream.before.before.before.before in
-    address_3 _ _ empty.read-empty.ensures stream.before.before.f.given.1 stream.read-stream.ensures c.in-Good-g.is c.read_bin-h.ensures c.in_default-h.is c.why-in_default-h.ensures c.to_stream.ensures
+    address_3 _ _ c.read_empty-f.ensures c.in-Good.is c.read_stream-g.ensures c.in-Good-g.is c.read_bin-h.ensures c.in_default-h.is c.why-in_default-h.ensures c.to_stream.ensures
 
 pub returns : goal.returns
 returns c =
-    let stream = c in
-    let empty = stream.before.before.before.before in
-    address_4 _ _ empty.read-empty.ensures stream.before.before.f.given.1 stream.read-stream.ensures c.in-Good-g.is c.read_bin-h.ensures c.in-Good-h.is c.name_at.ensures
+    address_4 _ _ c.read_empty-f.ensures c.in-Good.is c.read_stream-g.ensures c.in-Good-g.is c.read_bin-h.ensures c.in-Good-h.is c.name_at.ensures

@@ -8,15 +8,12 @@ returns-in_default c = search beginning_1
 
 pub returns-in_default-g : goal.returns-in_default-g
 returns-in_default-g c =
-    let reference = c in
-    beginning_2 _ reference.before.new.ensures reference.read-reference.ensures c.in-Good.is c.read_sub_type-g.ensures c.in_default-g.is c.why-in_default-g.ensures c.unread-in_default-g.ensures
+    beginning_2 _ c.new.ensures c.read_reference-f.ensures c.in-Good.is c.read_sub_type-g.ensures c.in_default-g.is c.why-in_default-g.ensures c.unread-in_default-g.ensures
 
 pub returns-in-131 : goal.returns-in-131
 returns-in-131 c =
-    let reference = c in
-    beginning_3 _ reference.before.new.ensures reference.read-reference.ensures c.in-Good.is c.read_sub_type-g.ensures c.in-Good-g.is (is_member (131 ∷ 133 ∷ []) _ c.in-131.is) c.name_at.ensures c.read_addressed.ensures
+    beginning_3 _ c.new.ensures c.read_reference-f.ensures c.in-Good.is c.read_sub_type-g.ensures c.in-Good-g.is (is_member (131 ∷ 133 ∷ []) _ c.in-131.is) c.name_at.ensures c.read_addressed.ensures
 
 pub returns-in_default-n : goal.returns-in_default-n
 returns-in_default-n c =
-    let reference = c in
-    beginning_4 _ reference.before.new.ensures reference.read-reference.ensures c.in-Good.is c.read_sub_type-g.ensures c.in-Good-g.is (not_member (131 ∷ 133 ∷ []) _ c.in_default-n.rest.1) c.wrong.ensures c.unread-in_default-n.ensures
+    beginning_4 _ c.new.ensures c.read_reference-f.ensures c.in-Good.is c.read_sub_type-g.ensures c.in-Good-g.is (not_member (131 ∷ 133 ∷ []) _ c.in_default-n.in_default-n-own.rest.1) c.wrong.ensures c.unread-in_default-n.ensures

@@ -11,15 +11,11 @@ returns-in_default-ending c = search settlement_2
 
 pub returns-in_default-f : goal.returns-in_default-f
 returns-in_default-f c =
-    let payments = c in
-    let terms = payments.before.before.before.before in
-    settlement_3 _ _ _ terms.read-terms.ensures payments.before.before.t.given.1 payments.read-payments.ensures c.in-Done.is c.read_count-f.ensures c.in_default-f.is c.why-in_default-f.ensures c.refused-in_default-f.ensures
+    settlement_3 _ _ _ c.read_terms-t.ensures c.in-Whole.is c.read_payments-p.ensures c.in-Done.is c.read_count-f.ensures c.in_default-f.is c.why-in_default-f.ensures c.refused-in_default-f.ensures
 
 pub returns-then-next-s : goal.returns-then-next-s
 returns-then-next-s c =
-    let payments = c in
-    let terms = payments.before.before.before.before in
-    settlement_4 _ _ _ terms.read-terms.ensures payments.before.before.t.given.1 payments.read-payments.ensures c.in-Done.is c.read_count-f.ensures c.in-Good.is c.if-next-s.true c.absent.ensures c.refused-then-next-s.ensures
+    settlement_4 _ _ _ c.read_terms-t.ensures c.in-Whole.is c.read_payments-p.ensures c.in-Done.is c.read_count-f.ensures c.in-Good.is c.if-next-s.true c.absent.ensures c.refused-then-next-s.ensures
 
 pub returns : goal.returns
 returns c = search settlement_5

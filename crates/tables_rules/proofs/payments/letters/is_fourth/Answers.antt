@@ -8,4 +8,4 @@ returns-in-32 c = simp (eq-eqb _ _ c.in-32.is)
 
 pub returns-in_default : goal.returns-in_default
 unfolding is_fourth
-returns-in_default c = simp (ne_eqb _ _ c.in_default.rest.1, c.is_letter.ensures)
+returns-in_default c = simp (ne_eqb _ _ c.in_default.in_default-own.rest.1, c.is_letter.ensures)
