@@ -1,5 +1,6 @@
 // Classes of bytes, digits, and the refusal numbers.
 #![tactic(auto)]
+
 ghost use Rattle.std.specs.Prelude.{◌≡◌, ◌<◌};
 ghost use Rattle.chars.specs.Chars.{is_digit, is_letter, is_code, digit_value};
 ghost use Rattle.chars.specs.Refusals.{number_of};

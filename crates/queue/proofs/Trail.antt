@@ -11,7 +11,7 @@ use Rattle.settle.specs.Payments.{Payment, Need, needs_of}
 use Rattle.settle.specs.Settlement.{Accounts, first_uncovered}
 use Rattle.settle.specs.declared.Verdict.TheVariants.{Passes}
 use Rattle.settle.proofs.Money.{passes_cons}
-use Rattle.queue.specs.Tests.{Turn, Outcome, Seen, seen, leaves, try_of, passed_of, some, omits, turn, settle, walk, test}
+use Rattle.queue.specs.Tests.{Turn, Outcome, Seen, seen, leaves, try_of, passed_of, some, omits, turn, settle, walk, test, remember}
 use Rattle.queue.specs.Rows.{most}
 use Rattle.queue.specs.Promise.{True, AllCovered, Trail, halt, pass, All, Stuck, Off, Apart, Once}
 use Rattle.queue.specs.declared.Step.{Step}
