@@ -1,5 +1,6 @@
 // Where a book breaks: the block, the entry and the test that decide the number of the book's check.
 #![tactic(auto)]
+
 ghost use Rattle.std.specs.Prelude.{◌≡◌, ◌+◌, ◌*◌, ◌-◌, ◌≤◌, ◌<◌};
 ghost use Rattle.book_explain.specs.Faults.{first_failed, refusal_of, head_tests, date_tests, stream_entry, money_tests, bank_entry, entry_tests, stream_tests, bank_tests, bank_block_tests, book_finding};
 

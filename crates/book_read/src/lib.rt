@@ -1,5 +1,6 @@
 // The book: blocks of 512 bytes with the date, the streams and the banks. Its check and its reading.
 #![tactic(auto)]
+
 ghost use Rattle.std.specs.Prelude.{◌≡◌, true, ◌&&◌, eqb, min, ◌+◌, ◌*◌, ◌-◌, ◌≤◌, ◌<◌, ◌^◌, length, get_or, set, drop, replicate};
 ghost use Rattle.book_read.specs.declared.Answer.TheVariants.{Sound};
 ghost use Rattle.std.proofs.lemmas.List.Edits.{sets};

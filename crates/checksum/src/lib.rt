@@ -1,5 +1,6 @@
 // The check of a block: the sum of its 127 words, modulo 2^32.
 #![tactic(auto)]
+
 ghost use Rattle.std.specs.Prelude.{◌≡◌, ◌+◌, ◌<◌, ◌≤◌, length, drop};
 ghost use Rattle.checksum.specs.Sum.{word_of, sum_words, block_sum};
 

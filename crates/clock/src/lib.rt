@@ -1,5 +1,6 @@
 // Times of the day. The clock counts seconds from midnight; an activation is a minute of the day.
 #![tactic(auto)]
+
 ghost use Rattle.std.specs.Prelude.{◌≡◌};
 ghost use Rattle.clock.specs.Clock.{clock_of, has_begun, hhmmss_of, minute_of, hhmm_of, second_of};
 

@@ -1,5 +1,6 @@
 // Codes as numbers, big-endian: four characters as one, one to sixteen as two.
 #![tactic(auto)]
+
 ghost use Rattle.std.specs.Prelude.{◌≡◌, ◌+◌, ◌≤◌, ◌<◌, ◌^◌, length, get_or, take, drop};
 ghost use Rattle.codes.specs.Codes.{no_code, packed, short_at, long_at, unpacked, short_text, spelled, long_text};
 

@@ -1,5 +1,6 @@
 // Dates of 2000 to 2099. A date is the number YYMMDD; a day number counts from 2000-01-01, which is 0.
 #![tactic(auto)]
+
 ghost use Rattle.std.specs.Prelude.{◌≡◌, ◌≤◌};
 ghost use Rattle.dates.specs.Dates.{months, days_in, days_before, month_day, day_of, date_of, is_remembered};
 

@@ -1,6 +1,6 @@
 -- Laws of what is kept of a list of places, and of the order that a test leaves.
 use Prim.Native.Nat.{ℕ, zero, suc, ◌+◌, ◌*◌, ◌/◌, ◌≤◌, ◌<◌}
-use mathlib.Core.Path.{◌≡◌, refl, sym, ap, ◌∙◌}
+use mathlib.Core.Path.{◌≡◌, refl, sym, ap, subst, ◌∙◌}
 use mathlib.Core.Bool.{Bool, true, false, ◌&&◌, ◌||◌, not}
 use mathlib.Core.List.{List, [], ◌∷◌, ◌++◌, map}
 use native.Mathlib.Omega.{arith}
@@ -115,9 +115,15 @@ module _ (quick : Bool) (batch : ℕ → List Payment) where
   abbrev Kept-by : List ℕ → Outcome → Type 0
   Kept-by q o = o.queue ≡ keep (λ p. not (member p o.done)) q
 
-  stays_on : (p : ℕ) (q : List ℕ) (o : Outcome) (s : Step) → stays s p ≡ p ∷ [] → leaves s p ≡ [] → Off p o.done → Kept-by q o → Kept-by (p ∷ q) (noted s p o)
+  put_first : (p : ℕ) (q : List ℕ) (o : Outcome) (front gone : List ℕ) → front ≡ p ∷ [] → gone ≡ [] → Off p o.done → Kept-by q o
+      → front ++ o.queue ≡ keep (λ x. not (member x (gone ++ o.done))) (p ∷ q)
   unfolding keep
-  stays_on p q o s x y f h = rw (x, y, no_member p o.done (off_none p o.done f)) (ap (λ (l : List ℕ). p ∷ l) h)
+  put_first p q o front gone x y f h =
+      subst (λ (g : List ℕ). front ++ o.queue ≡ keep (λ x. not (member x (g ++ o.done))) (p ∷ q)) (sym y)
+      (rw (x, no_member p o.done (off_none p o.done f)) (ap (λ (l : List ℕ). p ∷ l) h))
+
+  stays_on : (p : ℕ) (q : List ℕ) (o : Outcome) (s : Step) → stays s p ≡ p ∷ [] → leaves s p ≡ [] → Off p o.done → Kept-by q o → Kept-by (p ∷ q) (noted s p o)
+  stays_on p q o s x y f h = put_first p q o (stays s p) (leaves s p) x y f h
 
   goes_off : (p : ℕ) (q : List ℕ) (o : Outcome) → Off p q → Kept-by q o → Kept-by (p ∷ q) (noted Passed p o)
   unfolding keep

@@ -123,6 +123,24 @@ module _ (s : State) (r : Reading) (h : Stood s.house.banks s.batches) where
     own_row FutureDate future = refl
     own_row UnknownBank unknown = refl
     own_row SuspendedBank suspended = refl
+    own_row Unequal x' = elim x' [ ]
+    own_row NothingThere x'' = elim x'' [ ]
+    own_row Rattle.chars.specs.declared.Refusal.TheVariants.Recalled x3 = elim x3 [ ]
+    own_row NoRoom x4 = elim x4 [ ]
+    own_row Rattle.chars.specs.declared.Refusal.TheVariants.WrongMoment x5 = elim x5 [ ]
+    own_row Rattle.chars.specs.declared.Refusal.TheVariants.BrokenTables x6 = elim x6 [ ]
+    own_row Rattle.chars.specs.declared.Refusal.TheVariants.ShortBuffer x7 = elim x7 [ ]
+    own_row Rattle.chars.specs.declared.Refusal.TheVariants.BookLength x8 = elim x8 [ ]
+    own_row Rattle.chars.specs.declared.Refusal.TheVariants.BookCheck x9 = elim x9 [ ]
+    own_row Rattle.chars.specs.declared.Refusal.TheVariants.BookHeader x10 = elim x10 [ ]
+    own_row OutOfRange x11 = elim x11 [ ]
+    own_row Rattle.chars.specs.declared.Refusal.TheVariants.BookTotal x12 = elim x12 [ ]
+    own_row WrongSender x13 = elim x13 [ ]
+    own_row UsedReference x14 = elim x14 [ ]
+    own_row WrongEsa x15 = elim x15 [ ]
+    own_row Rattle.chars.specs.declared.Refusal.TheVariants.WrongLetter x16 = elim x16 [ ]
+    own_row Rattle.chars.specs.declared.Refusal.TheVariants.Unsettled x17 = elim x17 [ ]
+    own_row Rattle.chars.specs.declared.Refusal.TheVariants.OtherSubType x18 = elim x18 [ ]
 
     lines_broken : (n : ℕ) (taken : List ℕ) (ls : List Line) → Each (λ x. Broken x.fault) (line_rules s r n taken ls)
     unfolding line_rules

@@ -92,12 +92,20 @@ module _ (e : Engine) (c : Call) where
   judged_alike Done (SubLimit n v) k h = stepped_alike (act s (changes_sublimit n v) c.asked.input) h
   judged_alike Done (Status n b l) k h = stepped_alike (act s (changes_status n b l) c.asked.input) h
   judged_alike (Refused r) x k h = record { out = refl; tries = refl; engine = refl }
+  judged_alike Done Opening k h = elim k [ ]
+  judged_alike Done Tick k h = elim k [ ]
+  judged_alike Done Close k h = elim k [ ]
+  judged_alike Done (ClosingBook _) k h = elim k [ ]
 
   same_judge : (x : Action) → Asks x → judge e.state (asking x c) ≡ judge e.state (asking Tick c)
   unfolding judge
   same_judge (Message n) k = refl
   same_judge (SubLimit n v) k = refl
   same_judge (Status n b l) k = refl
+  same_judge Opening k = elim k [ ]
+  same_judge Tick k = elim k [ ]
+  same_judge Close k = elim k [ ]
+  same_judge (ClosingBook _) k = elim k [ ]
 
   pub idle_is_a_tick : (x : Action) → Asks x → Idle s (act s (own_of x) c.asked.input) → Alike (call e (asking x c)) (call e (asking Tick c))
   unfolding call

@@ -1,5 +1,6 @@
 // The queue and its two tests, over lent rows: balances, sub-limits, the batches' rows, the quick test's memory, the queue and the tries.
 #![tactic(auto)]
+
 ghost use Rattle.std.specs.Prelude.{◌≡◌, true, false, map, ℕ, ◌+◌, ◌*◌, ◌≤◌, ◌<◌, eqb, length, get_or, set, take};
 ghost use Rattle.settle.specs.Payments.{payment_at, row_payments};
 ghost use Rattle.settle.specs.Settlement.{accounts};

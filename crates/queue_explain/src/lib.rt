@@ -1,5 +1,6 @@
 // Why a queued batch has not settled: the first uncovered debit, on the balances as they stand, and what its bank lacks.
 #![tactic(auto)]
+
 ghost use Rattle.std.specs.Prelude.{◌≡◌, ℕ, ◌+◌, ◌*◌, ◌≤◌, get_or};
 ghost use Rattle.settle.specs.Payments.{payment_at, payments_from, table_length, needs_of};
 ghost use Rattle.settle.specs.Settlement.{accounts, uncovered};

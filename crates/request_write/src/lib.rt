@@ -1,5 +1,6 @@
 // Requests as administrators write them: 131 and 133 from values.
 #![tactic(auto)]
+
 ghost use Rattle.std.specs.Prelude.{◌≡◌, ◌++◌, ◌+◌, ◌/◌, ◌≤◌, ◌<◌, length, drop, get_or, ltb};
 ghost use Rattle.text_scan.specs.Scan.{ten};
 ghost use Rattle.chars.specs.Words.{bytes};

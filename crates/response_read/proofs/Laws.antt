@@ -16,7 +16,7 @@ use Rattle.text_scan.specs.Scan.{lit_at}
 use Rattle.text_scan.specs.declared.At.{At}
 use Rattle.text_scan.specs.declared.At.TheVariants.{Next, No}
 use Rattle.text_scan.specs.declared.Cursor.{Cursor}
-use Rattle.text_values.specs.Values.{no_part, code_of}
+use Rattle.text_values.specs.Values.{no_part}
 use Rattle.text_values.specs.declared.Part.{Part}
 use Rattle.text_fields.specs.Fields.{absent, broken, item, field_at, why_not}
 use Rattle.text_fields.specs.declared.Break.{Break}

@@ -1,5 +1,6 @@
 // The reading of a response: 132, which tells how a batch ended, and 134, which answers a recall.
 #![tactic(auto)]
+
 ghost use Rattle.std.specs.Prelude.{◌≡◌};
 ghost use Rattle.text_values.specs.Values.{text_of};
 ghost use Rattle.response_read.specs.Reply.{refused, response_number_at, request_reference_at, batch_at, settled_at, rejected_at, ended_at, answer_at, why_lost, why_unclear, why_without, settlement_of, recall_of, settlement_at, recall_at, response_at};

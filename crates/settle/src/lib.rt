@@ -1,5 +1,6 @@
 // Settlement: the cover of one debit, the first uncovered debit of a batch, and all payments of a batch at once.
 #![tactic(auto)]
+
 ghost use Rattle.std.specs.Prelude.{◌≡◌, ℕ, ◌+◌, ◌*◌, ◌≤◌, ◌<◌, length, get_or};
 ghost use Rattle.settle.specs.Cover.{covered, esa};
 ghost use Rattle.settle.specs.Payments.{payment_at, row_payments, needs_of};

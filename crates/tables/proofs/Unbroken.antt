@@ -24,7 +24,7 @@ use Rattle.model.specs.declared.Answer.{Answer}
 use Rattle.model.specs.declared.Answer.TheVariants.{Done, Refused}
 use Rattle.model.specs.State.{Found, at, nowhere, on_found, seek, Day, Batch, Place, free, live, Batches, Known, State, is_free, on_live, place_at, payments_at}
 use Rattle.model.specs.Memory.{is_used}
-use Rattle.model.specs.Messages.{SubType, is131, is133, by_sub_type, Acted, Rule, first_broken, stream_place, administrator, bank_place, assembling, waiting, today, reference, bin, stream_code, line_rules, message_rules, is_complete, is_even, completed, is_broken_part, reject_assembled, broken_part, on_text, on_sender, repeated, fits, with_reference, on_bin, on_rules, admit, is_known, recalling, message}
+use Rattle.model.specs.Messages.{SubType, is131, is133, by_sub_type, Acted, Rule, first_broken, stream_place, administrator, bank_place, assembling, waiting, today, reference, bin, stream_code, line_bank, line_rules, message_rules, is_complete, is_even, completed, is_broken_part, reject_assembled, broken_part, on_text, on_sender, repeated, fits, with_reference, on_bin, on_rules, admit, is_known, recalling, message}
 use Rattle.model.specs.Kinds.{Kind, opens, steps, gives, kind_of, Own, receives, changes_sublimit, changes_status, nothing, own_of}
 use Rattle.model.specs.Changes.{sub_limit, has_debit, status}
 use Rattle.model.specs.Days.{is_later, checked, opening_answer}
@@ -103,7 +103,7 @@ module _ (s : State) (r : Reading) where
   lines_other : (stream : ℕ) (taken : List ℕ) (ls : List Line) → Each (λ x. Other x.fault) (line_rules s r stream taken ls)
   unfolding line_rules
   lines_other stream taken [] = tt
-  lines_other stream taken (l ∷ ls) = (refl, (refl, (refl, (refl, lines_other stream _ ls))))
+  lines_other stream taken (l ∷ ls) = (refl, (refl, (refl, (refl, lines_other stream (line_bank s r l ∷ taken) ls))))
 
   completed_other : (b : Batches) (k : Known) (p : ℕ) (x : Batch) → OtherActed (completed s r b k p x)
   unfolding completed

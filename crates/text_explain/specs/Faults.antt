@@ -1,5 +1,5 @@
 -- How a text breaks at the place that a reader names.
-use Rattle.std.specs.Prelude.{ℕ, List, Bool, cond, eqb}
+use Rattle.std.specs.Prelude.{ℕ, List, cond, eqb}
 use Rattle.chars.specs.Words.{bytes}
 use Rattle.chars.specs.Refusals.{number_of}
 use Rattle.text_scan.specs.Scan.{on_next, lit_at}

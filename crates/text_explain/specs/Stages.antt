@@ -1,5 +1,5 @@
 -- "The text has every field once, in this order, and nothing else": the tags that may stand where a line begins, and what follows a line.
-use Rattle.std.specs.Prelude.{ℕ, ◌-◌, List, Bool, true, false, cond, ◌||◌, ltb}
+use Rattle.std.specs.Prelude.{ℕ, ◌-◌, List, Bool, true, cond, ◌||◌, ltb}
 use Rattle.chars.specs.Words.{bytes}
 use Rattle.text_scan.specs.Scan.{begins}
 use Rattle.text_explain.specs.Tags.{is_side}

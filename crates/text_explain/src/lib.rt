@@ -1,6 +1,7 @@
 // What may stand where a line of a text begins, and the number of that line: what a reader expected where it
 // broke off.
 #![tactic(auto)]
+
 ghost use Rattle.std.specs.Prelude.{◌≡◌, cond, ◌+◌, ◌-◌, ◌≤◌, eqb, length, drop};
 ghost use Rattle.chars.specs.Words.{bytes};
 ghost use Rattle.text_scan.specs.Scan.{on_next, begins, lit_at};

@@ -1,5 +1,6 @@
 // A line of a text: `:tag:value` and CR LF. Each field is a step from a cursor to the next.
 #![tactic(auto)]
+
 ghost use Rattle.std.specs.Prelude.{◌≡◌};
 ghost use Rattle.chars.specs.Words.{bytes};
 ghost use Rattle.text_fields.specs.Fields.{absent, nothing, broken, item, place, field_at, why_not};

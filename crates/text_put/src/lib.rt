@@ -1,5 +1,6 @@
 // Writing into a lent buffer at a place. What does not fit is not written, and nothing else changes.
 #![tactic(auto)]
+
 ghost use Rattle.std.specs.Prelude.{◌≡◌, [], ◌∷◌, ◌+◌};
 ghost use Rattle.std.proofs.lemmas.List.Edits.{sets};
 ghost use Rattle.codes.specs.Codes.{short_text, long_text};

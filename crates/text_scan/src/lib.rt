@@ -1,5 +1,6 @@
 // Steps over a text at a place: a fixed string, a run of A-Z 0-9, a number, the end of a line.
 #![tactic(auto)]
+
 ghost use Rattle.std.specs.Prelude.{◌≡◌, ◌-◌, ◌<◌, length};
 ghost use Rattle.text_scan.specs.Scan.{lit_at, codes_at, code_at, digits_at, number_at, line_end_at, most, ten, Fits};
 

@@ -1,5 +1,6 @@
 // The values of a request's fields, each read at the place where it begins.
 #![tactic(auto)]
+
 ghost use Rattle.std.specs.Prelude.{◌≡◌, ◌+◌, ◌<◌, drop, get_or};
 ghost use Rattle.text_values.specs.Values.{no_part, why_unread, text_of, code_of, reference_at, forbidden_at, numeral_at, word_at, bin_at, numbers_at, count_in, date_at, time_at, side_at, amount_at, hundredths, count_at};
 ghost use Rattle.text_values.specs.Letters.{is_status, is_fourth, judged_at, letters_at};

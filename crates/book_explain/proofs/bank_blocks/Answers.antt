@@ -1,7 +1,6 @@
 use Rattle.book_explain.proofs.Failing.{blocks_done, blocks_on, blocks_broken}
 use mathlib.Core.Path.{refl, ◌∙◌}
 use native.Mathlib.Omega.{arith}
-use Prim.Native.Nat.{◌-◌}
 use Rattle.book_explain.proofs.bank_blocks.Goals as goal
 
 pub loop-k-init : goal.loop-k-init

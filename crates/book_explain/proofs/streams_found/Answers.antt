@@ -2,7 +2,6 @@ use Rattle.book_explain.proofs.Failing.{entries_done, entries_on, entries_broken
 use Rattle.book_explain.specs.Faults.{first_failed, entry_tests}
 use mathlib.Core.Path.{◌∙◌, ap}
 use native.Mathlib.Omega.{arith}
-use Prim.Native.Nat.{◌-◌}
 use Rattle.book_explain.proofs.streams_found.Goals as goal
 
 pub loop-i-init : goal.loop-i-init

@@ -1,6 +1,5 @@
 use native.Mathlib.Omega.{arith}
 use mathlib.Core.Path.{refl, ◌∙◌}
-use Rattle.book_read.specs.Book.{bank_right}
 use Rattle.book_read.proofs.Leaves.{entries_code, entries_wrong, entries_step, entries_done}
 use Rattle.book_read.proofs.banks_right.Goals as goal
 

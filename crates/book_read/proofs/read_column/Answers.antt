@@ -1,7 +1,6 @@
 use native.Mathlib.Omega.{arith}
-use Prim.Native.Nat.{ℕ, ◌-◌}
+use Prim.Native.Nat.{ℕ}
 use mathlib.Core.Path.{◌∙◌, ap}
-use Rattle.book_read.specs.Book.{bank_place}
 use Rattle.book_read.specs.Accounts.{bank_at, field_of}
 use Rattle.book_read.proofs.Filling.{filling_start, filling_on, filling_done}
 use Rattle.book_read.proofs.read_column.Goals as goal

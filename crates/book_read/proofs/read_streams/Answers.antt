@@ -1,6 +1,5 @@
 use lib.ListN.{length-set}
 use native.Mathlib.Omega.{arith}
-use Prim.Native.Nat.{◌-◌}
 use mathlib.Core.Path.{◌∙◌}
 use Rattle.book_read.proofs.Filling.{pairing_start, pairing_on, pairing_done}
 use Rattle.book_read.proofs.read_streams.Goals as goal

@@ -1,4 +1,3 @@
-use Prim.Native.Nat.{◌-◌}
 use native.Mathlib.Omega.{arith}
 use Rattle.book_read.specs.Book.{total_right}
 use Rattle.book_read.proofs.Leaves.{adding_start, adding_over, adding_on, adding_done, balance_is}

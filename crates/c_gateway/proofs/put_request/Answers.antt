@@ -10,4 +10,4 @@ pub returns-in-Recall : goal.returns-in-Recall
 returns-in-Recall c = begun_row _ (request_recalls _ c.read_beginning-b.ensures c.in-Recall.is refl) c.put_recalling.ensures
 
 pub returns-in-Refused : goal.returns-in-Refused
-returns-in-Refused c = begun_refused _ _ (request_breaks _ c.read_beginning-b.ensures c.in-Refused.is refl) c.in-Refused.is c.Put-refused.ensures
+returns-in-Refused c = begun_refused _ _ (request_breaks _ c.read_beginning-b.ensures c.in-Refused.is refl) c.in-Refused.is c.put_refused.ensures

@@ -5,7 +5,7 @@ use mathlib.Core.Path.{refl}
 use Rattle.c_gateway.proofs.put_settling.Goals as goal
 
 pub returns-in_default : goal.returns-in_default
-returns-in_default c = refused_reading _ _ (settlement_1 _ _ _ c.read_terms-t.ensures c.in_default.is c.why.ensures refl) c.Put-refused.ensures
+returns-in_default c = refused_reading _ _ (settlement_1 _ _ _ c.read_terms-t.ensures c.in_default.is c.why.ensures refl) c.put_refused.ensures
 
 pub returns-in_default-ending : goal.returns-in_default-ending
 returns-in_default-ending c = refused_reading _ _ (cut_off _ _ _ c.read_terms-t.ensures c.in-Whole.is c.put_payments-p.ensures.0 c.in_default-ending.is c.cut.ensures) c.put_refused-in_default-ending.ensures

@@ -50,6 +50,9 @@ returns-in-1-to-12-2 c =
     let m = c.args.month in
     let r = c.in-1-to-12.in_default-own.rest in
     let a = none_of (4 ∷ 6 ∷ 9 ∷ 11 ∷ []) m r.0.0.1 in
-    let b = none_of (1 ∷ 3 ∷ 5 ∷ 10 ∷ 12 ∷ []) m r.1 in record { value = july_august c.args.year m
+    let b = none_of (1 ∷ 3 ∷ 5 ∷ 10 ∷ 12 ∷ []) m r.1 in record {
+      value = july_august c.args.year m
           (from_seven m c.in-1-to-12.if-month-lt1-own.false b.0 r.0.1 b.1.0 a.0 b.1.1.0 a.1.0)
-          c.in-1-to-12.if-month-lt9-own.true; small = omega arith }
+          c.in-1-to-12.if-month-lt9-own.true;
+      small = omega arith;
+    }

@@ -1,4 +1,3 @@
-use Prim.Native.Nat.{◌-◌}
 use native.Mathlib.Omega.{arith}
 use Rattle.dates.proofs.Months.{first_month, month_found, month_next, month_none}
 use Rattle.dates.proofs.month_day.Goals as goal

@@ -1,5 +1,4 @@
 use borrow.Author.Rules.{rules}
-use Prim.Native.Nat.{◌-◌}
 use lib.ListN.{length-set}
 use Rattle.queue.proofs.MemoryLaws.{map_turn, map_done}
 use Rattle.queue.proofs.wake_bank.Goals as goal

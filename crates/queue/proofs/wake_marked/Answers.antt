@@ -1,6 +1,5 @@
 use Rattle.queue.proofs.MemoryLaws.{map_turn, map_done}
 use lib.ListN.{length-set}
-use Prim.Native.Nat.{◌-◌}
 use borrow.Author.Rules.{rules}
 use Rattle.queue.proofs.wake_marked.Goals as goal
 

@@ -1,6 +1,4 @@
 use borrow.Author.Rules.{rules}
-use Prim.Native.Nat.{◌-◌}
-use Rattle.queue.specs.Tests as tests
 use Rattle.queue.proofs.WalkLaws.{start, head_good, room_here, step, finish}
 use Rattle.queue.proofs.walk.Goals as goal
 

@@ -15,7 +15,7 @@ use Rattle.text_fields.specs.declared.Item.{Item}
 use Rattle.text_fields.specs.declared.Field.{Field}
 use Rattle.text_fields.specs.declared.Field.TheVariants.{Good, Bad}
 use Rattle.text_fields.specs.declared.Kind.TheVariants.{Numbers, Date, Time}
-use Rattle.request_read.specs.terms.Terms.{no_terms, activation_at, unactivated, terms, terms_at}
+use Rattle.request_read.specs.terms.Terms.{no_terms, activation_at, unactivated, terms_at}
 use Rattle.request_read.specs.declared.terms.Activation.{Activation}
 use Rattle.request_read.specs.declared.terms.Activation.TheVariants.{AtOnce, Minute}
 use Rattle.request_read.specs.declared.terms.Activated.{Activated}

@@ -1,5 +1,4 @@
 use native.Mathlib.Omega.{arith}
-use Prim.Native.Nat.{◌-◌}
 use mathlib.Core.Path.{refl, sym, ◌∙◌}
 use Rattle.codes.proofs.Laws.{spelled_length}
 use Rattle.request_write.proofs.Laws.{proper_on, proper_stop, proper_end}

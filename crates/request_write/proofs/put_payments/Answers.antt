@@ -1,5 +1,4 @@
 use native.Mathlib.Omega.{arith}
-use Prim.Native.Nat.{◌-◌}
 use Rattle.request_write.proofs.Laws.{paying_start, paying_on, paying_stop, paying_done}
 use Rattle.request_write.proofs.put_payments.Goals as goal
 

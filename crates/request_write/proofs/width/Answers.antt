@@ -1,4 +1,3 @@
-use Prim.Native.Nat.{◌-◌}
 use native.Mathlib.Omega.{arith}
 use Rattle.request_write.specs.Orders.{width_of}
 use Rattle.request_write.proofs.Laws.{width_small, width_big, width_none}

@@ -1,4 +1,4 @@
-use Prim.Native.Nat.{◌<◌, ◌-◌, ◌+◌}
+use Prim.Native.Nat.{◌<◌, ◌+◌}
 use mathlib.Core.Path.{◌≡◌}
 use Rattle.request_write.specs.Orders.{width_on, width_of}
 use Rattle.request_write.proofs.width.Given as goal

@@ -1,21 +1,19 @@
 -- Laws of codes looked at from their last character on.
-use Prim.Native.Nat.{ℕ, zero, suc, ◌+◌, ◌-◌, ◌/◌, ◌%◌, ◌≤◌, ◌<◌}
+use Prim.Native.Nat.{ℕ, zero, suc, ◌-◌, ◌/◌, ◌%◌, ◌≤◌, ◌<◌}
 use mathlib.Core.Path.{◌≡◌, refl, sym, ap, subst, ◌∙◌}
 use mathlib.Core.Bool.{Bool, true, false, not, ◌&&◌, false≢true}
 use mathlib.Core.List.{List, [], ◌∷◌, ◌++◌, append_assoc}
 use native.Mathlib.Omega.{arith}
 use lib.Dec.{eqb, ltb}
-use lib.ListN.{length, get_or, take, drop, length-append}
+use lib.ListN.{length, take, drop, length-append}
 use lib.Seq.{drop_at, take_at}
-use borrow.Author.Tests.{not-true, not-false, eqb-false, eq-eqb, ne_eqb, lt-ltb}
-use Rattle.chars.specs.Words.{bytes}
+use borrow.Author.Tests.{not-true, not-false, eq-eqb, ne_eqb, lt-ltb}
 use Rattle.chars.specs.Chars.{is_code, is_letter, is_digit}
 use Rattle.codes.specs.Codes.{unpacked, named, spelled, long_text}
 use Rattle.codes.specs.declared.Code.{Code}
 use Rattle.codes.proofs.Laws.{unpack_length}
-use Rattle.text_scan.specs.Scan.{begins}
 use Rattle.text_names.specs.rules.Names.{all_are, is_whole, forbidden, is_reference, is_bin}
-use Rattle.text_names.proofs.rules.Laws.{and_true, whole_start, begin_0, begin_1}
+use Rattle.text_names.proofs.rules.Laws.{and_true, whole_start}
 use Rattle.text_names.specs.quick.Ends.{is_zero, Ends, Plain}
 
 by_test {ℓ} : {X : Type ℓ} (b : Bool) → (b ≡ true → X) → (b ≡ false → X) → X

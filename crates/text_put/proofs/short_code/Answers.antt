@@ -1,4 +1,3 @@
-use Prim.Native.Nat.{◌-◌}
 use native.Mathlib.Omega.{arith}
 use Rattle.codes.specs.Codes.{short_text}
 use Rattle.codes.proofs.Laws.{unpack_length}

@@ -1,5 +1,4 @@
 use Rattle.text_scan.proofs.Laws.{code_short, code_from, code_not, code_on, code_all}
-use Prim.Native.Nat.{◌-◌}
 use Rattle.text_scan.proofs.code.Goals as goal
 
 pub returns-then-left-n : goal.returns-then-left-n

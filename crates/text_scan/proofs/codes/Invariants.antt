@@ -1,4 +1,3 @@
-use Prim.Native.Nat.{◌-◌}
 use mathlib.Core.Path.{◌≡◌}
 use Rattle.text_scan.specs.Scan.{codes_at}
 use Rattle.text_scan.proofs.codes.Given as goal

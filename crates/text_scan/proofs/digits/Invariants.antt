@@ -1,4 +1,3 @@
-use Prim.Native.Nat.{◌-◌}
 use Rattle.text_scan.specs.Scan.{most}
 use Rattle.text_scan.proofs.Laws.{Going}
 use Rattle.text_scan.proofs.digits.Given as goal

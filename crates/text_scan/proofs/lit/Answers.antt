@@ -1,4 +1,3 @@
-use Prim.Native.Nat.{◌-◌}
 use native.Mathlib.Omega.{arith}
 use Rattle.text_scan.proofs.Laws.{lit_short, match_from, match_inside, match_not, match_on, match_all}
 use Rattle.text_scan.proofs.lit.Goals as goal

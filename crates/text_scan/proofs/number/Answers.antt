@@ -1,6 +1,5 @@
 use Rattle.text_scan.proofs.Laws.{number_long, number_short, number_from_lem, number_room, number_not, number_on, number_all, number_fits}
 use native.Mathlib.Omega.{arith}
-use Prim.Native.Nat.{◌-◌}
 use Rattle.text_scan.proofs.number.Goals as goal
 
 pub returns-then-n-gt18 : goal.returns-then-n-gt18

@@ -1,4 +1,3 @@
-use Prim.Native.Nat.{◌-◌}
 use native.Mathlib.Omega.{arith}
 use Rattle.request_read.proofs.payments.Laws.{going_from, going_cut, going_last, going_on, going_full}
 use Rattle.request_read.proofs.payments.read_payments.Goals as goal

@@ -1,4 +1,3 @@
-use Prim.Native.Nat.{◌-◌}
 use Rattle.text_names.proofs.rules.Laws.{codes_end, codes_not, codes_on}
 use borrow.Author.Rules.{rules}
 use Rattle.text_names.proofs.rules.are_codes.Goals as goal

@@ -1,4 +1,3 @@
-use Prim.Native.Nat.{◌-◌}
 use Rattle.text_names.proofs.rules.Laws.{digits_end, digits_not, digits_on}
 use borrow.Author.Rules.{rules}
 use Rattle.text_names.proofs.rules.are_digits.Goals as goal

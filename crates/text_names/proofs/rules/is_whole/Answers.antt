@@ -1,5 +1,4 @@
 use Rattle.text_names.proofs.rules.Laws.{whole_start, whole_end, whole_not, whole_on}
-use Prim.Native.Nat.{◌-◌}
 use native.Mathlib.Omega.{arith}
 use borrow.Author.Rules.{rules}
 use Rattle.text_names.proofs.rules.is_whole.Goals as goal
