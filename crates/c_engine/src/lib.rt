@@ -378,8 +378,7 @@ fn shape_right(desk: &[u64], banks: &[u64]) -> bool
 
 // A call of the engine, clearing apart: its answer's number. A report of fewer than two words is 07,
 // a desk or banks of another length or a phase that is none 06, with nothing changed.
-#[unsafe(no_mangle)]
-pub extern "C" fn purmagheli_call_rows(
+pub fn purmagheli_call_rows(
     quick: u64,
     clock: u64,
     action: u64,
@@ -451,8 +450,7 @@ fn rows_long(desk: &[u64], banks: &[u64], batches: &[u64], references: &[u64], b
 }
 
 // "A fresh start": all zero. Rows of another length are 06, with nothing changed.
-#[unsafe(no_mangle)]
-pub extern "C" fn purmagheli_clear_rows(
+pub fn purmagheli_clear_rows(
     desk: &mut [u64],
     banks: &mut [u64],
     batches: &mut [u64],

@@ -105,8 +105,7 @@ fn put_finding(row: &mut [u64], f: Finding) -> u64
 
 // Finds where a book breaks: the number of its check, and block, entry and test of the first rule that
 // it breaks in the row, zeros for a sound book. A row that is too short is not touched, whatever the book.
-#[unsafe(no_mangle)]
-pub extern "C" fn purmagheli_find_book_fault(book: &[u8], row: &mut [u64]) -> u64
+pub fn purmagheli_find_book_fault(book: &[u8], row: &mut [u64]) -> u64
     ensures { (result ≡ fault_number book.now row.old) × (row.new ≡ fault_row book.now row.old) }
 {
     if row.len() < FAULT_WORDS {

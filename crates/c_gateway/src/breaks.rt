@@ -206,8 +206,7 @@ fn put_report(row: &mut [u64], x: Report) -> u64
 
 // Explains the break of a request: the reader's number, and where and why it is refused in the row, zeros for
 // one that is accepted. A row that is too short is not touched, whatever the text.
-#[unsafe(no_mangle)]
-pub extern "C" fn purmagheli_explain_request(text: &[u8], row: &mut [u64]) -> u64
+pub fn purmagheli_explain_request(text: &[u8], row: &mut [u64]) -> u64
     ensures { (result ≡ explained_number (request_report text.now) row.old) × (row.new ≡ explained_row (request_report text.now) row.old) }
 {
     if row.len() < EXPLAIN_WORDS {
@@ -217,8 +216,7 @@ pub extern "C" fn purmagheli_explain_request(text: &[u8], row: &mut [u64]) -> u6
 }
 
 // The same of a response.
-#[unsafe(no_mangle)]
-pub extern "C" fn purmagheli_explain_response(text: &[u8], row: &mut [u64]) -> u64
+pub fn purmagheli_explain_response(text: &[u8], row: &mut [u64]) -> u64
     ensures { (result ≡ explained_number (response_report text.now) row.old) × (row.new ≡ explained_row (response_report text.now) row.old) }
 {
     if row.len() < EXPLAIN_WORDS {

@@ -3,7 +3,7 @@
 // the same constants and says what each word is.
 #![tactic(auto)]
 pub mod books;
-mod breaks;
+pub mod breaks;
 pub mod writers;
 
 ghost use Rattle.std.specs.Prelude.{◌≡◌, ◌++◌, cond, ◌+◌, ◌-◌, ◌≤◌, length};
@@ -376,8 +376,7 @@ fn put_request(row: &mut [u64], text: &[u8]) -> u64
 
 // Reads a request: 0 and its fields in the row, or why it is refused, and where. A row that is too
 // short is not touched, whatever the text.
-#[unsafe(no_mangle)]
-pub extern "C" fn purmagheli_read_request(text: &[u8], row: &mut [u64]) -> u64
+pub fn purmagheli_read_request(text: &[u8], row: &mut [u64]) -> u64
     ensures { (result ≡ request_number text.now row.old) × (row.new ≡ request_row text.now row.old) }
 {
     if row.len() < REQUEST_WORDS {
@@ -494,8 +493,7 @@ fn put_reply(row: &mut [u64], r: ReadResponse) -> u64
 
 // Reads a response: 0 and its fields in the row, or why it is refused, and where. A row that is too
 // short is not touched, whatever the text.
-#[unsafe(no_mangle)]
-pub extern "C" fn purmagheli_read_response(text: &[u8], row: &mut [u64]) -> u64
+pub fn purmagheli_read_response(text: &[u8], row: &mut [u64]) -> u64
     ensures { (result ≡ response_number text.now row.old) × (row.new ≡ response_row text.now row.old) }
 {
     if row.len() < RESPONSE_WORDS {
@@ -505,8 +503,7 @@ pub extern "C" fn purmagheli_read_response(text: &[u8], row: &mut [u64]) -> u64
 }
 
 // Checks a book: 0, or the number of the first rule that it breaks.
-#[unsafe(no_mangle)]
-pub extern "C" fn purmagheli_check_book(book: &[u8]) -> u64
+pub fn purmagheli_check_book(book: &[u8]) -> u64
     ensures { result ≡ book_number book.now }
 {
     match book_read::check(book) {

@@ -217,8 +217,7 @@ fn tell(w: Written, told: &mut [u64]) -> u64
 
 // Writes the request of a row: 0, the text at the buffer's beginning and its length, or the number that its reader would give, then 07 where it does not
 // fit, and nothing is written. A row, or what is to be told, of too few words is 07 before all else.
-#[unsafe(no_mangle)]
-pub extern "C" fn purmagheli_write_request(row: &[u64], out: &mut [u8], told: &mut [u64]) -> u64
+pub fn purmagheli_write_request(row: &[u64], out: &mut [u8], told: &mut [u64]) -> u64
     ensures { (result ≡ number_for (is_ready 192 row.now told.old) (order_written (order_in row.now) out.old)) × (out.new ≡ left_for (is_ready 192 row.now told.old) (order_left (order_in row.now) out.old) out.old) × (told.new ≡ told_for (is_ready 192 row.now told.old) (order_written (order_in row.now) out.old) told.old) }
 {
     if row.len() < crate::REQUEST_WORDS {
@@ -231,8 +230,7 @@ pub extern "C" fn purmagheli_write_request(row: &[u64], out: &mut [u8], told: &m
 }
 
 // Writes the response of a row likewise: 88 for a sub type that is neither 132 nor 134, 87 for a status or values that no text can hold, then 07.
-#[unsafe(no_mangle)]
-pub extern "C" fn purmagheli_write_response(row: &[u64], out: &mut [u8], told: &mut [u64]) -> u64
+pub fn purmagheli_write_response(row: &[u64], out: &mut [u8], told: &mut [u64]) -> u64
     ensures { (result ≡ number_for (is_ready 28 row.now told.old) (response_written row.now out.old)) × (out.new ≡ left_for (is_ready 28 row.now told.old) (response_left row.now out.old) out.old) × (told.new ≡ told_for (is_ready 28 row.now told.old) (response_written row.now out.old) told.old) }
 {
     if row.len() < crate::RESPONSE_WORDS {

@@ -7,8 +7,7 @@ ghost use Rattle.c_version.specs.Version.{version};
 pub const VERSION: u64 = 2;
 
 // The version of the archive: a program compares it with PURMAGHELI_VERSION of the header that it was compiled with.
-#[unsafe(no_mangle)]
-pub extern "C" fn purmagheli_version() -> u64
+pub fn purmagheli_version() -> u64
     ensures { result ≡ version }
 {
     VERSION

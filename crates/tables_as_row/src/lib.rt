@@ -97,8 +97,7 @@ pub fn right(words: &[u64]) -> bool
 }
 
 // 0, or 6 where the row is of another length or its tables break the rules.
-#[unsafe(no_mangle)]
-pub extern "C" fn purmagheli_row_right(words: &[u64]) -> u64
+pub fn purmagheli_row_right(words: &[u64]) -> u64
     ensures { Judged words.now result }
 {
     if words.len() != WORDS {

@@ -202,6 +202,9 @@ pub going_start : (s : List ℕ) (at n : ℕ) → Going s at n n at 0
 unfolding digits_at
 going_start s at n = record { left = omega arith; same = refl; small = omega (arith, ten_pos (n - n)) }
 
+pub going_from : {s : List ℕ} {at n : ℕ} (max : ℕ) → n ≡ most max → Going s at (most max) n at 0
+going_from {s} {at} max e = rw e (going_start s at (most max))
+
 abbrev pub Told : List ℕ → ℕ → ℕ → Run → Type 0
 Told s at max r = (r ≡ digits_at s at max) × (r.value < ten max)
 

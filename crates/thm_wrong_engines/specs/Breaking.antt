@@ -17,7 +17,8 @@ use Rattle.model.specs.Kinds.{Own, receives, changes_sublimit, changes_status, n
 use Rattle.model.specs.State.{on_found, State, place_at, place_messages, batch_of}
 use Rattle.model.specs.Memory.{note}
 use Rattle.model.specs.Replies.{settlement}
-use Rattle.model.specs.Messages.{Acted, today, bin, stream_code, stream_place, administrator, untouched, rejecting, is_broken_part, reject_assembled, broken_part}
+use Rattle.model.specs.Messages.{Acted, today, bin, stream_code, stream_place, administrator}
+use Rattle.model.specs.Messages.{untouched, rejecting, is_broken_part, reject_assembled, broken_part}
 use Rattle.model.specs.Calls.{act}
 
 -- the engine with an action of its own for such a text: by its sender, its bytes and its break

@@ -2,14 +2,11 @@ use mathlib.Core.Path.{◌≡◌}
 use native.Mathlib.Omega.{arith}
 use borrow.Author.Tests.{lt-ltb, le-ltb}
 use Rattle.text_scan.specs.Scan.{most}
-use Rattle.text_scan.proofs.Laws.{going_start, going_end, going_stop, going_none, going_on, going_fits, most_18}
+use Rattle.text_scan.proofs.Laws.{going_from, going_end, going_stop, going_none, going_on, going_fits, most_18}
 use Rattle.text_scan.proofs.digits.Goals as goal
-use Rattle.text_scan.proofs.digits.Goals.{then-max-lt18, else-max-lt18}
 
 pub loop-n-init : goal.loop-n-init
-loop-n-init c = let n = c.args.max in
-    let z : c.if-max-lt18.n ≡ most n = elim c.if-max-lt18.branch [ then-max-lt18 w ↦ rw (lt-ltb n 18 w.if-max-lt18.true) w.n-is | else-max-lt18 w ↦ rw (le-ltb n 18 w.if-max-lt18.false) w.n-is ] in
-    rw z (going_start _ _ (most n))
+loop-n-init c = going_from c.args.max (grind arith)
 
 pub returns-then-j-s : goal.returns-then-j-s
 returns-then-j-s c = record { value = (going_end c.loop-n.invariant (omega arith)).0; small = (going_end c.loop-n.invariant (omega arith)).1 }
