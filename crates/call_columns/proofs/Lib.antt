@@ -1,3 +1,2 @@
-pub mod ByValue
 pub mod ColumnLaws
 pub mod Filling

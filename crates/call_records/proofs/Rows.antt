@@ -1,16 +1,17 @@
 -- A row of records and its columns, record by record.
 use mathlib.Core.Path.{◌≡◌, refl, sym, ap, ◌∙◌}
-use Prim.Native.Nat.{ℕ, suc, ◌<◌}
+use Prim.Native.Nat.{ℕ, suc, ◌<◌, ◌≤◌, ◌+◌}
 use native.Mathlib.Omega.{arith}
+use native.Mathlib.Numerals.{add-one}
 use mathlib.Core.Bool.{Bool, true, false}
 use mathlib.Core.List.{List, map}
 use lib.ListN.{length, get_or, set, take, length-map, get_or-map}
-use lib.Seq.{take-suc, take-suc-set, take_all}
+use lib.Seq.{take-suc, take-suc-set, take_all, get_or-set_same, set-set}
 use lib.Dec.{T as Holds}
 use Rattle.tables.proofs.MemoryLaws.{map_set}
 use Rattle.tables.specs.Moment.{lent_on}
 use Rattle.call_records.specs.declared.Account.{Account}
-use Rattle.call_records.specs.Records.{tables_in, Columns}
+use Rattle.call_records.specs.Records.{tables_in, Columns, Long}
 
 abbrev pub none : Account
 none = record { code = 0; flags = 0; balance = 0; sublimit = 0; waiting = 0 }
@@ -50,3 +51,63 @@ whole_row i xs ys h l m e = sym (take_all i xs (omega (arith, h, l))) ∙ e ∙ 
 pub tables_in_lem : (row : List Account) (codes flags balances sublimits sheet batches references bins : List ℕ) → Columns row codes flags balances sublimits sheet
     → lent_on codes flags balances sublimits batches references bins sheet ≡ tables_in row batches references bins
 tables_in_lem row codes flags balances sublimits sheet batches references bins c = rw (c.codes_are, c.flags_are, c.balances_are, c.sublimits_are, c.sheet_are)
+
+-- ---- a record is stored field by field
+
+abbrev put : (Account → Account) → ℕ → List Account → List Account
+put g i row = set row i (g (get_or row i none))
+
+put_again : (g : Account → Account) (row : List Account) (i : ℕ) (a : Account) → i < length row → put g i (set row i a) ≡ set row i (g a)
+put_again g row i a h = rw (get_or-set_same row i a none h) (set-set row i a (g a))
+
+abbrev code_put : ℕ → Account → Account
+code_put v a = record { code = v; flags = a.flags; balance = a.balance; sublimit = a.sublimit; waiting = a.waiting }
+
+abbrev flags_put : ℕ → Account → Account
+flags_put v a = record { code = a.code; flags = v; balance = a.balance; sublimit = a.sublimit; waiting = a.waiting }
+
+abbrev balance_put : ℕ → Account → Account
+balance_put v a = record { code = a.code; flags = a.flags; balance = v; sublimit = a.sublimit; waiting = a.waiting }
+
+abbrev sublimit_put : ℕ → Account → Account
+sublimit_put v a = record { code = a.code; flags = a.flags; balance = a.balance; sublimit = v; waiting = a.waiting }
+
+abbrev waiting_put : ℕ → Account → Account
+waiting_put v a = record { code = a.code; flags = a.flags; balance = a.balance; sublimit = a.sublimit; waiting = v }
+
+abbrev all_put : (i code flags balance sublimit waiting : ℕ) → List Account → List Account
+all_put i code flags balance sublimit waiting row =
+    put (waiting_put waiting) i (put (sublimit_put sublimit) i (put (balance_put balance) i (put (flags_put flags) i (put (code_put code) i row))))
+
+all_stored : (i code flags balance sublimit waiting : ℕ) (row : List Account) → i < length row
+    → all_put i code flags balance sublimit waiting row ≡ set row i (record { code = code; flags = flags; balance = balance; sublimit = sublimit; waiting = waiting })
+all_stored i code flags balance sublimit waiting row h =
+    let a : Account = get_or row i none in
+    ap (λ (r : List Account). put (waiting_put waiting) i (put (sublimit_put sublimit) i (put (balance_put balance) i r))) (put_again (flags_put flags) row i (code_put code a) h)
+    ∙ ap (λ (r : List Account). put (waiting_put waiting) i (put (sublimit_put sublimit) i r)) (put_again (balance_put balance) row i (flags_put flags (code_put code a)) h)
+    ∙ ap (λ (r : List Account). put (waiting_put waiting) i r) (put_again (sublimit_put sublimit) row i (balance_put balance (flags_put flags (code_put code a))) h)
+    ∙ put_again (waiting_put waiting) row i (sublimit_put sublimit (balance_put balance (flags_put flags (code_put code a)))) h
+
+-- the records up to a place hold what the columns hold
+pub record Saved (row : List Account) (codes flags balances sublimits sheet : List ℕ) (i : ℕ) : Type 0 where
+  pub few : i ≤ 64
+  pub codes_are : take i (map (λ (a : Account). a.code) row) ≡ take i codes
+  pub flags_are : take i (map (λ (a : Account). a.flags) row) ≡ take i flags
+  pub balances_are : take i (map (λ (a : Account). a.balance) row) ≡ take i balances
+  pub sublimits_are : take i (map (λ (a : Account). a.sublimit) row) ≡ take i sublimits
+  pub sheet_are : take i (map (λ (a : Account). a.waiting) row) ≡ take i sheet
+
+module _ (row : List Account) (codes flags balances sublimits sheet : List ℕ) (long : Long row codes flags balances sublimits sheet) (i : ℕ) (h : i < 64) where
+  pub saved_on : Saved row codes flags balances sublimits sheet i
+      → Saved (all_put i (get_or codes i 0) (get_or flags i 0) (get_or balances i 0) (get_or sublimits i 0) (get_or sheet i 0) row) codes flags balances sublimits sheet (i + 1)
+  saved_on s =
+      let x : Account = record { code = get_or codes i 0; flags = get_or flags i 0; balance = get_or balances i 0; sublimit = get_or sublimits i 0; waiting = get_or sheet i 0 } in
+      let k : i < length row = omega (arith, long.row_long) in
+      rw (all_stored i (get_or codes i 0) (get_or flags i 0) (get_or balances i 0) (get_or sublimits i 0) (get_or sheet i 0) row k, add-one) (record {
+        few = omega arith;
+        codes_are = field_stored (λ (a : Account). a.code) row codes i x k (omega (arith, long.codes_long)) refl s.codes_are;
+        flags_are = field_stored (λ (a : Account). a.flags) row flags i x k (omega (arith, long.flags_long)) refl s.flags_are;
+        balances_are = field_stored (λ (a : Account). a.balance) row balances i x k (omega (arith, long.balances_long)) refl s.balances_are;
+        sublimits_are = field_stored (λ (a : Account). a.sublimit) row sublimits i x k (omega (arith, long.sublimits_long)) refl s.sublimits_are;
+        sheet_are = field_stored (λ (a : Account). a.waiting) row sheet i x k (omega (arith, long.sheet_long)) refl s.sheet_are;
+      })

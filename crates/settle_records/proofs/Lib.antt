@@ -1,4 +1,3 @@
-pub mod Again
 pub mod Once
 pub mod Passed
 pub mod PaymentLaws

@@ -9,9 +9,6 @@ returns-then-code-gt-LAST_CODE c = simp (lt-leb _ _ c.if-code-gt-LAST_CODE.true)
 pub returns-then-flags-gt-LAST_FLAGS : goal.returns-then-flags-gt-LAST_FLAGS
 returns-then-flags-gt-LAST_FLAGS c = simp (lt-leb _ _ c.if-flags-gt-LAST_FLAGS.true, and-false)
 
-pub new-money-requires : goal.new-money-requires
-new-money-requires c = λ u. u
-
 pub returns-in-Is : goal.returns-in-Is
 returns-in-Is c = search new_held
 
