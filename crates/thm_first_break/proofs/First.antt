@@ -66,7 +66,7 @@ module _ (E : Type 0) (may : E → List (Choice E)) (first last : E) (ends : may
   past (stop b x w) c i g k n = absurd (unbroken w refl c i g k)
   past {p = p} {e} (fine x h m) c i g k n = nothing_there (at_last e p h) i
 
-  kept : {o : Option Break} {p : ℕ} {e : E} → Reached E may first last s p e → Verdict o 0 first → Verdict o p e
+  pub kept : {o : Option Break} {p : ℕ} {e : E} → Reached E may first last s p e → Verdict o 0 first → Verdict o p e
   kept beginning v = v
   kept (behind c r h g k n) v = past (kept r v) c h g k n
 
@@ -85,13 +85,9 @@ module _ (E : Type 0) (may : E → List (Choice E)) (first last : E) (ends : may
       absurd (g r (subst₂ (λ (p : ℕ) (v : Choice E). Line (tag_of v.row) (Is v.row) (drop p s) r) h z f))
   same_break {e} h (other c x i f k) (other d y j g l) = cc
 
-  stopped : {o : Option Break} {p : ℕ} {e : E} → Verdict o p e → (b : Break) → p ≡ b.at → Breaks E may first last s e b → o ≡ some b
+  pub stopped : {o : Option Break} {p : ℕ} {e : E} → Verdict o p e → (b : Break) → p ≡ b.at → Breaks E may first last s e b → o ≡ some b
   stopped (step c i g k n w) b h v = absurd (unbroken v h c i g k)
   stopped (stop d x w) b h v = x ∙ ap some (same_break h w v)
   stopped (fine x y n) b h (missing z i f) = absurd (f y (ap (λ (p : ℕ). drop p s) (sym h) ∙ n))
   stopped {e = e} (fine x y n) b h (wrong c z i f) = nothing_there (at_last e b.at y) i
   stopped {e = e} (fine x y n) b h (other c z i f k) = nothing_there (at_last e b.at y) i
-
-  -- and only one
-  pub one_break : {o : Option Break} → Verdict o 0 first → (b : Break) → FirstBreak E may first last s b → o ≡ some b
-  one_break v b f = stopped (kept f.reached v) b refl f.breaks

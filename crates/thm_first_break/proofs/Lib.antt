@@ -1,7 +1,9 @@
 pub mod Values
 pub mod First
+pub mod Once
 pub mod Numbers
 pub mod Steps
+pub mod PaymentsWalk
 pub mod Request
 pub mod Response
 pub mod ReaderNumbers

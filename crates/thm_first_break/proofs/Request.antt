@@ -1,17 +1,15 @@
 -- A request is refused at its first break, with the number that names it, and only there.
-use Prim.Native.Nat.{ℕ, zero, suc, ◌+◌}
+use Prim.Native.Nat.{ℕ, ◌+◌}
 use mathlib.Core.Path.{◌≡◌, refl, ap, sym, subst, ◌∙◌}
 use mathlib.Core.List.{List, [], ◌∷◌}
-use mathlib.Core.Bool.{Bool, true, false, cond, false≢true}
-use mathlib.Core.Logic.{◌⊎◌, inl, inr}
-use mathlib.Core.Option.{Option, none, some}
+use mathlib.Core.Bool.{Bool, true, false, cond}
+use mathlib.Core.Option.{Option, some}
 use native.Mathlib.Omega.{arith}
-use borrow.Author.Tests.{eq-eqb, ne_eqb, ltb-true, lt-ltb}
-use lib.Dec.{eqb, ltb}
-use lib.ListN.{drop, set}
+use lib.Dec.{eqb}
+use lib.ListN.{drop}
 use Rattle.chars.specs.Words.{bytes, member}
 use Rattle.chars.specs.declared.Refusal.TheVariants.{OtherSubType}
-use Rattle.text_scan.specs.Scan.{on_next, begins, lit_at}
+use Rattle.text_scan.specs.Scan.{on_next, lit_at}
 use Rattle.text_scan.specs.declared.At.{At}
 use Rattle.text_scan.specs.declared.At.TheVariants.{Next, No}
 use Rattle.text_scan.specs.declared.Cursor.{Cursor}
@@ -19,10 +17,10 @@ use Rattle.text_scan.proofs.Laws.{lit_yes, lit_not}
 use Rattle.text_scan.specs.Spelling.{value_of}
 use Rattle.text_values.specs.Values.{no_part, stands}
 use Rattle.text_values.specs.Grammar.{IsNumeral}
-use Rattle.text_fields.specs.Fields.{absent, broken, wrong as wrong_at, nothing, place, on_good, field_at}
+use Rattle.text_fields.specs.Fields.{absent, broken, place, on_good, field_at}
 use Rattle.text_fields.specs.declared.Break.{Break}
 use Rattle.text_fields.specs.declared.Item.{Item}
-use Rattle.text_fields.specs.declared.Kind.TheVariants.{Empty, Reference, Numeral, Word, Bin, Numbers, Date, Time, Side, Amount, Letters, Count}
+use Rattle.text_fields.specs.declared.Kind.TheVariants.{Empty, Reference, Numeral, Word, Bin, Numbers, Date, Time, Count}
 use Rattle.request_read.specs.terms.Terms.{activation_at, on_given, on_whole, terms, terms_at}
 use Rattle.request_read.specs.declared.terms.Terms.{Terms}
 use Rattle.request_read.specs.declared.terms.Activation.TheVariants.{AtOnce, Minute}
@@ -30,12 +28,7 @@ use Rattle.request_read.specs.declared.terms.Activated.{Activated}
 use Rattle.request_read.specs.declared.terms.Activated.TheVariants.{Given, Ungiven}
 use Rattle.request_read.specs.declared.terms.Stated.{Stated}
 use Rattle.request_read.specs.declared.terms.Stated.TheVariants.{Whole, Partial}
-use Rattle.request_read.specs.payments.Payments.{none as no-payments, payment as paid, bank_at, credit_at, debit_at, payment_at, more_at, on_paid, ended, payments_on, payments_at}
-use Rattle.request_read.specs.declared.payments.Payment.{Payment}
-use Rattle.request_read.specs.declared.payments.Paid.{Paid}
-use Rattle.request_read.specs.declared.payments.Paid.TheVariants.{One, Unpaid}
-use Rattle.request_read.specs.declared.payments.Ending.TheVariants.{Done, Cut}
-use Rattle.request_read.specs.declared.payments.Payments.{Payments}
+use Rattle.request_read.specs.payments.Payments.{none as no-payments, payments_at}
 use Rattle.request_read.specs.whole.Request.{refusal, unread, settlement, bare, head, named_at, address, nowhere, to_stream, address_at, on_to, on_done, ending, settlement_at, recall_at, message_at, request_at}
 use Rattle.request_read.specs.declared.whole.Address.{Address}
 use Rattle.request_read.specs.declared.whole.Addressed.{Addressed}
@@ -44,190 +37,64 @@ use Rattle.request_read.specs.declared.whole.Head.{Head}
 use Rattle.request_read.specs.declared.whole.Named.{Named}
 use Rattle.request_read.specs.declared.whole.Outcome.{Outcome}
 use Rattle.request_read.specs.declared.whole.Outcome.TheVariants.{Settlement, Recall, Refused}
-use Rattle.request_read.specs.declared.whole.Reading.{Reading}
 use Rattle.thm_grammar.proofs.Meanings.{LineRead}
-use Rattle.thm_grammar.proofs.Payments.{side_number}
-use Rattle.thm_first_break.specs.Rows.{f20, f12, f77e, f22a, f119, f16a, f171, f175, f32b, f113, no113, tag_of}
-use Rattle.thm_first_break.specs.Order.{Choice, choice, Expecting, at20, at12, at77e, at22a, at119, at16a, at171, at175, at127, at32b, at113, at102, at203, at_end, payment, bank, count, choices}
-use Rattle.thm_first_break.specs.Breaks.{standing, wrong, other, beginning, RequestBreaks}
-use Rattle.thm_first_break.proofs.First.{Verdict, stop, breaks_first, one_break}
-use Rattle.thm_first_break.proofs.Steps.{fits20, fits12, fits77e, fits22a, fits119, fits16a, fits171, fits175, fits127, fits32b, fits113, fits102, fits203, Asked, alone as row-alone, end_walk, on_field, on_line}
-
--- the break of a reading, if it is refused
-abbrev broken_by : Outcome → Option Break
-broken_by (Refused b) = some b
-broken_by Settlement = none
-broken_by Recall = none
-
-abbrev broken_in : Reading → Option Break
-broken_in r = broken_by r.outcome
-
-abbrev is_end : Expecting → Bool
-is_end at20 = false
-is_end at12 = false
-is_end (at77e b) = false
-is_end (at22a b) = false
-is_end (at119 b w) = false
-is_end at16a = false
-is_end at171 = false
-is_end at175 = false
-is_end at127 = false
-is_end (at32b k b) = false
-is_end (at113 k b) = false
-is_end (at102 k) = false
-is_end (at203 k) = false
-is_end at_end = true
-
-more_to_come : (e : Expecting) → is_end e ≡ false → e ≡ at_end → ⊥
-more_to_come e h k = false≢true (sym h ∙ ap is_end k)
+use Rattle.thm_first_break.specs.Rows.{f20, f12, f77e, f22a, f119, f16a, f171, f175}
+use Rattle.thm_first_break.specs.Order.{Choice, choice, Expecting, at20, at12, at77e, at22a, at119, at16a, at171, at175, at127, at_end, payment, choices}
+use Rattle.thm_first_break.specs.Breaks.{standing, other, beginning, RequestBreaks}
+use Rattle.thm_first_break.proofs.First.{stop, breaks_first}
+use Rattle.thm_first_break.proofs.Once.{one_break}
+use Rattle.thm_first_break.proofs.Steps.{fits20, fits12, fits77e, fits22a, fits119, fits16a, fits171, fits175, end_walk, on_field, on_line}
+use Rattle.thm_first_break.proofs.PaymentsWalk.{broken_by, broken_in, Walk, Ask, alone, second, leading, paid_for, payments_walk}
 
 module _ (s : List ℕ) where
-  abbrev Walk : Option Break → ℕ → Expecting → Type 0
-  Walk o p e = Verdict Expecting choices at20 at_end refl s o p e
-
-  abbrev Ask : ℕ → Expecting → Choice Expecting → Type 0
-  Ask p e c = Asked Expecting choices at_end s p e c
-
-  alone : (p : ℕ) (e : Expecting) (c : Choice Expecting) → is_end e ≡ false → choices e ≡ c ∷ [] → Ask p e c
-  alone p e c n h = row-alone Expecting choices at_end s p e c (more_to_come e n) h
-
-  -- or one behind another, whose tag does not stand there
-  second : (p : ℕ) (e : Expecting) (d c : Choice Expecting) → is_end e ≡ false → choices e ≡ d ∷ c ∷ [] → begins (tag_of d.row) (drop p s) ≡ false → Ask p e c
-  second p e d c n h f = record {
-    yes = λ t. ap (λ (cs : List (Choice Expecting)). standing cs (drop p s)) h ∙ rw (f, t);
-    no = λ t. ap (λ (cs : List (Choice Expecting)). standing cs (drop p s)) h ∙ rw (f, t);
-    open_end = more_to_come e n;
-  }
-
-  -- the first of two, whose tag stands there
-  leading : (p : ℕ) (e : Expecting) (c d : Choice Expecting) → is_end e ≡ false → choices e ≡ c ∷ d ∷ [] → begins (tag_of c.row) (drop p s) ≡ true → Ask p e c
-  leading p e c d n h t = record {
-    yes = λ _. ap (λ (cs : List (Choice Expecting)). standing cs (drop p s)) h ∙ rw t;
-    no = λ f. absurd (false≢true (sym f ∙ t));
-    open_end = more_to_come e n;
-  }
-
-  -- 102
-  module _ (answer : Paid → Option Break) (ok : (b : Break) → answer (Unpaid b) ≡ some b) (k : ℕ) (on : (x : Payment) (c : Cursor) → Walk (answer (One x c)) c.at (at203 (k + 1))) where
-    bank_walk : (p : ℕ) (e : Expecting) (side amount letters : Item) → Ask p e (bank k) → Walk (answer (bank_at s p side amount letters)) p e
-    unfolding bank_at
-    bank_walk p e side amount letters ask = on_line answer Unpaid ok (λ i c. One (paid side amount letters i) c) (bank k) (Word 4) (fits102 s) ask (λ v. refl) (λ i d q g. on (paid side amount letters i) d)
-
-    -- "113 stands after DR and never after CR"
-    credit_walk : (p : ℕ) (side amount : Item) → Walk (answer (credit_at s p side amount)) p (at113 k false)
-    unfolding credit_at
-    credit_walk p side amount = go (lit_at s p (bytes ":113:")) refl
-      where
-        go : (r : At) → lit_at s p (bytes ":113:") ≡ r → Walk (answer (on_next r (bank_at s p side amount nothing) (λ a. Unpaid (wrong_at p)))) p (at113 k false)
-        go (Next a) l = stop {e = at113 k false} (wrong_at p) (ok (wrong_at p)) (wrong (choice no113 (λ v. at_end)) refl (rw (lit_yes s p (bytes ":113:") l)) (λ r g. g.is))
-        go No l = bank_walk p (at113 k false) side amount nothing (second p (at113 k false) (choice no113 (λ v. at_end)) (bank k) refl refl (lit_not s p (bytes ":113:") l))
-
-    debit_walk : (p : ℕ) (side amount : Item) → Walk (answer (debit_at s p side amount)) p (at113 k true)
-    unfolding debit_at
-    debit_walk p side amount =
-        on_line answer Unpaid ok (λ letters c. bank_at s c.at side amount letters) (choice f113 (λ v. at102 k)) Letters (fits113 s) (alone p (at113 k true) (choice f113 (λ v. at102 k)) refl refl) (λ v. refl) (λ letters c q g.
-        bank_walk c.at (at102 k) side amount letters (alone c.at (at102 k) (bank k) refl refl))
-
-    payment_walk : (p : ℕ) (e : Expecting) → Ask p e (payment k) → Walk (answer (payment_at s p)) p e
-    unfolding payment_at begins
-    payment_walk p e ask =
-        on_line answer Unpaid ok _ (payment k) Side (fits127 s) ask (λ v. refl) (λ side c q g.
-        on_line answer Unpaid ok _ (choice f32b (λ v. at113 k (begins (bytes "DR") g.line.value))) Amount (fits32b s) (alone c.at (at32b k (begins (bytes "DR") g.line.value)) (choice f32b (λ v. at113 k (begins (bytes "DR") g.line.value))) refl refl) (λ v. refl) (λ amount d r h.
-        sided side amount d.at g.line.value (side_number s p q g.line)))
-      where
-        sided : (side amount : Item) (p : ℕ) (v : List ℕ) → ((v ≡ bytes "CR") × (side.number ≡ 0)) ⊎ ((v ≡ bytes "DR") × (side.number ≡ 1)) → Walk (answer (cond (eqb side.number 0) (credit_at s p side amount) (debit_at s p side amount))) p (at113 k (begins (bytes "DR") v))
-        sided side amount p v (inl e) = rw (e.0, eq-eqb side.number 0 e.1) (credit_walk p side amount)
-        sided side amount p v (inr e) = rw (e.0, ne_eqb side.number 0 (omega (arith, e.1))) (debit_walk p side amount)
-
-  -- behind 119 of a settlement request
+  -- behind the payments of a settlement request
   module _ (h : Head) where
-    -- what the payments are read for
-    abbrev paid_for : Terms → Payments → Option Break
-    paid_for t x = broken_in (on_done x.ending (λ b. refusal h.subtype b h.address) (λ d. on_good (field_at s d.at (bytes ":203:") (Count x.n)) (λ b. refusal h.subtype b h.address) (λ n e. ending s e.at h (settlement h t x n))))
-
-    -- 203 stands behind the payments where no further one does
-    counted : (k p : ℕ) → (ltb k 10 ≡ true → begins (bytes ":127:") (drop p s) ≡ false) → Ask p (at203 k) (count k)
-    counted k p f = go (ltb k 10) refl
-      where
-        go : (b : Bool) → ltb k 10 ≡ b → Ask p (at203 k) (count k)
-        go true e = second p (at203 k) (payment k) (count k) refl (rw e) (f e)
-        go false e = alone p (at203 k) (count k) refl (rw e)
-
-    count_walk : (t : Terms) (k p : ℕ) (items : List Payment) → (ltb k 10 ≡ true → begins (bytes ":127:") (drop p s) ≡ false) → Walk (paid_for t (ended (Done (place p)) k items)) p (at203 k)
-    count_walk t k p items f =
-        on_line broken_in (λ b. refusal h.subtype b h.address) (λ b. refl) (λ n e. ending s e.at h (settlement h t (ended (Done (place p)) k items) n)) (count k) (Count k) (fits203 s k) (counted k p f) (λ v. refl) (λ n d q g.
-        end_walk broken_in (refusal h.subtype (absent d.at) h.address) (settlement h t (ended (Done (place p)) k items) n) d.at refl refl)
-
-    abbrev paid_on : Terms → ℕ → ℕ → List Payment → Paid → Option Break
-    paid_on t room k items x = paid_for t (on_paid x (λ b. ended (Cut b) k items) (λ y c. cond (more_at s c.at) (payments_on room s c.at (k + 1) (set items k y)) (ended (Done (place c.at)) (k + 1) (set items k y))))
-
-    -- behind a payment: a further one, or 203
-    more_walk : (t : Terms) (room k p : ℕ) (items : List Payment) → (begins (bytes ":127:") (drop p s) ≡ true → Walk (paid_for t (payments_on room s p (k + 1) items)) p (at203 (k + 1))) → Walk (paid_for t (cond (more_at s p) (payments_on room s p (k + 1) items) (ended (Done (place p)) (k + 1) items))) p (at203 (k + 1))
-    unfolding more_at
-    more_walk t room k p items on = go (lit_at s p (bytes ":127:")) refl
-      where
-        go : (r : At) → lit_at s p (bytes ":127:") ≡ r → Walk (paid_for t (cond (stands r) (payments_on room s p (k + 1) items) (ended (Done (place p)) (k + 1) items))) p (at203 (k + 1))
-        go (Next a) l = on (lit_yes s p (bytes ":127:") l)
-        go No l = count_walk t (k + 1) p items (λ e. lit_not s p (bytes ":127:") l)
-
-    -- "1 to 10 times"
-    payments_walk : (t : Terms) (room k p : ℕ) (items : List Payment) (e : Expecting) → k + suc room ≡ 10 → Ask p e (payment k) → Walk (paid_for t (payments_on (suc room) s p k items)) p e
-    unfolding payments_on
-    payments_walk t zero k p items e n ask =
-        payment_walk (paid_on t zero k items) (λ b. refl) k (λ y c.
-        more_walk t zero k c.at (set items k y) (λ m.
-        count_walk t (k + 1) c.at (set items k y) (λ l. absurd (omega (arith, ltb-true (k + 1) 10 l))))) p e ask
-    payments_walk t (suc room) k p items e n ask =
-        payment_walk (paid_on t (suc room) k items) (λ b. refl) k (λ y c.
-        more_walk t (suc room) k c.at (set items k y) (λ m.
-        payments_walk t room (k + 1) c.at (set items k y) (at203 (k + 1)) (omega arith) (leading c.at (at203 (k + 1)) (payment (k + 1)) (count (k + 1)) refl (rw (lt-ltb (k + 1) 10 (omega arith))) m))) p e ask
-
-    all_paid_walk : (t : Terms) (p : ℕ) (e : Expecting) → Ask p e (payment 0) → Walk (paid_for t (payments_at s p)) p e
+    all_paid_walk : (t : Terms) (p : ℕ) (e : Expecting) → Ask s p e (payment 0) → Walk s (paid_for s h t (payments_at s p)) p e
     unfolding payments_at
-    all_paid_walk t p e ask = payments_walk t 9 0 p no-payments e refl ask
+    all_paid_walk t p e ask = payments_walk s h t 9 0 p no-payments e refl ask
 
     abbrev stated_for : Stated → Option Break
     stated_for x = broken_in (on_whole x (λ b. refusal h.subtype b h.address) (λ t c. on_done (payments_at s c.at).ending (λ b. refusal h.subtype b h.address) (λ d. on_good (field_at s d.at (bytes ":203:") (Count (payments_at s c.at).n)) (λ b. refusal h.subtype b h.address) (λ n e. ending s e.at h (settlement h t (payments_at s c.at) n)))))
 
     -- "the line may be missing"
-    activation_walk : (i date : Item) (p : ℕ) → Walk (stated_for (on_given (activation_at s p) Partial (λ m q e. Whole (terms s i date m q) e))) p at175
+    activation_walk : (i date : Item) (p : ℕ) → Walk s (stated_for (on_given (activation_at s p) Partial (λ m q e. Whole (terms s i date m q) e))) p at175
     unfolding activation_at
     activation_walk i date p = go (lit_at s p (bytes ":175:")) refl
       where
-        go : (r : At) → lit_at s p (bytes ":175:") ≡ r → Walk (stated_for (on_given (on_next r (Given AtOnce no_part (place p)) (λ a. on_good (field_at s p (bytes ":175:") Time) Ungiven (λ j c. Given (Minute j.number) j.part c))) Partial (λ m q e. Whole (terms s i date m q) e))) p at175
-        go No l = all_paid_walk (terms s i date AtOnce no_part) p at175 (second p at175 (choice f175 (λ v. at127)) (payment 0) refl refl (lit_not s p (bytes ":175:") l))
+        go : (r : At) → lit_at s p (bytes ":175:") ≡ r → Walk s (stated_for (on_given (on_next r (Given AtOnce no_part (place p)) (λ a. on_good (field_at s p (bytes ":175:") Time) Ungiven (λ j c. Given (Minute j.number) j.part c))) Partial (λ m q e. Whole (terms s i date m q) e))) p at175
+        go No l = all_paid_walk (terms s i date AtOnce no_part) p at175 (second s p at175 (choice f175 (λ v. at127)) (payment 0) refl refl (lit_not s p (bytes ":175:") l))
         go (Next a) l =
-            on_line (λ (x : Activated). stated_for (on_given x Partial (λ m q e. Whole (terms s i date m q) e))) Ungiven (λ b. refl) (λ j c. Given (Minute j.number) j.part c) (choice f175 (λ v. at127)) Time (fits175 s) (leading p at175 (choice f175 (λ v. at127)) (payment 0) refl refl (lit_yes s p (bytes ":175:") l)) (λ v. refl) (λ j c q g.
-            all_paid_walk (terms s i date (Minute j.number) j.part) c.at at127 (alone c.at at127 (payment 0) refl refl))
+            on_line (λ (x : Activated). stated_for (on_given x Partial (λ m q e. Whole (terms s i date m q) e))) Ungiven (λ b. refl) (λ j c. Given (Minute j.number) j.part c) (choice f175 (λ v. at127)) Time (fits175 s) (leading s p at175 (choice f175 (λ v. at127)) (payment 0) refl refl (lit_yes s p (bytes ":175:") l)) (λ v. refl) (λ j c q g.
+            all_paid_walk (terms s i date (Minute j.number) j.part) c.at at127 (alone s c.at at127 (payment 0) refl refl))
 
-    settlement_walk : (p : ℕ) → Walk (broken_in (settlement_at s p h)) p at16a
+    settlement_walk : (p : ℕ) → Walk s (broken_in (settlement_at s p h)) p at16a
     unfolding settlement_at terms_at
     settlement_walk p =
-        on_line stated_for Partial (λ b. refl) _ (choice f16a (λ v. at171)) Numbers (fits16a s) (alone p at16a (choice f16a (λ v. at171)) refl refl) (λ v. refl) (λ i c q g.
-        on_line stated_for Partial (λ b. refl) _ (choice f171 (λ v. at175)) Date (fits171 s) (alone c.at at171 (choice f171 (λ v. at175)) refl refl) (λ v. refl) (λ date d r k.
+        on_line stated_for Partial (λ b. refl) _ (choice f16a (λ v. at171)) Numbers (fits16a s) (alone s p at16a (choice f16a (λ v. at171)) refl refl) (λ v. refl) (λ i c q g.
+        on_line stated_for Partial (λ b. refl) _ (choice f171 (λ v. at175)) Date (fits171 s) (alone s c.at at171 (choice f171 (λ v. at175)) refl refl) (λ v. refl) (λ date d r k.
         activation_walk i date d.at))
 
     -- "A recall ends after 119."
-    recall_walk : (p : ℕ) → Walk (broken_in (recall_at s p h)) p at_end
+    recall_walk : (p : ℕ) → Walk s (broken_in (recall_at s p h)) p at_end
     unfolding recall_at
     recall_walk p = end_walk broken_in (refusal h.subtype (absent p) h.address) (bare Recall h) p refl refl
 
   -- 12 to 119
-  address_walk : (settles : Bool) (answer : Addressed → Option Break) → ((b : Break) (a : Address) → answer (Lost b a) ≡ some b) → ((a : Address) (c : Cursor) → Walk (answer (To a c)) c.at (cond settles at16a at_end)) → (p : ℕ) → Walk (answer (address_at s p)) p (at77e settles)
+  address_walk : (settles : Bool) (answer : Addressed → Option Break) → ((b : Break) (a : Address) → answer (Lost b a) ≡ some b) → ((a : Address) (c : Cursor) → Walk s (answer (To a c)) c.at (cond settles at16a at_end)) → (p : ℕ) → Walk s (answer (address_at s p)) p (at77e settles)
   unfolding address_at
   address_walk settles answer ok on p =
-      on_line answer (λ b. Lost b nowhere) (λ b. ok b nowhere) _ (choice f77e (λ v. at22a settles)) Empty (fits77e s) (alone p (at77e settles) (choice f77e (λ v. at22a settles)) refl refl) (λ v. refl) (λ empty c q g.
-      on_line answer (λ b. Lost b nowhere) (λ b. ok b nowhere) _ (choice f22a (λ v. at119 settles v)) (Word 4) (fits22a s) (alone c.at (at22a settles) (choice f22a (λ v. at119 settles v)) refl refl) (λ v. refl) (λ stream d r k.
+      on_line answer (λ b. Lost b nowhere) (λ b. ok b nowhere) _ (choice f77e (λ v. at22a settles)) Empty (fits77e s) (alone s p (at77e settles) (choice f77e (λ v. at22a settles)) refl refl) (λ v. refl) (λ empty c q g.
+      on_line answer (λ b. Lost b nowhere) (λ b. ok b nowhere) _ (choice f22a (λ v. at119 settles v)) (Word 4) (fits22a s) (alone s c.at (at22a settles) (choice f22a (λ v. at119 settles v)) refl refl) (λ v. refl) (λ stream d r k.
       let w = k.line.value in
       let z : stream.part.end ≡ stream.part.start + 4 = rw k.span (omega (arith, k.line.is.size)) in
-      on_line answer (λ b. Lost b (to_stream stream)) (λ b. ok b (to_stream stream)) _ (choice (f119 w) (λ v. cond settles at16a at_end)) (Bin stream.part) (fits119 s w stream.part k.text stream.part.end (omega arith, omega (arith, z))) (alone d.at (at119 settles w) (choice (f119 w) (λ v. cond settles at16a at_end)) refl refl) (λ v. refl) (λ bin e t l.
+      on_line answer (λ b. Lost b (to_stream stream)) (λ b. ok b (to_stream stream)) _ (choice (f119 w) (λ v. cond settles at16a at_end)) (Bin stream.part) (fits119 s w stream.part k.text stream.part.end (omega arith, omega (arith, z))) (alone s d.at (at119 settles w) (choice (f119 w) (λ v. cond settles at16a at_end)) refl refl) (λ v. refl) (λ bin e t l.
       on _ e)))
 
-  message_walk : (p : ℕ) (reference : Named) (t : Item) → Walk (broken_in (message_at s p reference t)) p (at77e (eqb t.number 131))
+  message_walk : (p : ℕ) (reference : Named) (t : Item) → Walk s (broken_in (message_at s p reference t)) p (at77e (eqb t.number 131))
   unfolding message_at
   message_walk p reference t = address_walk (eqb t.number 131) (λ (x : Addressed). broken_in (on_to x (refusal t) (λ a c. cond (eqb t.number 131) (settlement_at s c.at (head reference t a)) (recall_at s c.at (head reference t a))))) (λ b a. refl) (λ a c. go a c (eqb t.number 131)) p
     where
-      go : (a : Address) (c : Cursor) (b : Bool) → Walk (broken_in (cond b (settlement_at s c.at (head reference t a)) (recall_at s c.at (head reference t a)))) c.at (cond b at16a at_end)
+      go : (a : Address) (c : Cursor) (b : Bool) → Walk s (broken_in (cond b (settlement_at s c.at (head reference t a)) (recall_at s c.at (head reference t a)))) c.at (cond b at16a at_end)
       go a c true = settlement_walk (head reference t a) c.at
       go a c false = recall_walk (head reference t a) c.at
 
@@ -235,18 +102,18 @@ module _ (s : List ℕ) where
   sub_type = choice (f12 (131 ∷ 133 ∷ [])) (λ v. at77e (eqb (value_of 0 v) 131))
 
   -- "a well-formed sub type other than 131 or 133 gives 88 at that line"
-  sub_type_walk : (p : ℕ) (reference : Named) (t : Item) (d : Cursor) (g : LineRead s p (bytes ":12:") (Numeral 3) t d) → standing (choices at12) (drop p s) ≡ some sub_type → ((o : Option Break) → IsNumeral 3 g.line.value → member (value_of 0 g.line.value) (131 ∷ 133 ∷ []) ≡ true → Walk o d.at (at77e (eqb (value_of 0 g.line.value) 131)) → Walk o p at12) → Walk (broken_in (cond (member t.number (131 ∷ 133 ∷ [])) (message_at s d.at reference t) (unread (broken p OtherSubType)))) p at12
+  sub_type_walk : (p : ℕ) (reference : Named) (t : Item) (d : Cursor) (g : LineRead s p (bytes ":12:") (Numeral 3) t d) → standing (choices at12) (drop p s) ≡ some sub_type → ((o : Option Break) → IsNumeral 3 g.line.value → member (value_of 0 g.line.value) (131 ∷ 133 ∷ []) ≡ true → Walk s o d.at (at77e (eqb (value_of 0 g.line.value) 131)) → Walk s o p at12) → Walk s (broken_in (cond (member t.number (131 ∷ 133 ∷ [])) (message_at s d.at reference t) (unread (broken p OtherSubType)))) p at12
   sub_type_walk p reference t d g st on = go (member t.number (131 ∷ 133 ∷ [])) refl
     where
-      go : (b : Bool) → member t.number (131 ∷ 133 ∷ []) ≡ b → Walk (broken_in (cond b (message_at s d.at reference t) (unread (broken p OtherSubType)))) p at12
-      go true m = on (broken_in (message_at s d.at reference t)) g.line.is (ap (λ (n : ℕ). member n (131 ∷ 133 ∷ [])) (sym g.means) ∙ m) (subst (λ (n : ℕ). Walk (broken_in (message_at s d.at reference t)) d.at (at77e (eqb n 131))) g.means (message_walk d.at reference t))
+      go : (b : Bool) → member t.number (131 ∷ 133 ∷ []) ≡ b → Walk s (broken_in (cond b (message_at s d.at reference t) (unread (broken p OtherSubType)))) p at12
+      go true m = on (broken_in (message_at s d.at reference t)) g.line.is (ap (λ (n : ℕ). member n (131 ∷ 133 ∷ [])) (sym g.means) ∙ m) (subst (λ (n : ℕ). Walk s (broken_in (message_at s d.at reference t)) d.at (at77e (eqb n 131))) g.means (message_walk d.at reference t))
       go false m = stop {e = at12} (broken p OtherSubType) refl (other sub_type refl st g.line (ap (λ (n : ℕ). member n (131 ∷ 133 ∷ [])) (sym g.means) ∙ m))
 
-  request_walk : Walk (broken_in (request_at s)) 0 at20
+  request_walk : Walk s (broken_in (request_at s)) 0 at20
   unfolding request_at
   request_walk =
-      on_line broken_in unread (λ b. refl) _ (choice f20 (λ v. at12)) Reference (fits20 s) (alone 0 at20 (choice f20 (λ v. at12)) refl refl) (λ v. refl) (λ i c q g.
-      on_field broken_in unread (λ b. refl) _ sub_type (Numeral 3) (fits12 s (131 ∷ 133 ∷ [])).covers (alone c.at at12 sub_type refl refl) (λ t d r k st on.
+      on_line broken_in unread (λ b. refl) _ (choice f20 (λ v. at12)) Reference (fits20 s) (alone s 0 at20 (choice f20 (λ v. at12)) refl refl) (λ v. refl) (λ i c q g.
+      on_field broken_in unread (λ b. refl) _ sub_type (Numeral 3) (fits12 s (131 ∷ 133 ∷ [])).covers (alone s c.at at12 sub_type refl refl) (λ t d r k st on.
       sub_type_walk c.at (named_at s i.part) t d k st on))
 
 refused_by : (o : Outcome) (b : Break) → broken_by o ≡ some b → o ≡ Refused b

@@ -59,7 +59,8 @@ use Rattle.thm_first_break.specs.Order.{Choice, choice}
 use Rattle.thm_first_break.specs.Replies.{Awaiting, on20, on12, on77e, on21, on22a, on119, on451, on13e, on432, on_end, replies}
 use Rattle.thm_first_break.specs.Breaks.{standing, missing, wrong, other, beginning, ResponseBreaks}
 use Rattle.thm_first_break.proofs.Values.{same_long}
-use Rattle.thm_first_break.proofs.First.{Verdict, step, stop, breaks_first, one_break}
+use Rattle.thm_first_break.proofs.First.{Verdict, step, stop, breaks_first}
+use Rattle.thm_first_break.proofs.Once.{one_break}
 use Rattle.thm_first_break.proofs.Steps.{fits12, fits77e, fits22a, fits119, fits21, fits432, covers451, covers13e, read_and_not, Asked, alone as row-alone, end_walk, on_field, on_line}
 
 abbrev broken_by : Reply → Option Break
