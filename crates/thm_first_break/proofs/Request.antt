@@ -36,7 +36,7 @@ use Rattle.request_read.specs.declared.payments.Paid.{Paid}
 use Rattle.request_read.specs.declared.payments.Paid.TheVariants.{One, Unpaid}
 use Rattle.request_read.specs.declared.payments.Ending.TheVariants.{Done, Cut}
 use Rattle.request_read.specs.declared.payments.Payments.{Payments}
-use Rattle.request_read.specs.whole.Request.{refusal, unread, settlement, bare, head, named_at, address, nowhere, to_stream, address_at, on_to, on_done, ending, settlement_at, recall_at, message_at, request_at}
+use Rattle.request_read.specs.whole.Request.{refusal, unread, settlement, bare, head, named_at, nowhere, to_stream, address_at, on_to, on_done, ending, settlement_at, recall_at, message_at, request_at}
 use Rattle.request_read.specs.declared.whole.Address.{Address}
 use Rattle.request_read.specs.declared.whole.Addressed.{Addressed}
 use Rattle.request_read.specs.declared.whole.Addressed.TheVariants.{To, Lost}
