@@ -1,5 +1,5 @@
 -- A message that keeps step 5's rules makes a right batch of the batch that it joins.
-use Prim.Native.Nat.{ℕ, zero, suc, ◌+◌, ◌≤◌, ◌<◌}
+use Prim.Native.Nat.{ℕ, zero, suc, ◌≤◌, ◌<◌}
 use mathlib.Core.Path.{◌≡◌, refl, sym, ap, subst, ◌∙◌}
 use mathlib.Core.Logic.{◌⊎◌, inl, inr}
 use mathlib.Core.Bool.{true, false, false≢true}
@@ -20,7 +20,7 @@ use Rattle.queue.proofs.MemoryLaws.{by_bool}
 use Rattle.queue.proofs.Trail.{All-append}
 use Rattle.book_read.specs.Range.{Each}
 use Rattle.model.specs.declared.Answer.TheVariants.{Done, Refused}
-use Rattle.model.specs.State.{at, on_found, Message, Batch, State, payments_of}
+use Rattle.model.specs.State.{on_found, Message, Batch, State, payments_of}
 use Rattle.model.specs.Messages.{Rule, first_broken, bank_place, line_bank, line_payment, line_payments, lines, arrived, has_number, line_rules, banks_in, message_rules, with_message}
 use Rattle.model.specs.Rules.{is_reference, is_bin, are_letters, Priced, Lettered, numbers, RightMinute, RightMessage, RightBatch}
 use Rattle.model.proofs.Truth.{or_false}

@@ -1,5 +1,4 @@
 -- Steps 1 to 3 of a message: texts that touch no batch, and used references (broken parts: DaysBroken). Administrator 5 has PROP, 7 has CARD.
-use Prim.Native.Nat.{ℕ}
 use mathlib.Core.Path.{◌≡◌, refl}
 use mathlib.Core.List.{List, [], ◌∷◌, ◌++◌}
 use Rattle.chars.specs.Words.{bytes}

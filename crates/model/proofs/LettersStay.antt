@@ -1,16 +1,14 @@
 -- An accepted status change changes the ESA letter of the bank's debits in the batch that it names, and nothing else of any batch.
-use Prim.Native.Nat.{ℕ, zero, suc, ◌+◌, ◌*◌, ◌/◌, ◌%◌, ◌<◌}
+use Prim.Native.Nat.{ℕ, zero, suc, ◌<◌}
 use mathlib.Core.Path.{◌≡◌, refl, sym, ap, subst, ◌∙◌}
 use mathlib.Core.Logic.{◌⊎◌, inl, inr}
-use mathlib.Core.Bool.{Bool, true, false, cond, false≢true}
+use mathlib.Core.Bool.{cond}
 use mathlib.Core.List.{List, [], ◌∷◌}
 use native.Mathlib.Omega.{arith}
 use lib.Dec.{eqb}
 use lib.ListN.{length, get_or, set, drop}
 use lib.Seq.{get_or-set_same, get_or-set_other}
 use Rattle.chars.specs.Words.{bytes, member}
-use Rattle.chars.specs.declared.Refusal.{Refusal}
-use Rattle.codes.specs.Codes.{short_text}
 use Rattle.codes.specs.declared.Code.{Code}
 use Rattle.settle.specs.Payments.{Payment, credit, debit}
 use Rattle.queue.specs.Tests.{Outcome}
@@ -19,15 +17,14 @@ use Rattle.model.specs.declared.Action.{Action}
 use Rattle.model.specs.declared.Action.TheVariants.{Status}
 use Rattle.model.specs.declared.Answer.{Answer}
 use Rattle.model.specs.declared.Answer.TheVariants.{Done, Refused}
-use Rattle.model.specs.Kinds.{changes_status}
-use Rattle.model.specs.State.{at, nowhere, on_found, Message, Place, free, live, Batches, State, place_at, payments_at, with_place}
+use Rattle.model.specs.State.{at, Message, Place, free, live, Batches, State, place_at, payments_at, with_place}
 use Rattle.model.specs.Messages.{Acted, bank_place, waiting}
 use Rattle.model.specs.Joining.{join}
 use Rattle.model.specs.Changes.{has_debit, with_esa, relabel, relettered, with_letter, status}
 use Rattle.model.specs.Ending.{emptied, after_test}
-use Rattle.model.specs.Calls.{Call, Engine, Result, judge, begun, act, tested, left, goes_on, stepped, judged, call}
+use Rattle.model.specs.Calls.{Call, Engine, judge, begun, act, tested, left, goes_on, stepped, judged, call}
 use Rattle.model.specs.Promises.{asking}
-use Rattle.model.specs.Lettered.{SetDebit, SetPayment, SetPayments, SetMessages, SetPlace, StatusSet, LettersStay}
+use Rattle.model.specs.Lettered.{SetDebit, SetPayments, SetMessages, SetPlace, StatusSet, LettersStay}
 use Rattle.model.proofs.Counting.{times}
 use Rattle.model.proofs.Standing.{emptied_on, emptied_off}
 use Rattle.model.proofs.Seeking.{by_found, is_waiting}

@@ -1,6 +1,6 @@
 -- What is promised of the engine, over any calls and clearings from a start. Each promise is a word about what a call leaves, f, so that it can be held
 -- against any engine; `call` keeps them all.
-use Prim.Native.Nat.{ℕ, ◌+◌, ◌≤◌, ◌<◌}
+use Prim.Native.Nat.{ℕ, ◌≤◌, ◌<◌}
 use mathlib.Core.Path.{◌≡◌, refl, sym, ap, subst, ◌∙◌}
 use mathlib.Core.Bool.{Bool, true, false, cond}
 use mathlib.Core.List.{List, [], ◌∷◌, ◌++◌, map, append-nil}

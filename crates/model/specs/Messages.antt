@@ -1,5 +1,5 @@
 -- "A message's action, first failure decides".
-use Rattle.std.specs.Prelude.{ℕ, ◌+◌, ◌/◌, ◌%◌, ◌^◌, Bool, true, false, ◌&&◌, ◌||◌, not, cond, List, [], ◌∷◌, ◌++◌, eqb, leb, length, get_or, take, set}
+use Rattle.std.specs.Prelude.{ℕ, ◌/◌, ◌%◌, ◌^◌, Bool, true, false, ◌&&◌, ◌||◌, not, cond, List, [], ◌∷◌, ◌++◌, eqb, leb, length, get_or, take, set}
 use Rattle.chars.specs.Words.{member}
 use Rattle.chars.specs.Refusals.{number_of}
 use Rattle.chars.specs.declared.Refusal.{Refusal}

@@ -11,7 +11,7 @@ use Rattle.request_read.specs.declared.whole.Reading.{Reading}
 use Rattle.response_read.specs.Reply.{response_at}
 use Rattle.response_read.specs.declared.Reply.{Reply as Response}
 use Rattle.response_read.specs.declared.Reply.TheVariants.{Settlement, Recall}
-use Rattle.book_read.specs.Book.{each, book_check}
+use Rattle.book_read.specs.Book.{book_check}
 use Rattle.book_read.specs.Accounts.{day_in, streams_in, banks_in}
 use Rattle.book_read.specs.declared.Answer.TheVariants.{Sound}
 use Rattle.settle.specs.Payments.{Payment}

@@ -1,5 +1,6 @@
 // The engine's vocabulary: what a call asks for, and what it answers.
 #![tactic(auto)]
+
 ghost use Rattle.std.specs.Prelude.{◌≡◌};
 ghost use Rattle.model.specs.Answers.{answer_number};
 

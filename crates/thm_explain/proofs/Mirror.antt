@@ -1,6 +1,6 @@
 -- Stages that mirror what `thm_first_break` says may stand where a line begins: the walk then tells just that.
 use Prim.Native.Nat.{ℕ, ◌+◌, ◌≤◌}
-use mathlib.Core.Path.{◌≡◌, refl, ap, ap₂, sym, subst, ◌∙◌}
+use mathlib.Core.Path.{◌≡◌, refl, ap, sym, subst, ◌∙◌}
 use mathlib.Core.List.{List, [], ◌∷◌, ◌++◌}
 use mathlib.Core.Bool.{Bool, true, false, cond, ◌&&◌}
 use mathlib.Core.Logic.{◌⊎◌, inl, inr}
@@ -11,7 +11,6 @@ use lib.ListN.{length, get_or, drop, length-drop, length-append}
 use lib.Seq.{drop-append_seam, drop-drop}
 use Rattle.chars.specs.Words.{bytes, crlf}
 use Rattle.chars.specs.Refusals.{number_of}
-use Rattle.chars.specs.declared.Refusal.{Refusal}
 use Rattle.chars.specs.declared.Refusal.TheVariants.{Malformed, WrongEsa, WrongLetter}
 use Rattle.text_scan.specs.Scan.{on_next, begins, lit_at, line_end_at}
 use Rattle.text_scan.specs.Spelling.{All}
@@ -23,22 +22,21 @@ use Rattle.text_fields.specs.Grammar.{Line}
 use Rattle.text_fields.proofs.Grammar.{line_text_lem}
 use Rattle.text_fields.specs.declared.Break.{Break}
 use Rattle.thm_first_break.specs.Rows.{Row, f20, f12, f77e, f22a, f119, f16a, f171, f175, f127, f32b, f113, no113, f102, f203, f_b20, f21, f451, f13e, f432, tag_of, Is, known, four_characters, refusal_of}
-use Rattle.thm_first_break.specs.Order.{Choice, choice}
+use Rattle.thm_first_break.specs.Order.{Choice}
 use Rattle.thm_first_break.specs.Breaks.{standing, Reached, beginning, behind, Breaks, missing, wrong, other, FirstBreak}
 use Rattle.text_explain.specs.Tags.{tag_text, texts_of}
 use Rattle.text_explain.specs.Stages.{tags_at, after, said_in}
-use Rattle.text_explain.specs.Walk.{place, one_at, stands_at, onward_at, step_at, place_at}
-use Rattle.text_explain.specs.Faults.{told, fault_at, told_at}
+use Rattle.text_explain.specs.Walk.{place, stands_at, onward_at, step_at, place_at}
+use Rattle.text_explain.specs.Faults.{fault_at, told_at}
 use Rattle.thm_explain.specs.Explained.{is_never, tags_in, lines_in, Explained, is_missing, is_wrong, is_unknown, is_never_lem, Tells}
 use Rattle.text_explain.specs.declared.Tag.{Tag}
 use Rattle.text_explain.specs.declared.Tag.TheVariants.{T102}
-use Rattle.text_explain.specs.declared.Tags.{Tags}
 use Rattle.text_explain.specs.declared.Tags.TheVariants.{One, Two}
 use Rattle.text_explain.specs.declared.Stage.{Stage}
 use Rattle.text_explain.specs.declared.Place.{Place}
 use Rattle.text_explain.specs.declared.Stands.TheVariants.{Here, Nowhere}
-use Rattle.text_explain.specs.declared.Step.TheVariants.{Onto, Stay}
-use Rattle.text_explain.specs.declared.Fault.TheVariants.{Missing, Wrong, Unknown, AfterCredit}
+use Rattle.text_explain.specs.declared.Step.TheVariants.{Onto}
+use Rattle.text_explain.specs.declared.Fault.TheVariants.{Wrong, Unknown}
 use Rattle.text_explain.proofs.Laws.{Going, going_start, going_on, going_done, fault_1, fault_2, wrong_1, wrong_2}
 use Rattle.thm_explain.proofs.InLine.{in_line}
 

@@ -1,7 +1,7 @@
 -- What is told of a request's break.
-use Prim.Native.Nat.{ℕ, ◌+◌, ◌-◌}
-use mathlib.Core.Path.{◌≡◌, refl, ap, ap₂, sym, subst, ◌∙◌}
-use mathlib.Core.List.{List, [], ◌∷◌, ◌++◌}
+use Prim.Native.Nat.{ℕ, ◌-◌}
+use mathlib.Core.Path.{◌≡◌, refl, ap, subst}
+use mathlib.Core.List.{List, [], ◌∷◌}
 use mathlib.Core.Bool.{Bool, true, false, cond}
 use mathlib.Core.Logic.{◌⊎◌, inl, inr}
 use mathlib.Core.Option.{some}
@@ -9,13 +9,12 @@ use native.Mathlib.Omega.{arith}
 use borrow.Author.Tests.{lt-ltb, le-ltb, ltb-true, ltb-false}
 use lib.Dec.{ltb, eqb}
 use lib.ListN.{drop}
-use Rattle.chars.specs.Words.{bytes}
 use Rattle.text_scan.specs.Scan.{begins}
 use Rattle.text_scan.specs.Spelling.{All, value_of}
 use Rattle.text_fields.specs.declared.Break.{Break}
 use Rattle.request_read.specs.whole.Request.{request_at}
 use Rattle.request_read.specs.declared.whole.Outcome.TheVariants.{Refused}
-use Rattle.thm_first_break.specs.Rows.{Row, f20, f12, f77e, f22a, f119, f16a, f171, f175, f127, f32b, f113, no113, f102, f203, tag_of}
+use Rattle.thm_first_break.specs.Rows.{f20, f12, f77e, f22a, f119, f16a, f171, f175, f127, f32b, f113, no113, f102, f203, tag_of}
 use Rattle.thm_first_break.specs.Order.{Choice, choice, Expecting, at20, at12, at77e, at22a, at119, at16a, at171, at175, at127, at32b, at113, at102, at203, at_end, payment, bank, count, choices}
 use Rattle.thm_first_break.specs.Breaks.{standing}
 use Rattle.thm_first_break.proofs.Request.{first_break}
@@ -24,7 +23,6 @@ use Rattle.text_explain.specs.Stages.{tags_at}
 use Rattle.text_explain.specs.Faults.{told_at}
 use Rattle.thm_explain.specs.Explained.{tags_in, TellsRequest}
 use Rattle.text_explain.specs.declared.Tag.TheVariants.{T20, T12, T77E, T22A, T119, T16A, T171, T175, T127, T32B, T113, T102, T203}
-use Rattle.text_explain.specs.declared.Tags.{Tags}
 use Rattle.text_explain.specs.declared.Tags.TheVariants.{One, Two}
 use Rattle.text_explain.specs.declared.Stage.{Stage}
 use Rattle.text_explain.specs.declared.Stage.TheVariants.{At20, At12, At77E, At22A, At119, At16A, At171, At175, At127, At32B, At113, At102, At203, AtEnd}
