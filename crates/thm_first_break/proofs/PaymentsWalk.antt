@@ -27,7 +27,7 @@ use Rattle.request_read.specs.declared.payments.Paid.{Paid}
 use Rattle.request_read.specs.declared.payments.Paid.TheVariants.{One, Unpaid}
 use Rattle.request_read.specs.declared.payments.Ending.TheVariants.{Done, Cut}
 use Rattle.request_read.specs.declared.payments.Payments.{Payments}
-use Rattle.request_read.specs.whole.Request.{refusal, settlement, address, on_done, ending}
+use Rattle.request_read.specs.whole.Request.{refusal, settlement, on_done, ending}
 use Rattle.request_read.specs.declared.whole.Head.{Head}
 use Rattle.request_read.specs.declared.whole.Outcome.{Outcome}
 use Rattle.request_read.specs.declared.whole.Outcome.TheVariants.{Settlement, Recall, Refused}

@@ -15,7 +15,7 @@ use Rattle.text_scan.specs.declared.At.TheVariants.{Next, No}
 use Rattle.text_scan.specs.declared.Cursor.{Cursor}
 use Rattle.text_scan.proofs.Laws.{lit_yes, lit_not}
 use Rattle.text_scan.specs.Spelling.{value_of}
-use Rattle.text_values.specs.Values.{no_part, stands}
+use Rattle.text_values.specs.Values.{no_part}
 use Rattle.text_values.specs.Grammar.{IsNumeral}
 use Rattle.text_fields.specs.Fields.{absent, broken, place, on_good, field_at}
 use Rattle.text_fields.specs.declared.Break.{Break}
@@ -29,7 +29,7 @@ use Rattle.request_read.specs.declared.terms.Activated.TheVariants.{Given, Ungiv
 use Rattle.request_read.specs.declared.terms.Stated.{Stated}
 use Rattle.request_read.specs.declared.terms.Stated.TheVariants.{Whole, Partial}
 use Rattle.request_read.specs.payments.Payments.{none as no-payments, payments_at}
-use Rattle.request_read.specs.whole.Request.{refusal, unread, settlement, bare, head, named_at, address, nowhere, to_stream, address_at, on_to, on_done, ending, settlement_at, recall_at, message_at, request_at}
+use Rattle.request_read.specs.whole.Request.{refusal, unread, settlement, bare, head, named_at, nowhere, to_stream, address_at, on_to, on_done, ending, settlement_at, recall_at, message_at, request_at}
 use Rattle.request_read.specs.declared.whole.Address.{Address}
 use Rattle.request_read.specs.declared.whole.Addressed.{Addressed}
 use Rattle.request_read.specs.declared.whole.Addressed.TheVariants.{To, Lost}
