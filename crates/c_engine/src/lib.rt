@@ -1,6 +1,7 @@
 // The calls on what a program in C lends: the engine in rows of words. include/purmagheli.h has the
 // same constants.
 #![tactic(auto)]
+
 ghost use Rattle.std.specs.Prelude.{◌≡◌, [], ◌∷◌, ◌++◌, ◌≤◌, length, take, drop};
 ghost use Rattle.std.proofs.lemmas.List.Edits.{sets};
 ghost use Rattle.chars.specs.Words.{Says};

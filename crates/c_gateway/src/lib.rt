@@ -2,6 +2,7 @@
 // value starts in the text, its length, and its value in a number or two. include/purmagheli.h has
 // the same constants and says what each word is.
 #![tactic(auto)]
+
 pub mod books;
 pub mod breaks;
 pub mod writers;

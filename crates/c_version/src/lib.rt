@@ -1,5 +1,6 @@
 // The version of the C library. include/purmagheli.h has the same number.
 #![tactic(auto)]
+
 ghost use Rattle.std.specs.Prelude.{◌≡◌};
 ghost use Rattle.c_version.specs.Version.{version};
 

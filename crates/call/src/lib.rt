@@ -1,5 +1,6 @@
 // A call: 06, 05, 07, then the action, (a) to (d).
 #![tactic(auto)]
+
 pub mod action;
 pub mod entry;
 pub mod premises;

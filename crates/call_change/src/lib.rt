@@ -1,5 +1,6 @@
 // Sub-limit changes and status changes.
 #![tactic(auto)]
+
 mod debits;
 
 ghost use Rattle.std.specs.Prelude.{◌≡◌, ◌≤◌, length};

@@ -1,5 +1,6 @@
 // The calls on a row of records that is passed by value and handed back, and on accounts in five columns.
 #![tactic(auto)]
+
 pub mod columns;
 
 ghost use Rattle.std.specs.Prelude.{◌≡◌, ℕ};

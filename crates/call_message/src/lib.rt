@@ -1,4 +1,5 @@
 // A message's action: its plan made and carried out.
 #![tactic(auto)]
+
 pub mod outcome;
 pub mod receive;

@@ -1,5 +1,6 @@
 // The stages of a call that change the batch table. Orders and memory are loaded into rows beside the table, changed there, and stored at the call's end.
 #![tactic(auto)]
+
 pub mod arriving;
 pub mod heads;
 pub mod joining;

@@ -1,5 +1,6 @@
 // The calls on accounts that are lent as a row of records.
 #![tactic(auto)]
+
 ghost use Rattle.std.specs.Prelude.{◌≡◌, ℕ, length};
 ghost use Rattle.chars.specs.declared.Refusal.TheVariants.{BrokenTables};
 ghost use Rattle.model.specs.declared.Answer.TheVariants.{Refused};

@@ -1,5 +1,6 @@
 // The texts that a call writes, straight into the lent buffer: each function goes on from the place reached so far.
 #![tactic(auto)]
+
 ghost use Rattle.std.specs.Prelude.{◌≡◌, ◌∷◌, [], ℕ, ◌+◌, ◌*◌, ◌≤◌, ◌<◌, length, take};
 ghost use Rattle.response_write.specs.declared.Outcome.TheVariants.{Rejected};
 ghost use Rattle.queue.specs.Tests.{passed_of};

@@ -1,5 +1,6 @@
 // The account of a book, as it is told of an accepted one, read into the rows that a book is written from.
 #![tactic(auto)]
+
 ghost use Rattle.std.specs.Prelude.{◌≡◌, ◌+◌, ◌≤◌, ◌<◌, eqb};
 ghost use Rattle.dates.specs.Dates.{sum};
 ghost use Rattle.cli_book.specs.Account.{cents_at, title_at, date_at, administrator_at, stream_at, streams_at, named_at, bit_on, bits_at, AtMostOne, standing_at, money_at, bank_at, banks_at, total_at, end_at, unread, rows_at, book_account};

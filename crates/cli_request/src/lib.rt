@@ -1,6 +1,7 @@
 // The account of a request, as it is told of an accepted one, read into the order that an administrator
 // writes.
 #![tactic(auto)]
+
 pub mod refusals;
 pub mod several;
 

@@ -1,5 +1,6 @@
 // One line of a script: the call that it asks for, or where it is none and what was expected there.
 #![tactic(auto)]
+
 ghost use Rattle.std.specs.Prelude.{◌≡◌, get_or, drop};
 ghost use Rattle.cli_script.specs.Lines.{is_blank, word_start, word_end, is_end, word_at, is_word, is_long, with_digit, number_from, number_at};
 ghost use Rattle.cli_script.specs.Lines.{seconds_of, pair_at, time_at, clock_at, bank_at, letter_at, date_at, bin_at, ended, open_at, message_at, sublimit_at};

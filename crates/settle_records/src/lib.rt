@@ -1,5 +1,6 @@
 // Settled payments, stored one by one in the row of records.
 #![tactic(auto)]
+
 pub mod testing;
 
 ghost use Rattle.std.specs.Prelude.{◌≡◌, ℕ};

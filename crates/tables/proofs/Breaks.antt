@@ -8,7 +8,6 @@ use lib.Dec.{eqb}
 use Rattle.chars.specs.Words.{member}
 use Rattle.chars.specs.Refusals.{number_of}
 use Rattle.chars.specs.declared.Refusal.{Refusal}
-use Rattle.text_fields.specs.declared.Break.{Break}
 use Rattle.request_read.specs.whole.Request.{request_at}
 use Rattle.request_read.specs.declared.whole.Outcome.{Outcome}
 use Rattle.request_read.specs.declared.whole.Outcome.TheVariants.{Settlement, Recall, Refused as Broken}

@@ -1,7 +1,7 @@
 -- Whichever test each call chooses, the tables that are left are equal but for the memory words.
 use Prim.Native.Nat.{ℕ, zero, suc, ◌+◌, ◌-◌, ◌≤◌}
 use mathlib.Core.Path.{◌≡◌, refl, sym, ap, subst, ◌∙◌}
-use mathlib.Core.Bool.{Bool, true}
+use mathlib.Core.Bool.{Bool}
 use mathlib.Core.List.{List, [], ◌∷◌, ◌++◌, map}
 use native.Mathlib.Omega.{arith}
 use lib.Dec.{ltb}
@@ -24,7 +24,7 @@ use Rattle.tables.specs.Rows.{Tables}
 use Rattle.tables.specs.Words.{batch_words, phase_of, rank_of, place_words, places_words, entries_words, sheet_words, tables_of, desk_of}
 use Rattle.tables.specs.Lent.{Left, Long, Wiped, Cleared}
 use Rattle.tables.specs.Running.{Lending, call_in, Ran, left_in, left_all}
-use Rattle.tables.specs.Choosing.{choose, choosing, is_memory, SameBut, AllSameBut}
+use Rattle.tables.specs.Choosing.{choosing, is_memory, SameBut, AllSameBut}
 use Rattle.tables.proofs.Batching.{AllLie, place_long}
 use Rattle.tables.proofs.Held.{places_lie}
 use Rattle.tables.proofs.Kept.{ran_by_the_rules}

@@ -1,5 +1,6 @@
 // The lent tables and the day's scalars.
 #![tactic(auto)]
+
 pub mod house;
 pub mod moment;
 pub mod places;

@@ -5,6 +5,7 @@
 //     24 to 31         how many words of each table are lent: codes, flags, balances, sub-limits, batches, references, BINs, sheet
 //     32, 128, 224, 320, 512, 11776, 17984, 19584   where these tables begin
 #![tactic(auto)]
+
 ghost use Rattle.std.specs.Prelude.{◌≡◌, ◌+◌, ◌≤◌, ◌<◌, length, take, drop};
 ghost use Rattle.chars.specs.Words.{Says};
 ghost use Rattle.tables.specs.Lent.{Right};

@@ -1,5 +1,6 @@
 // "Clearing accepts any contents of the right lengths (else 06, its one refusal) and is a fresh start".
 #![tactic(auto)]
+
 ghost use Rattle.std.specs.Prelude.{◌≡◌, ℕ, length, replicate};
 ghost use Rattle.chars.specs.Words.{Says};
 ghost use Rattle.model.specs.Calls.{cleared};

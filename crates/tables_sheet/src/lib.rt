@@ -1,5 +1,6 @@
 // The sheet: what is kept of each bank beside its account. It is worked out from the batches.
 #![tactic(auto)]
+
 ghost use Rattle.std.specs.Prelude.{◌≡◌, ◌<◌, length};
 ghost use Rattle.chars.specs.Words.{Says};
 ghost use Rattle.tables.specs.Rows.{batches_in};

@@ -16,7 +16,6 @@ use Rattle.request_read.specs.declared.whole.Outcome.{Outcome as Read}
 use Rattle.request_read.specs.declared.whole.Outcome.TheVariants.{Settlement, Recall, Refused as Unread}
 use Rattle.book_write.specs.Closing.{book_bytes}
 use Rattle.model.specs.declared.Action.TheVariants.{Opening, Message}
-use Rattle.model.specs.declared.Answer.{Answer}
 use Rattle.model.specs.declared.Answer.TheVariants.{Refused}
 use Rattle.model.specs.Answers.{answer_number}
 use Rattle.model.specs.Kinds.{steps, kind_of, Own, receives, changes_sublimit, changes_status, nothing}

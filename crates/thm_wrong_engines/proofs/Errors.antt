@@ -11,7 +11,7 @@ use Rattle.settle.specs.Settlement.{Accounts, verdict}
 use Rattle.settle.specs.Rules.{credits}
 use Rattle.settle.specs.declared.Verdict.TheVariants.{Stops}
 use Rattle.queue.specs.Tests.{passed_of}
-use Rattle.queue.specs.Promise.{AllCovered, Trail, halt, pass}
+use Rattle.queue.specs.Promise.{AllCovered, Trail, pass}
 use Rattle.queue.proofs.Trail.{covered_passes}
 use Rattle.queue.proofs.Agree.{passes≢stops}
 use Rattle.model.specs.declared.Action.TheVariants.{Opening, Message, SubLimit}
@@ -20,7 +20,7 @@ use Rattle.model.specs.declared.Answer.TheVariants.{Done}
 use Rattle.model.specs.Kinds.{steps, kind_of}
 use Rattle.model.specs.State.{payments_at as placed}
 use Rattle.model.specs.Calls.{Call, Engine, Result, judge, call}
-use Rattle.model.specs.Course.{start, Deed, course}
+use Rattle.model.specs.Course.{start, course}
 use Rattle.model.specs.Answered.{acted}
 use Rattle.model.specs.LeftBehind.{LeftBehind}
 use Rattle.model.specs.Promises.{Always, Covered, CoveredBy, TestsByRule}

@@ -28,7 +28,7 @@ use Rattle.model.specs.State.{on_found, seek, is_free, free, live, with_place, B
 use Rattle.model.specs.Messages.{Acted, Waking, place, first_batch, with_message}
 use Rattle.model.specs.Joining.{keep}
 use Rattle.model.specs.Days.{opening_answer, banks_of}
-use Rattle.model.specs.Calls.{Call, Engine, Result, judge, begun, act, woken, tested, refused, opened_by, stepped, performed, judged, call, cleared}
+use Rattle.model.specs.Calls.{Call, Engine, Result, judge, act, woken, tested, opened_by, stepped, performed, judged, call, cleared}
 use Rattle.model.specs.Course.{start, Deed, clears, calls, course, since, since_on}
 use Rattle.model.specs.LeftBehind.{LeftBehind}
 use Rattle.model.specs.Happened.{history, ByRuleIn}

@@ -25,9 +25,10 @@ pub loop-left-preserved : goal.loop-left-preserved
 loop-left-preserved c =
     let inv = c.loop-left.invariant in
     let more = c.loop-left-test.true in
-    elim c.if-row-at-ne0.branch
-    [ then-row-at-ne0 w ↦ adding_debit _ _ _ _ _ inv more w.if-row-at-ne0.true c.requires.addable _ w.sheet-is
-    | else-row-at-ne0 w ↦ adding_credit _ _ _ _ _ inv more w.if-row-at-ne0.false _ w.sheet-is ]
+    elim c.if-row-at-ne0.branch [
+      | then-row-at-ne0 w ↦ adding_debit _ _ _ _ _ inv more w.if-row-at-ne0.true c.requires.addable _ w.sheet-is
+      | else-row-at-ne0 w ↦ adding_credit _ _ _ _ _ inv more w.if-row-at-ne0.false _ w.sheet-is
+    ]
 
 pub returns : goal.returns
 returns c = search adding_done

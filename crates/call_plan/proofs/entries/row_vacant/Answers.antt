@@ -8,6 +8,7 @@ returns-then-row-eq0-2 c = search vacant_none
 pub returns : goal.returns
 returns c =
     let a = c.args in
-    elim c.if-row-eq0.branch
-    [ then-row-eq0+else-row-eq0-2 w ↦ vacant_low a.row.now a.today w.if-row-eq0.true w.if-row-eq0-2.false c.remembered.ensures
-    | else-row-eq0 w ↦ vacant_high a.row.now a.today w.if-row-eq0.false c.remembered.ensures ]
+    elim c.if-row-eq0.branch [
+      | then-row-eq0+else-row-eq0-2 w ↦ vacant_low a.row.now a.today w.if-row-eq0.true w.if-row-eq0-2.false c.remembered.ensures
+      | else-row-eq0 w ↦ vacant_high a.row.now a.today w.if-row-eq0.false c.remembered.ensures
+    ]

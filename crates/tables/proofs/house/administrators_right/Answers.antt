@@ -1,5 +1,4 @@
 use borrow.Author.Rules.{rules}
-use Prim.Native.Nat.{◌-◌}
 use Rattle.tables.proofs.HouseLaws.{sent_start, sent_end, sent_low, sent_high, sent_on_lem}
 use Rattle.tables.proofs.house.administrators_right.Goals as goal
 

@@ -1,5 +1,4 @@
 use borrow.Author.Rules.{rules}
-use Prim.Native.Nat.{◌-◌}
 use Rattle.tables.proofs.HouseLaws.{bits_fit, bits_on_lem, bits_end}
 use Rattle.tables.proofs.house.bits_end.Goals as goal
 

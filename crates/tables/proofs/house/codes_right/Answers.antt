@@ -1,5 +1,4 @@
 use borrow.Author.Rules.{rules}
-use Prim.Native.Nat.{◌-◌}
 use Rattle.tables.proofs.TestLaws.{both_same}
 use Rattle.tables.proofs.HouseLaws.{short_end_lem, short_not, short_on}
 use Rattle.tables.proofs.house.codes_right.Goals as goal

@@ -1,5 +1,4 @@
 use borrow.Author.Rules.{rules}
-use Prim.Native.Nat.{◌-◌}
 use Rattle.tables.proofs.TestLaws.{both_same}
 use Rattle.tables.proofs.HouseLaws.{rise_end, rise_not, rise_on}
 use Rattle.tables.proofs.house.codes_rise.Goals as goal

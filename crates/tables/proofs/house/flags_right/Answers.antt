@@ -1,5 +1,4 @@
 use borrow.Author.Rules.{rules}
-use Prim.Native.Nat.{◌-◌}
 use Rattle.tables.proofs.TestLaws.{both_same}
 use Rattle.tables.proofs.HouseLaws.{flag_end, flag_not, flag_on}
 use Rattle.tables.proofs.house.flags_right.Goals as goal

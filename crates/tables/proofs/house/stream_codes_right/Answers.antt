@@ -1,5 +1,4 @@
 use borrow.Author.Rules.{rules}
-use Prim.Native.Nat.{◌-◌}
 use Rattle.tables.proofs.HouseLaws.{named_start, named_end, named_not, named_on}
 use Rattle.tables.proofs.house.stream_codes_right.Goals as goal
 

@@ -1,5 +1,4 @@
 use borrow.Author.Rules.{rules}
-use Prim.Native.Nat.{◌-◌}
 use Rattle.tables.proofs.HouseLaws.{climb_start, climb_end, climb_not, climb_on}
 use Rattle.tables.proofs.house.streams_rise.Goals as goal
 

@@ -1,5 +1,4 @@
 use borrow.Author.Rules.{rules}
-use Prim.Native.Nat.{◌-◌}
 use Rattle.tables.proofs.TestLaws.{both_same}
 use Rattle.tables.proofs.HouseLaws.{sublimit_end, sublimit_not, sublimit_on}
 use Rattle.tables.proofs.house.sublimits_right.Goals as goal

@@ -1,5 +1,4 @@
 use borrow.Author.Rules.{rules}
-use Prim.Native.Nat.{◌-◌}
 use Rattle.tables.proofs.TestLaws.{both_same}
 use Rattle.tables.proofs.HouseLaws.{total_end, total_not, total_on}
 use Rattle.tables.proofs.house.total_right.Goals as goal

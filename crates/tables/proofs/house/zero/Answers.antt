@@ -1,5 +1,4 @@
 use borrow.Author.Rules.{rules}
-use Prim.Native.Nat.{◌-◌}
 use lib.Dec.{eqb}
 use Rattle.tables.proofs.HouseLaws.{zeroed_start, zeroed_on, zeroed_end}
 use Rattle.tables.proofs.house.zero.Goals as goal

@@ -1,5 +1,4 @@
 use Rattle.tables.proofs.RowLaws.{bins_end, bins_here, bins_on}
-use Prim.Native.Nat.{◌-◌}
 use borrow.Author.Rules.{rules}
 use Rattle.tables.proofs.places.batch_of.Goals as goal
 

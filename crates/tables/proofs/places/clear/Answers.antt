@@ -1,5 +1,4 @@
 use borrow.Author.Rules.{rules}
-use Prim.Native.Nat.{◌-◌}
 use lib.ListN.{length-set}
 use Rattle.tables.proofs.RowLaws.{fill_turn, fill_end}
 use Rattle.tables.proofs.places.clear.Goals as goal

@@ -1,5 +1,4 @@
 use borrow.Author.Rules.{rules}
-use Prim.Native.Nat.{◌-◌}
 use Rattle.tables.proofs.RowLaws.{free_end, free_here, free_on}
 use Rattle.tables.proofs.places.lowest_free.Goals as goal
 
