@@ -220,21 +220,21 @@ NATIVE = {
     "true": 1, "false": 0, "zero": 0,
     "suc": fn(1, lambda n: n + 1),
     "bytes": fn(1, text),
-    "shortAt": fn(2, lambda b, i: int.from_bytes(bytes(b[i:i + 4]).ljust(4, b"\0"), "big")),
-    "longOf": fn(1, long_of),
-    "digitsOf": fn(2, lambda w, n: text(str(n % 10 ** w).zfill(w))),
-    "bookBytes": fn(3, book_bytes),
+    "short_at": fn(2, lambda b, i: int.from_bytes(bytes(b[i:i + 4]).ljust(4, b"\0"), "big")),
+    "long_of": fn(1, long_of),
+    "digits_of": fn(2, lambda w, n: text(str(n % 10 ** w).zfill(w))),
+    "book_bytes": fn(3, book_bytes),
     "take": fn(2, lambda n, l: l[:n]),
     "drop": fn(2, lambda n, l: l[n:]),
     "set": fn(3, lambda l, i, x: l[:i] + [x] + l[i + 1:]),
     "replicate": fn(2, lambda n, x: [x] * n),
     "map": fn(2, lambda f, l: [f(x) for x in l]),
     "by": fn(2, lambda quick, c: dict(c, asked=dict(c["asked"], quick=quick))),
-    "mostWritten": 33705, "rowsNeeded": 528,
+    "most_written": 33705, "rows_needed": 528,
     "accounts": fn(2, lambda b, l: {"balances": b, "sublimits": l}),
-    "withClock": fn(2, lambda d, clock: dict(d, clock=clock)),
-    "noEntry": {"code": {"high": 0, "low": 0}, "day": 0}, "noMemory": [0] * 32,
-    "noBatches": FRESH["state"]["batches"], "cleared": FRESH,
+    "with_clock": fn(2, lambda d, clock: dict(d, clock=clock)),
+    "no_entry": {"code": {"high": 0, "low": 0}, "day": 0}, "no_memory": [0] * 32,
+    "no_batches": FRESH["state"]["batches"], "cleared": FRESH,
     "goes": fn(2, goes), "leaves": fn(2, leaves), "plays": fn(1, lambda calls: goes(FRESH, calls)),
 }
 for name, n in (("Opening", 0), ("Message", 1), ("SubLimit", 2), ("Status", 3), ("Tick", 0), ("Close", 0), ("ClosingBook", 1), ("Open", 0),
@@ -244,7 +244,7 @@ for name, n in (("Opening", 0), ("Message", 1), ("SubLimit", 2), ("Status", 3), 
 
 # ---- the notation
 
-TOKEN = re.compile(r'\s*("(?:[^"\\]|\\.)*"|\[\]|∷|\+\+|[(){};≡=+*]|\.[\w-]+|[^\s(){};"]+)')
+TOKEN = re.compile(r'\s*("(?:[^"\\]|\\.)*"|\[\]|∷|\+\+|[(){};≡=+*]|\.[\w-]+|[^\s(){};".]+)')
 
 
 def tokens(source):
@@ -306,13 +306,16 @@ class Expression:
             word = self.next()
             if word is None or word in (")", "}", ";", "∷", "++", "+", "*", "≡", "="):
                 return e
-            if word.startswith(".") and len(word) > 1:
-                self.at += 1
-                e = (lambda f, k: lambda v: f(v)[k])(e, word[1:])
-            else:
-                e = (lambda f, a: lambda v: f(v)(a(v)))(e, self.atom())
+            e = (lambda f, a: lambda v: f(v)(a(v)))(e, self.atom())
 
     def atom(self):
+        e = self.bare()
+        while (self.next() or "").startswith(".") and len(self.next()) > 1:
+            e = (lambda f, k: lambda v: f(v)[k])(e, self.next()[1:])
+            self.at += 1
+        return e
+
+    def bare(self):
         word = self.next()
         self.at += 1
         if word == "(":
@@ -356,7 +359,7 @@ class Module:
             self.read(item.strip())
 
     def read(self, item):
-        used = re.match(r"(?:pub )?use Rattle·model·proofs\.proofs\.(\w+)\.\{(.*)\}", item, re.S)
+        used = re.match(r"(?:pub )?use Rattle\.model\.proofs\.(\w+)\.\{(.*)\}", item, re.S)
         if used:
             self.uses.update({name.strip(): used.group(1) for name in used.group(2).split(",")})
         elif re.match(r"(abbrev|unfoldable|unfolding|use|pub use|pub record)\b", item) or item.startswith("pub mod"):
@@ -421,7 +424,7 @@ def main():
     for name, module in MODULES.items():
         for equation, left, right in module.equations:
             # what the model's batches hold inside is no answer of a call
-            if "paymentsAt" in str(left):
+            if "payments_at" in str(left):
                 continue
             got, wanted = module.of(left), module.of(right)
             days += 1
