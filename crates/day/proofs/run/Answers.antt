@@ -1,5 +1,4 @@
 use native.Mathlib.Omega.{arith}
-use Prim.Native.Nat.{◌-◌}
 use Rattle.day.proofs.run.Goals as goal
 
 pub loop-number-smaller : goal.loop-number-smaller
