@@ -32,14 +32,14 @@ abbrev pub owned : Accounts → List Need → ℕ
 owned a [] = 0
 owned a (n ∷ ns) = get_or a.balances n.bank 0 + owned a ns
 
-abbrev pub pooled : Accounts → List Payment → Bool
-pooled a ps = leb (needed (needs_of ps)) (owned a (needs_of ps))
-
--- "Letting a credit cover a debit of its batch": each debit is lessened by the credits of the batch
 abbrev pub is_pass : Verdict → Bool
 is_pass Passes = true
 is_pass (Stops k) = false
 
+abbrev pub pooled : Accounts → List Payment → Bool
+pooled a ps = leb (needed (needs_of ps)) (owned a (needs_of ps))
+
+-- "Letting a credit cover a debit of its batch": each debit is lessened by the credits of the batch
 abbrev pub lessened : ℕ → Need → Need
 lessened cents n = record { letters = n.letters; bank = n.bank; cents = n.cents - cents }
 
