@@ -49,6 +49,7 @@ fn refused(refusal: Refusal, kept: Desk) -> Told
 }
 
 // A call on tables that keep the rules, at its moment and with its room.
+#[inline(never)]
 fn perform(
     quick: bool,
     clock: u64,
