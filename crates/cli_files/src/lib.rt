@@ -11,9 +11,8 @@ ghost use Rattle.cli_files.specs.Files.{Within};
 use std::cell::Cell;
 use std::env::{Env, FillError};
 use std::fmt::Write;
-use std::fs::Files;
+use std::fs::{Files, OpenOptions};
 use std::io::{Error, Input, Print, Read, Stderr, Stdout};
-use std::process::ExitCode;
 use std::{fmt, fs, io};
 use text_scan::At;
 
@@ -43,14 +42,18 @@ pub struct Place {
     pub column: u64,
 }
 
-// Standard output and standard error of a program, whether all that it printed was written, and its exit status so far.
+// Standard output and standard error of a program, whether all that it printed was written, and how many things were not well so far.
 #[derive(Drop)]
 pub struct Console {
     output: Stdout,
     errors: Stderr,
     written: Cell<bool>,
-    status: Cell<u8>,
+    refusals: Cell<u64>,
+    wrong_calls: Cell<u64>,
 }
+
+// A program has no exit status of its own. The script ./purmagheli opens this descriptor, and its own status is the greatest digit that it finds there.
+const STATUS: &str = "/dev/fd/3";
 
 impl Console {
     pub fn new(output: Stdout, errors: Stderr) -> Console {
@@ -58,31 +61,38 @@ impl Console {
             output,
             errors,
             written: Cell::new(true),
-            status: Cell::new(0),
+            refusals: Cell::new(0),
+            wrong_calls: Cell::new(0),
         }
     }
 
-    // 0 where all was well, 1 where something was refused or could not be read or written, 2 for a wrong call.
-    pub fn exit_code(&self) -> ExitCode {
-        ExitCode::from(self.status.get())
-    }
-
-    // The status is the greatest that was told.
-    fn raise(&self, status: u8) {
-        if self.status.get() < status {
-            self.status.set(status);
+    // Writes a digit to the descriptor for each thing that was not well, where it is open. A program does so at its end.
+    pub fn tell_status(&self, rt: &impl Files) {
+        if let Ok(mut file) = OpenOptions::new().append(true).open(rt, STATUS) {
+            put_digits(&mut file, b"1", self.refusals.get());
+            put_digits(&mut file, b"2", self.wrong_calls.get());
         }
+    }
+}
+
+fn put_digits(file: &mut impl io::Write, digit: &[u8], n: u64) {
+    for _ in 0..n {
+        let _ = file.write_all(digit);
     }
 }
 
 // Something was refused, or could not be read or written.
 pub fn tell_refusal(console: &Console) {
-    console.raise(1);
+    console
+        .refusals
+        .set(console.refusals.get().saturating_add(1));
 }
 
 // The program was called in a way that it does not know.
 pub fn tell_wrong_call(console: &Console) {
-    console.raise(2);
+    console
+        .wrong_calls
+        .set(console.wrong_calls.get().saturating_add(1));
 }
 
 // A text on standard error.
@@ -140,7 +150,11 @@ pub fn help(console: &Console, usage: &[u8]) {
     print(console, usage);
     print(
         console,
-        b"The exit status is 0 where all went well, 1 if something was refused or could not be read or written, 2 for a wrong call.\n",
+        b"A program has no exit status of its own. It writes a digit to descriptor 3 for each thing that was not well: 1 if something\n",
+    );
+    print(
+        console,
+        b"was refused or could not be read or written, 2 for a wrong call. ./purmagheli opens the descriptor; its status is the greatest digit.\n",
     );
 }
 

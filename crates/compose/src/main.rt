@@ -13,7 +13,6 @@ use cli_request::{Account, Expected, Extent, several};
 use response_write::Written;
 use std::env::Env;
 use std::fs::Files;
-use std::process::ExitCode;
 
 fn say(console: &Console, text: &[u8]) {
     cli_files::say(console, text);
@@ -175,8 +174,8 @@ fn run(rt: &(impl Env + Files + Input), console: &Console) {
     }
 }
 
-fn main(rt: HostRuntime) -> ExitCode {
+fn main(rt: HostRuntime) {
     let console = Console::new(rt.stdout(), rt.stderr());
     run(&rt, &console);
-    console.exit_code()
+    console.tell_status(&rt);
 }

@@ -12,7 +12,6 @@ use model::{Action, Answer, Phase};
 use std::env::Env;
 use std::fs::Files;
 use std::io;
-use std::process::ExitCode;
 use std::random::RandomSource;
 use tables::Desk;
 
@@ -931,8 +930,8 @@ fn run_program(rt: &(impl Env + Files + Input + RandomSource), console: &Console
     run_test(rt, console, false, 1, 2, 3, count);
 }
 
-fn main(rt: HostRuntime) -> ExitCode {
+fn main(rt: HostRuntime) {
     let console = Console::new(rt.stdout(), rt.stderr());
     run_program(&rt, &console);
-    console.exit_code()
+    console.tell_status(&rt);
 }

@@ -10,7 +10,6 @@ mod responses;
 use cli_files::{Console, Got};
 use std::env::Env;
 use std::fs::Files;
-use std::process::ExitCode;
 
 // What the files are said to be.
 #[derive(Clone, Copy)]
@@ -112,8 +111,8 @@ fn run(rt: &(impl Env + Files + Input), console: &Console) {
     }
 }
 
-fn main(rt: HostRuntime) -> ExitCode {
+fn main(rt: HostRuntime) {
     let console = Console::new(rt.stdout(), rt.stderr());
     run(&rt, &console);
-    console.exit_code()
+    console.tell_status(&rt);
 }

@@ -14,7 +14,6 @@ use call_records::{Account, AccountOr};
 use chars::Refusal;
 use cli_files::Console;
 use model::Answer;
-use std::process::ExitCode;
 
 const WORDS: usize = 11_168;
 
@@ -218,10 +217,10 @@ fn run(console: &Console, text: &[u8]) {
     }
 }
 
-fn main(rt: HostRuntime) -> ExitCode {
+fn main(rt: HostRuntime) {
     let mut text = [0u8; 65536];
     let length = cli_files::read_full(&mut rt.stdin(), &mut text);
     let console = Console::new(rt.stdout(), rt.stderr());
     run(&console, &text[..length]);
-    console.exit_code()
+    console.tell_status(&rt);
 }
