@@ -315,7 +315,7 @@ pub fn write(
     balances: &[u64],
     sublimits: &[u64],
 ) -> Writing
-    ensures { record { out = out.exit.now; answer = result } ≡ write_book out.entry.now book (rows_of streams.now codes.now flags.now balances.now sublimits.now) }
+    ensures { record { out = out.new; answer = result } ≡ write_book out.old book (rows_of streams.now codes.now flags.now balances.now sublimits.now) }
 {
     if !rows_hold(
         book,

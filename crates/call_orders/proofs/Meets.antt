@@ -1,4 +1,4 @@
--- The tail: `tailed` behind the message's place is the model's `toTail`.
+-- The tail: `tailed` behind the message's place is the model's `to_tail`.
 use Prim.Native.Nat.{ℕ, ◌*◌}
 use mathlib.Core.Path.{◌≡◌, refl, sym, ap, ◌∙◌}
 use mathlib.Core.Bool.{Bool}

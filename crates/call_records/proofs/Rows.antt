@@ -3,11 +3,9 @@ use mathlib.Core.Path.{◌≡◌, refl, sym, ap, ◌∙◌}
 use Prim.Native.Nat.{ℕ, suc, ◌<◌, ◌≤◌, ◌+◌}
 use native.Mathlib.Omega.{arith}
 use native.Mathlib.Numerals.{add-one}
-use mathlib.Core.Bool.{Bool, true, false}
 use mathlib.Core.List.{List, map}
 use lib.ListN.{length, get_or, set, take, length-map, get_or-map}
 use lib.Seq.{take-suc, take-suc-set, take_all, get_or-set_same, set-set}
-use lib.Dec.{T as Holds}
 use Rattle.tables.proofs.MemoryLaws.{map_set}
 use Rattle.tables.specs.Moment.{lent_on}
 use Rattle.call_records.specs.declared.Account.{Account}
@@ -15,16 +13,6 @@ use Rattle.call_records.specs.Records.{tables_in, Columns, Long}
 
 abbrev pub none : Account
 none = record { code = 0; flags = 0; balance = 0; sublimit = 0; waiting = 0 }
-
--- ---- a test that was made
-
-pub holds : (t : Bool) → Holds t → t ≡ true
-holds true _ = refl
-holds false a = absurd a
-
-pub fails : (t : Bool) → (Holds t → ⊥) → t ≡ false
-fails true g = absurd (g tt)
-fails false _ = refl
 
 -- ---- one more of a column
 

@@ -1,5 +1,5 @@
 -- What is promised of the queue: theorems 1 to 5, and the marked examples 12 and 13.
--- The code's two tests leave what `plainTest` and `quickTest` leave (their contracts), so each theorem here is one of the code.
+-- The code's two tests leave what `plain_test` and `quick_test` leave (their contracts), so each theorem here is one of the code.
 use mathlib.Core.Path.{◌≡◌, refl, sym, ap, ◌∙◌}
 use mathlib.Core.Logic.{◌↔◌}
 use mathlib.Core.Bool.{Bool, true, false, false≢true}

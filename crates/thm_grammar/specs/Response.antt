@@ -1,4 +1,4 @@
--- What the reading of a response hands back: "each field as the part of the text where it stands". The text itself is that of `settlementText` or `recallText`.
+-- What the reading of a response hands back: "each field as the part of the text where it stands". The text itself is that of `settlement_text` or `recall_text`.
 use Rattle.std.specs.Prelude.{ℕ, ◌≡◌, List, [], ◌++◌}
 use Rattle.chars.specs.Words.{bytes}
 use Rattle.clock.specs.Clock.{hhmmss_of}

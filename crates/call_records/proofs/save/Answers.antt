@@ -1,6 +1,6 @@
 use native.Mathlib.Omega.{arith}
 use Rattle.call_records.specs.Records.{Long}
-use Rattle.call_records.proofs.Rows.{saved_on, whole_row}
+use Rattle.call_records.proofs.Rows.{saved_on}
 use Rattle.call_records.proofs.save.Goals as goal
 
 pub loop-i-preserved : goal.loop-i-preserved
