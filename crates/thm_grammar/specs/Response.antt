@@ -1,4 +1,5 @@
--- What the reading of a response hands back: "each field as the part of the text where it stands". The text itself is that of `settlement_text` or `recall_text`.
+-- What the reading of a response hands back: "each field as the part of the text where it stands".
+-- The text itself is that of `settlement_text` or `recall_text`.
 use Rattle.std.specs.Prelude.{ℕ, ◌≡◌, List, [], ◌++◌}
 use Rattle.chars.specs.Words.{bytes}
 use Rattle.clock.specs.Clock.{hhmmss_of}
