@@ -11,16 +11,14 @@ use borrow.Author.Tests.{ltb-true, ltb-false}
 use Rattle.chars.specs.declared.Refusal.{Refusal}
 use Rattle.chars.specs.declared.Refusal.TheVariants.{BookHeader, OutOfRange}
 use Rattle.codes.specs.Codes.{short_at}
-use Rattle.book_read.specs.declared.Answer.{Answer}
-use Rattle.book_read.specs.declared.Answer.TheVariants.{Sound, Fault}
 use Rattle.book_read.specs.Block.{Rule, rule, first_broken, entries_at, header_right, entries_right}
 use Rattle.book_read.specs.Book.{stream_right, bank_right, streams_counted, stream_rules, banks_counted, code_before, bank_rules, bank_blocks, blocks_in, length_right, bank_count, total_right, book_rules, book_check}
 use Rattle.book_read.proofs.Rules.{by_holds}
 use Rattle.book_explain.proofs.Failing.{after_whole, after_broken}
 use Rattle.book_explain.specs.declared.Flaw.TheVariants.{WrongCount, HighTotal, WrongLength}
 use Rattle.book_explain.specs.declared.Spot.{Spot}
-use Rattle.book_explain.specs.declared.Finding.{Finding}
-use Rattle.book_explain.specs.declared.Finding.TheVariants.{Whole, Broken}
+use Rattle.book_explain.specs.Faults.{Finding}
+use Rattle.std.specs.Prelude.{Ok, Err, Result}
 use Rattle.book_explain.specs.Faults.{Test, test, first_failed, refusal_of, answer_of, stream_entry, bank_entry, entry_tests, head_tests, date_tests, unused_test, stream_tests, bank_tests, bank_block_tests, book_tests, book_finding, block_rules_at, entries_right_at}
 
 -- a test as a rule of the book's check
@@ -41,9 +39,9 @@ rules_append [] ys = refl
 rules_append (x ∷ xs) ys = rw (rules_append xs ys)
 
 -- rules that decide alike may stand for each other, in front of the same rules and behind them
-on_answer : Answer → Answer → Answer
-on_answer Sound a = a
-on_answer (Fault r) a = Fault r
+on_answer : Result (Unit {0}) Refusal → Result (Unit {0}) Refusal → Result (Unit {0}) Refusal
+on_answer (Ok tt) a = a
+on_answer (Err r) a = Err r
 
 joined : (xs ys : List Rule) → first_broken (xs ++ ys) ≡ on_answer (first_broken xs) (first_broken ys)
 unfolding first_broken on_answer
@@ -145,9 +143,9 @@ numbers_agree s =
     (blocks_alike s (blocks_in s) 1 (blocks_in s - 1))
     refl))
 
-by_found {ℓ} : {X : Type ℓ} (f : Finding) → (f ≡ Whole → X) → ((p : Spot) → f ≡ Broken p → X) → X
-by_found Whole f g = f refl
-by_found (Broken p) f g = g p refl
+by_found {ℓ} : {X : Type ℓ} (f : Finding) → (f ≡ Ok tt → X) → ((p : Spot) → f ≡ Err p → X) → X
+by_found (Ok u) f g = f refl
+by_found (Err p) f g = g p refl
 
 -- all tests of a list hold
 abbrev pub AllPass : List Test → Type 0
@@ -164,7 +162,7 @@ pub record Failed (ts : List Test) (p : Spot) : Type 0 where
   pub fails : failed.holds ≡ false
   pub named : failed.spot ≡ p
 
-first_of : (ts : List Test) (p : Spot) → first_failed ts ≡ Broken p → Failed ts p
+first_of : (ts : List Test) (p : Spot) → first_failed ts ≡ Err p → Failed ts p
 unfolding first_failed
 first_of [] p h = let z : ◌≡◌ {A = ℕ} 0 1 = cc in absurd (omega arith)
 first_of (t ∷ ts) p h =
@@ -181,19 +179,19 @@ first_of (t ∷ ts) p h =
       named = r.named;
     })
     (λ e.
-    let same : Broken t.spot ≡ Broken p = rw e at h in
+    let same : Err t.spot ≡ Err p = rw e at h in
     record { earlier = []; failed = t; later = ts; split = refl; pass = tt; fails = e; named = cc })
 
-past : (xs : List Test) (t : Test) (ys : List Test) → AllPass xs → t.holds ≡ false → first_failed (xs ++ (t ∷ ys)) ≡ Broken t.spot
+past : (xs : List Test) (t : Test) (ys : List Test) → AllPass xs → t.holds ≡ false → first_failed (xs ++ (t ∷ ys)) ≡ Err t.spot
 unfolding first_failed
 past [] t ys a f = rw f
 past (x ∷ xs) t ys a f = rw a.0 (past xs t ys a.1 f)
 
-of_first : (ts : List Test) (p : Spot) → Failed ts p → first_failed ts ≡ Broken p
-of_first ts p r = ap first_failed r.split ∙ past r.earlier r.failed r.later r.pass r.fails ∙ ap Broken r.named
+of_first : (ts : List Test) (p : Spot) → Failed ts p → first_failed ts ≡ Err p
+of_first ts p r = ap first_failed r.split ∙ past r.earlier r.failed r.later r.pass r.fails ∙ ap Err r.named
 
 -- a spot is told exactly where its test is the first of the book's tests to fail
-pub found_first : (s : List ℕ) (p : Spot) → (book_finding s ≡ Broken p) ↔ Failed (book_tests s) p
+pub found_first : (s : List ℕ) (p : Spot) → (book_finding s ≡ Err p) ↔ Failed (book_tests s) p
 unfolding book_finding
 found_first s p = (first_of (book_tests s) p, of_first (book_tests s) p)
 
@@ -203,31 +201,31 @@ All P [] = Unit {0}
 All P (t ∷ ts) = P t.spot × All P ts
 
 module _ (P : Spot → Type 0) where
-  all_told : (ts : List Test) (p : Spot) → All P ts → first_failed ts ≡ Broken p → P p
+  all_told : (ts : List Test) (p : Spot) → All P ts → first_failed ts ≡ Err p → P p
   unfolding first_failed
   all_told [] p a h = let z : ◌≡◌ {A = ℕ} 0 1 = cc in absurd (omega arith)
   all_told (t ∷ ts) p a h =
       by_holds t.holds
       (λ e. all_told ts p a.1 (rw e at h))
       (λ e.
-      let same : Broken t.spot ≡ Broken p = rw e at h in
+      let same : Err t.spot ≡ Err p = rw e at h in
       let here : t.spot ≡ p = cc in
       rw here at a.0)
 
 -- a list that is told of: the first of two parts, or the second behind a first that is whole
-apart : (xs ys : List Test) (p : Spot) {X : Type 0} → first_failed (xs ++ ys) ≡ Broken p
-    → (first_failed xs ≡ Broken p → X) → (first_failed xs ≡ Whole → first_failed ys ≡ Broken p → X) → X
+apart : (xs ys : List Test) (p : Spot) {X : Type 0} → first_failed (xs ++ ys) ≡ Err p
+    → (first_failed xs ≡ Err p → X) → (first_failed xs ≡ Ok tt → first_failed ys ≡ Err p → X) → X
 apart xs ys p h f g =
     by_found (first_failed xs)
     (λ e. g e (sym (after_whole xs ys e) ∙ h))
     (λ q e.
-    let same : Broken q ≡ Broken p = sym (after_broken xs ys e) ∙ h in
+    let same : Err q ≡ Err p = sym (after_broken xs ys e) ∙ h in
     f (e ∙ same))
 
-whole_sound : (ts : List Test) (rs : List Rule) → first_broken (rules_of ts) ≡ first_broken rs → first_failed ts ≡ Whole → first_broken rs ≡ Sound
+whole_sound : (ts : List Test) (rs : List Rule) → first_broken (rules_of ts) ≡ first_broken rs → first_failed ts ≡ Ok tt → first_broken rs ≡ Ok tt
 whole_sound ts rs e h = sym e ∙ sym (same_number ts) ∙ ap answer_of h
 
-one_sound : (a : Bool) (r : Refusal) → first_broken (rule a r ∷ []) ≡ Sound → a ≡ true
+one_sound : (a : Bool) (r : Refusal) → first_broken (rule a r ∷ []) ≡ Ok tt → a ≡ true
 unfolding first_broken
 one_sound true r h = refl
 one_sound false r h = let z : ◌≡◌ {A = ℕ} 0 1 = cc in absurd (omega arith)
@@ -236,7 +234,7 @@ one_sound false r h = let z : ◌≡◌ {A = ℕ} 0 1 = cc in absurd (omega arit
 module _ (s : List ℕ) (width : ℕ) (right : ℕ → Bool) (tests : ℕ → ℕ → ℕ → List Test)
     (same : (i before at : ℕ) → first_broken (rules_of (tests i before at)) ≡ first_broken (rule (ltb before (short_at s at) && right at) OutOfRange ∷ []))
     (k : ℕ) (here : (i before at : ℕ) → All (λ q. (q.block ≡ k) × (q.entry ≡ i)) (tests i before at)) (p : Spot) where
-  entries_told : (i before at n : ℕ) → first_failed (entry_tests s width tests i before at n) ≡ Broken p
+  entries_told : (i before at n : ℕ) → first_failed (entry_tests s width tests i before at n) ≡ Err p
       → (p.block ≡ k) × (i ≤ p.entry) × (entries_right s width right before at (p.entry - i) ≡ true)
   unfolding entry_tests entries_right first_failed
   entries_told i before at zero h = let z : ◌≡◌ {A = ℕ} 0 1 = cc in absurd (omega arith)
@@ -262,7 +260,7 @@ module _ (s : List ℕ) (p : Spot) where
   in_head zero w = (w.0, rw w.1)
   in_head (suc k) w = (w.0, rw w.1)
 
-  streams_told : first_failed (stream_tests s (blocks_in s)) ≡ Broken p → In s 0 p
+  streams_told : first_failed (stream_tests s (blocks_in s)) ≡ Err p → In s 0 p
   unfolding stream_tests
   streams_told h =
       apart (head_tests s 0 83 (blocks_in s) ++ (date_tests s ++ (unused_test s 0 16 8 ∷ []))) (entry_tests s 8 (stream_entry s) 0 0 16 (entries_at s 0)) p h
@@ -274,7 +272,7 @@ module _ (s : List ℕ) (p : Spot) where
       let z : p.entry - 0 ≡ p.entry = omega arith in
       (t.0, rw z at t.2))
 
-  banks_told : (k : ℕ) → first_failed (bank_tests s (blocks_in s) (suc k)) ≡ Broken p → In s (suc k) p
+  banks_told : (k : ℕ) → first_failed (bank_tests s (blocks_in s) (suc k)) ≡ Err p → In s (suc k) p
   unfolding bank_tests
   banks_told k h =
       let n = entries_at s (512 * suc k) in
@@ -289,8 +287,8 @@ module _ (s : List ℕ) (p : Spot) where
       let z : p.entry - 0 ≡ p.entry = omega arith in
       (t.0, rw z at t.2))
 
-  blocks_told : (k n : ℕ) → first_failed (bank_block_tests s (blocks_in s) (suc k) n) ≡ Broken p
-      → (k < p.block) × (entries_right_at s p.block p.entry ≡ true) × ((j : ℕ) → suc k ≤ j → j < p.block → first_broken (block_rules_at s j) ≡ Sound)
+  blocks_told : (k n : ℕ) → first_failed (bank_block_tests s (blocks_in s) (suc k) n) ≡ Err p
+      → (k < p.block) × (entries_right_at s p.block p.entry ≡ true) × ((j : ℕ) → suc k ≤ j → j < p.block → first_broken (block_rules_at s j) ≡ Ok tt)
   unfolding bank_block_tests first_failed
   blocks_told k zero h = let z : ◌≡◌ {A = ℕ} 0 1 = cc in absurd (omega arith)
   blocks_told k (suc n) h =
@@ -305,7 +303,7 @@ module _ (s : List ℕ) (p : Spot) where
 
 -- of a spot that is told: the rules of all blocks before its block hold, and so do those of the entries before its entry
 pub record Reached (s : List ℕ) (p : Spot) : Type 0 where
-  pub blocks_before : (k : ℕ) → k < p.block → first_broken (block_rules_at s k) ≡ Sound
+  pub blocks_before : (k : ℕ) → k < p.block → first_broken (block_rules_at s k) ≡ Ok tt
   pub entries_before : entries_right_at s p.block p.entry ≡ true
 
 module _ (s : List ℕ) (p : Spot) where
@@ -313,7 +311,7 @@ module _ (s : List ℕ) (p : Spot) where
   unfolding entries_right
   at_start w = record { blocks_before = λ k h. absurd (omega arith); entries_before = rw (w.0, w.1) }
 
-  in_banks : first_broken (stream_rules s (blocks_in s)) ≡ Sound → first_failed (bank_block_tests s (blocks_in s) 1 (blocks_in s - 1)) ≡ Broken p → Reached s p
+  in_banks : first_broken (stream_rules s (blocks_in s)) ≡ Ok tt → first_failed (bank_block_tests s (blocks_in s) 1 (blocks_in s - 1)) ≡ Err p → Reached s p
   in_banks w h =
       let t = blocks_told s p 0 (blocks_in s - 1) h in
       record {
@@ -321,7 +319,7 @@ module _ (s : List ℕ) (p : Spot) where
         entries_before = t.1;
       }
 
-  pub told_first : book_finding s ≡ Broken p → Reached s p
+  pub told_first : book_finding s ≡ Err p → Reached s p
   unfolding book_finding book_tests
   told_first h =
       apart (test 0 0 (length_right s) WrongLength ∷ []) _ p h

@@ -1,18 +1,14 @@
 -- The tests of a book one by one, in 01's order, and what is told of the first that fails.
-use Rattle.std.specs.Prelude.{ℕ, zero, suc, ◌+◌, ◌*◌, ◌-◌, List, [], ◌∷◌, ◌++◌, Bool, cond, get_or, ltb, leb, eqb}
+use Rattle.std.specs.Prelude.{Result, Ok, Err, ℕ, zero, suc, ◌+◌, ◌*◌, ◌-◌, List, [], ◌∷◌, ◌++◌, Bool, cond, get_or, ltb, leb, eqb}
 use Rattle.chars.specs.Words.{within}
 use Rattle.chars.specs.declared.Refusal.{Refusal}
 use Rattle.chars.specs.declared.Refusal.TheVariants.{BookLength, BookCheck, BookHeader, OutOfRange, BookTotal}
 use Rattle.codes.specs.Codes.{short_at}
-use Rattle.book_read.specs.declared.Answer.{Answer}
-use Rattle.book_read.specs.declared.Answer.TheVariants.{Sound, Fault}
 use Rattle.book_read.specs.Block.{Rule, entries_at, head_right, zeros_at, unused_right, check_right, entries_right}
 use Rattle.book_read.specs.Book.{most_money, code_right, is_day, date_in, stream_right, bits_past, balance_at, sublimit_at, bank_right, blocks_in, length_right, stream_rules, banks_counted, code_before, bank_rules, bank_count, total_right}
 use Rattle.book_explain.specs.declared.Flaw.{Flaw}
 use Rattle.book_explain.specs.declared.Flaw.TheVariants.{WrongLength, WrongSum, WrongHead, WrongCount, UntrueDate, AfterDate, Unused, NoCode, NotAbove, NoAdministrator, WrongFlag, NoStream, EntryZeros, HighBalance, HighSublimit, HighTotal}
 use Rattle.book_explain.specs.declared.Spot.{Spot}
-use Rattle.book_explain.specs.declared.Finding.{Finding}
-use Rattle.book_explain.specs.declared.Finding.TheVariants.{Whole, Broken}
 
 -- "length .. 11; then by block: check 12, header (its counts too), untrue date or unused bytes 13, entries 14 ..; last the total 15"
 abbrev pub refusal_of : Flaw → Refusal
@@ -33,10 +29,14 @@ refusal_of HighBalance = OutOfRange
 refusal_of HighSublimit = OutOfRange
 refusal_of HighTotal = BookTotal
 
+-- what the tests of a book give: nothing, or the first that fails
+abbrev pub Finding : Type 0
+Finding = Result (Unit {0}) Spot
+
 -- the answer of the book's check that goes with a finding
-abbrev pub answer_of : Finding → Answer
-answer_of Whole = Sound
-answer_of (Broken p) = Fault (refusal_of p.flaw)
+abbrev pub answer_of : Finding → Result (Unit {0}) Refusal
+answer_of (Ok u) = Ok tt
+answer_of (Err p) = Err (refusal_of p.flaw)
 
 -- a test, whether it holds, and what is told where it fails
 pub record Test : Type 0 where
@@ -48,8 +48,8 @@ test k i h f = record { holds = h; spot = record { block = k; entry = i; flaw = 
 
 -- the first test that fails
 unfoldable pub first_failed : List Test → Finding
-first_failed [] = Whole
-first_failed (t ∷ ts) = let later = first_failed ts in cond t.holds later (Broken t.spot)
+first_failed [] = Ok tt
+first_failed (t ∷ ts) = let later = first_failed ts in cond t.holds later (Err t.spot)
 
 -- "check 12", "Bytes 0-1 `BF`, 2 `S` or `B`, 3 block number from 0, 4 entries, 5 blocks in all, 6-7 zero."
 abbrev pub head_tests : List ℕ → (k letter blocks : ℕ) → List Test

@@ -1,4 +1,5 @@
 -- What a book that is accepted is: every rule holds.
+use Rattle.std.specs.Prelude.{Ok, Err}
 use Prim.Native.Nat.{ℕ, zero, suc, ◌+◌, ◌*◌, ◌-◌, ◌%◌, ◌≤◌, ◌<◌}
 use mathlib.Core.Path.{◌≡◌, refl}
 use mathlib.Core.Bool.{Bool, true, false, ◌&&◌, false≢true}
@@ -10,7 +11,6 @@ use lib.Dec.{leb, eqb}
 use borrow.Author.Tests.{leb-true, eqb-true, lt-ltb, le-ltb}
 use Rattle.chars.specs.Words.{within}
 use Rattle.chars.proofs.Laws.{range_low, range_high}
-use Rattle.book_read.specs.declared.Answer.TheVariants.{Sound, Fault}
 use Rattle.book_read.specs.Block.{Rule, first_broken, entries_at, head_right, header_right, unused_right, check_right, entries_right, zeros_at}
 use Rattle.book_read.specs.Book.{stream_right, bank_right, is_day, date_in, blocks_in, length_right, streams_counted, stream_rules, banks_counted, code_before, bank_rules, bank_blocks, bank_count, total_right, book_rules, book_check}
 use Rattle.book_read.proofs.Rules.{by_holds}
@@ -24,15 +24,15 @@ abbrev pub AllHold : List Rule → Type 0
 AllHold [] = Unit {0}
 AllHold (r ∷ rs) = (r.holds ≡ true) × AllHold rs
 
-pub all_hold : (rs : List Rule) → first_broken rs ≡ Sound → AllHold rs
+pub all_hold : (rs : List Rule) → first_broken rs ≡ Ok tt → AllHold rs
 unfolding first_broken
 all_hold [] h = tt
 all_hold (r ∷ rs) h =
     by_holds r.holds
     (λ e. (e, all_hold rs (rw e at h)))
-    (λ e. let no : Fault r.fault ≡ Sound = rw e at h in let z : ◌≡◌ {A = ℕ} 0 1 = cc in absurd (omega arith))
+    (λ e. let no : Err r.fault ≡ (Ok tt) = rw e at h in let z : ◌≡◌ {A = ℕ} 0 1 = cc in absurd (omega arith))
 
-pub none_broken : (rs : List Rule) → AllHold rs → first_broken rs ≡ Sound
+pub none_broken : (rs : List Rule) → AllHold rs → first_broken rs ≡ Ok tt
 unfolding first_broken
 none_broken [] h = refl
 none_broken (r ∷ rs) h = rw h.0 (none_broken rs h.1)
@@ -54,7 +54,7 @@ pub record Accepted (s : List ℕ) : Type 0 where
   pub banks : AllHold (bank_blocks s (blocks_in s) 1 (blocks_in s - 1))
   pub total : total_right s (bank_count s (blocks_in s)) ≡ true
 
-pub accepted : (s : List ℕ) → book_check s ≡ Sound → Accepted s
+pub accepted : (s : List ℕ) → book_check s ≡ Ok tt → Accepted s
 unfolding book_check book_rules length_right
 accepted s h =
     let all = all_hold (book_rules s) h in

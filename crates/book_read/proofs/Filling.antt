@@ -1,4 +1,5 @@
 -- Laws of reading: a field of a bank, rows filled from their first place on, and each return.
+use Rattle.std.specs.Prelude.{Result, Ok, Err}
 use Prim.Native.Nat.{ℕ, zero, suc, ◌+◌, ◌*◌, ◌-◌, ◌≤◌, ◌<◌}
 use mathlib.Core.Path.{◌≡◌, refl, ◌∙◌, ap}
 use mathlib.Core.List.{List, ◌∷◌, map}
@@ -7,23 +8,17 @@ use native.Mathlib.Numerals.{add-one}
 use lib.ListN.{length, get_or, set, drop, length-set}
 use lib.Seq.{sets}
 use lib.Dec.{leb}
-use borrow.Author.Tests.{le-leb, lt-leb, leb-true, not-true, not-false}
-use mathlib.Core.Bool.{Bool, true, false, not, and-false}
-use Rattle.dates.specs.declared.Day.{Day}
-use Rattle.dates.specs.declared.Day.TheVariants.{Number, Untrue}
+use borrow.Author.Tests.{leb-true, not-true, not-false}
+use mathlib.Core.Bool.{Bool, true, false, not}
 use Rattle.codes.specs.Codes.{short_at}
 use Rattle.book_read.specs.declared.Field.{Field}
 use Rattle.book_read.specs.declared.Field.TheVariants.{Code, Flags, Balance, Sublimit}
 use Rattle.book_read.specs.Block.{little, entries_at}
-use Rattle.book_read.specs.Book.{each, bank_place, date_in, blocks_in, bank_count, book_check}
+use Rattle.book_read.specs.Book.{each, bank_place, blocks_in, bank_count, book_check}
 use Rattle.book_read.proofs.Accepted.{both}
 use Rattle.book_read.specs.declared.Book.{Book}
 use Rattle.chars.specs.declared.Refusal.{Refusal}
 use Rattle.chars.specs.declared.Refusal.TheVariants.{ShortBuffer}
-use Rattle.book_read.specs.declared.Answer.{Answer}
-use Rattle.book_read.specs.declared.Answer.TheVariants.{Sound, Fault}
-use Rattle.book_read.specs.declared.Reading.{Reading}
-use Rattle.book_read.specs.declared.Reading.TheVariants.{Held, Unread}
 use Rattle.book_read.specs.Accounts.{read_book, With, rows_of, filled_book, filled, book_in, streams_in, banks_in, day_in, room_for, Stream, stream_at, bank_at, stream_row, field_of}
 
 module _ (s : List ℕ) (at : ℕ) (field : Field) {r : ℕ} where
@@ -89,36 +84,7 @@ module _ {f : ℕ → Stream} {n : ℕ} {first out : List ℕ} {i : ℕ} (g : Pa
   pub pairing_done : n ≤ i → out ≡ sets first 0 (stream_row (each f 0 n))
   pairing_done h = let z : n - i ≡ 0 = omega arith in rw z at g.same
 
--- the day, and the lengths of the rows
-pub day_told : (s : List ℕ) {d : Day} {k : ℕ} → d ≡ date_in s → d ≡ Number k → k ≡ day_in s
-unfolding day_in
-day_told s p q = rw (← p, q)
-
-pub day_none : (s : List ℕ) {d : Day} → d ≡ date_in s → d ≡ Untrue → 0 ≡ day_in s
-unfolding day_in
-day_none s p q = rw (← p, q)
-
 module _ (a b c d e : ℕ) where
-  pub short_1 : a < 16 → false ≡ room_for a b c d e
-  unfolding room_for
-  short_1 h = simp (lt-leb 16 a h)
-
-  pub short_2 : b < 64 → false ≡ room_for a b c d e
-  unfolding room_for
-  short_2 h = simp (lt-leb 64 b h, and-false)
-
-  pub short_3 : c < 64 → false ≡ room_for a b c d e
-  unfolding room_for
-  short_3 h = simp (lt-leb 64 c h, and-false)
-
-  pub short_4 : d < 64 → false ≡ room_for a b c d e
-  unfolding room_for
-  short_4 h = simp (lt-leb 64 d h, and-false)
-
-  pub room_last : 16 ≤ a → 64 ≤ b → 64 ≤ c → 64 ≤ d → leb 64 e ≡ room_for a b c d e
-  unfolding room_for
-  room_last p q r t = rw (le-leb 16 a p, le-leb 64 b q, le-leb 64 c r, le-leb 64 d t)
-
   pub record Room : Type 0 where
     pub for_streams : 16 ≤ a
     pub for_codes : 64 ≤ b
@@ -164,25 +130,25 @@ fill_is s r₁ r₂ r₃ r₄ r₅ en em ea eb ec ed ee ek =
     rw (ea, eb, ec, ed, ee, ek, en, em)
     (simp map_each)
 
-held : With Book → With Reading
-held w = record { rows = w.rows; answer = Held w.answer }
+held : With Book → With (Result Book Refusal)
+held w = record { rows = w.rows; answer = Ok w.answer }
 
 -- reading: rows too short, a book that is refused, one that is held
 module _ (s r₁ r₂ r₃ r₄ r₅ : List ℕ) {b : Bool} (p : b ≡ room_for (length r₁) (length r₂) (length r₃) (length r₄) (length r₅)) where
   pub read_short : not b ≡ true
-      → ◌≡◌ {A = With Reading} (record { rows = rows_of r₁ r₂ r₃ r₄ r₅; answer = Unread ShortBuffer }) (read_book s (rows_of r₁ r₂ r₃ r₄ r₅))
+      → ◌≡◌ {A = With (Result Book Refusal)} (record { rows = rows_of r₁ r₂ r₃ r₄ r₅; answer = Err ShortBuffer }) (read_book s (rows_of r₁ r₂ r₃ r₄ r₅))
   unfolding read_book
   read_short h = rw (← p, not-true b h)
 
-  module _ (h : not b ≡ false) {x : Answer} (q : x ≡ book_check s) where
-    pub read_fault : {f : Refusal} → x ≡ Fault f
-        → ◌≡◌ {A = With Reading} (record { rows = rows_of r₁ r₂ r₃ r₄ r₅; answer = Unread f }) (read_book s (rows_of r₁ r₂ r₃ r₄ r₅))
+  module _ (h : not b ≡ false) {x : Result (Unit {0}) Refusal} (q : x ≡ book_check s) where
+    pub read_fault : {f : Refusal} → x ≡ Err f
+        → ◌≡◌ {A = With (Result Book Refusal)} (record { rows = rows_of r₁ r₂ r₃ r₄ r₅; answer = Err f }) (read_book s (rows_of r₁ r₂ r₃ r₄ r₅))
     unfolding read_book
     read_fault e = rw (← p, not-false b h, ← q, e)
 
-    pub read_held : {a₁ a₂ a₃ a₄ a₅ : List ℕ} {k : Book} → x ≡ Sound
+    pub read_held : {a₁ a₂ a₃ a₄ a₅ : List ℕ} {k : Book} → x ≡ Ok tt
         → ◌≡◌ {A = With Book} (record { rows = rows_of a₁ a₂ a₃ a₄ a₅; answer = k }) (filled_book s (rows_of r₁ r₂ r₃ r₄ r₅))
-        → ◌≡◌ {A = With Reading} (record { rows = rows_of a₁ a₂ a₃ a₄ a₅; answer = Held k }) (read_book s (rows_of r₁ r₂ r₃ r₄ r₅))
+        → ◌≡◌ {A = With (Result Book Refusal)} (record { rows = rows_of a₁ a₂ a₃ a₄ a₅; answer = Ok k }) (read_book s (rows_of r₁ r₂ r₃ r₄ r₅))
     unfolding read_book filled_book held
     read_held e f =
         ap (λ (w : With Book). held w) f ∙ rw (← p, not-false b h, ← q, e)

@@ -1,4 +1,5 @@
 -- A book that is accepted is in range: its day, its streams and its banks.
+use Rattle.std.specs.Prelude.{Option, Some, None, Ok}
 use Prim.Native.Nat.{ℕ, zero, suc, ◌+◌, ◌*◌, ◌-◌, ◌/◌, ◌%◌, ◌^◌, ◌≤◌, ◌<◌}
 use mathlib.Core.Path.{◌≡◌, refl, sym, ◌∙◌, ap}
 use mathlib.Core.Bool.{Bool, true, false, ◌&&◌, false≢true}
@@ -14,17 +15,10 @@ use Rattle.chars.proofs.Laws.{range_low, range_high, digit_high}
 use Rattle.codes.specs.Codes.{packed, pack_on, short_at, Bytes}
 use Rattle.codes.proofs.Laws.{pack_take, short_text_lem}
 use Rattle.dates.specs.Dates.{day_of, sum}
-use Rattle.dates.specs.declared.Day.{Day}
-use Rattle.dates.specs.declared.Day.TheVariants.{Number, Untrue}
 use Rattle.dates.proofs.Laws.{day_back}
 use Rattle.text_scan.specs.Scan.{on_next, code_at, number_at}
-use Rattle.text_scan.specs.declared.At.{At}
-use Rattle.text_scan.specs.declared.At.TheVariants.{Next, No}
-use Rattle.text_scan.specs.declared.Fixed.{Fixed}
-use Rattle.text_scan.specs.declared.Fixed.TheVariants.{Value, No as Unfit}
 use Rattle.text_scan.specs.Spelling.{All}
 use Rattle.text_scan.proofs.Standing.{code_sound}
-use Rattle.book_read.specs.declared.Answer.TheVariants.{Sound}
 use Rattle.book_read.specs.declared.Field.{Field}
 use Rattle.book_read.specs.declared.Field.TheVariants.{Code, Flags, Balance, Sublimit}
 use Rattle.book_read.specs.Block.{entries_at, entries_right, zeros_at}
@@ -114,13 +108,13 @@ pub short_right : (s : List ℕ) (at : ℕ) → code_right s at ≡ true → is_
 unfolding short_at
 short_right s at h = go (code_at s at 4) refl h
   where
-    go : (r : At) → code_at s at 4 ≡ r → on_next r false (λ e. true) ≡ true → is_short (packed 4 (drop at s)) ≡ true
-    go (Next e) q h =
+    go : (r : Option ℕ) → code_at s at 4 ≡ r → on_next r false (λ e. true) ≡ true → is_short (packed 4 (drop at s)) ≡ true
+    go (Some e) q h =
         let t = (code_sound s at 4 q).0 in
         let b = codes_bytes (take 4 (drop at s)) t.all in
         rw (← pack_take 4 0 (drop at s), lt-ltb _ 4294967296 (four_small (take 4 (drop at s)) t.size b), short_text_lem (take 4 (drop at s)) t.size b)
         (all_are_lem is_code (take 4 (drop at s)) t.all)
-    go No q h = absurd (false≢true h)
+    go None q h = absurd (false≢true h)
 
 -- ---- the date
 
@@ -128,13 +122,13 @@ day_small : (s : List ℕ) → is_day (date_in s) ≡ true → day_in s < 36525
 unfolding date_in day_in
 day_small s h = fixed (number_at s 8 6) h
   where
-    day : (v : ℕ) (d : Day) → day_of v ≡ d → is_day d ≡ true → on_day d < 36525
-    day v (Number k) p h = (day_back v k p).1
-    day v Untrue p h = absurd (false≢true h)
+    day : (v : ℕ) (d : Option ℕ) → day_of v ≡ d → is_day d ≡ true → on_day d < 36525
+    day v (Some k) p h = (day_back v k p).1
+    day v None p h = absurd (false≢true h)
 
-    fixed : (f : Fixed) → is_day (numbered f) ≡ true → on_day (numbered f) < 36525
-    fixed (Value v e) h = day v (day_of v) refl h
-    fixed Unfit h = absurd (false≢true h)
+    fixed : (f : Option (ℕ × ℕ)) → is_day (numbered f) ≡ true → on_day (numbered f) < 36525
+    fixed (Some (v, e)) h = day v (day_of v) refl h
+    fixed None h = absurd (false≢true h)
 
 -- ---- one stream, one bank
 
@@ -312,5 +306,5 @@ module _ {s : List ℕ} (g : Accepted s) where
   }
 
 -- every book that is accepted is in range, whatever else the list holds
-pub accepted_in_range : (s : List ℕ) → book_check s ≡ Sound → InRange (day_in s) (streams_in s) (banks_in s)
+pub accepted_in_range : (s : List ℕ) → book_check s ≡ Ok tt → InRange (day_in s) (streams_in s) (banks_in s)
 accepted_in_range s h = in_range (accepted s h)

@@ -1,4 +1,5 @@
 -- What the answers of the book's check mean.
+use Rattle.std.specs.Prelude.{Ok, Err}
 use Prim.Native.Nat.{ℕ}
 use mathlib.Core.Path.{◌≡◌, refl, ◌∙◌, ap}
 use mathlib.Core.Bool.{false}
@@ -6,7 +7,6 @@ use mathlib.Core.List.{List, [], ◌∷◌, ◌++◌}
 use mathlib.Core.Logic.{◌↔◌}
 use native.Mathlib.Omega.{arith}
 use Rattle.chars.specs.declared.Refusal.{Refusal}
-use Rattle.book_read.specs.declared.Answer.TheVariants.{Sound, Fault}
 use Rattle.book_read.specs.Block.{Rule, first_broken}
 use Rattle.book_read.specs.Book.{book_rules, book_check}
 use Rattle.book_read.proofs.Rules.{by_holds, after_sound, breaks}
@@ -22,7 +22,7 @@ pub record First (rs : List Rule) (f : Refusal) : Type 0 where
   pub fails : broken.holds ≡ false
   pub number : broken.fault ≡ f
 
-first_of : (rs : List Rule) (f : Refusal) → first_broken rs ≡ Fault f → First rs f
+first_of : (rs : List Rule) (f : Refusal) → first_broken rs ≡ Err f → First rs f
 unfolding first_broken
 first_of [] f h = let z : ◌≡◌ {A = ℕ} 0 1 = cc in absurd (omega arith)
 first_of (r ∷ rs) f h =
@@ -39,21 +39,21 @@ first_of (r ∷ rs) f h =
       number = t.number;
     })
     (λ e.
-    let same : Fault r.fault ≡ Fault f = rw e at h in
+    let same : Err r.fault ≡ Err f = rw e at h in
     record { earlier = []; broken = r; later = rs; split = refl; hold = tt; fails = e; number = cc })
 
-of_first : (rs : List Rule) (f : Refusal) → First rs f → first_broken rs ≡ Fault f
+of_first : (rs : List Rule) (f : Refusal) → First rs f → first_broken rs ≡ Err f
 of_first rs f t =
     ap first_broken t.split
     ∙ after_sound t.earlier (t.broken ∷ t.later) (none_broken t.earlier t.hold)
     ∙ breaks t.broken.holds t.broken.fault t.later t.fails
-    ∙ ap Fault t.number
+    ∙ ap Err t.number
 
 -- each of 11 to 15 is given exactly when its rule is the first to break, and a book is accepted exactly when every rule holds
-pub refused_first : (s : List ℕ) (f : Refusal) → (book_check s ≡ Fault f) ↔ First (book_rules s) f
+pub refused_first : (s : List ℕ) (f : Refusal) → (book_check s ≡ Err f) ↔ First (book_rules s) f
 unfolding book_check
 refused_first s f = (first_of (book_rules s) f, of_first (book_rules s) f)
 
-pub accepted_all : (s : List ℕ) → (book_check s ≡ Sound) ↔ AllHold (book_rules s)
+pub accepted_all : (s : List ℕ) → (book_check s ≡ Ok tt) ↔ AllHold (book_rules s)
 unfolding book_check
 accepted_all s = (all_hold (book_rules s), none_broken (book_rules s))

@@ -1,18 +1,12 @@
 -- What a book says: its date, its streams and its banks; and the lent rows that hold them.
-use Rattle.std.specs.Prelude.{ℕ, ◌+◌, ◌*◌, List, [], ◌∷◌, map, Bool, ◌&&◌, cond, length, get_or, leb}
+use Rattle.std.specs.Prelude.{ℕ, ◌+◌, ◌*◌, List, [], ◌∷◌, map, Bool, ◌&&◌, cond, length, get_or, leb, Option, Some, None, Result, Ok, Err}
 use Rattle.std.proofs.lemmas.List.Edits.{sets}
 use Rattle.codes.specs.Codes.{short_at}
-use Rattle.dates.specs.declared.Day.{Day}
-use Rattle.dates.specs.declared.Day.TheVariants.{Number, Untrue}
 use Rattle.chars.specs.declared.Refusal.{Refusal}
 use Rattle.chars.specs.declared.Refusal.TheVariants.{ShortBuffer}
-use Rattle.book_read.specs.declared.Answer.{Answer}
-use Rattle.book_read.specs.declared.Answer.TheVariants.{Sound, Fault}
 use Rattle.book_read.specs.declared.Book.{Book}
 use Rattle.book_read.specs.declared.Field.{Field}
 use Rattle.book_read.specs.declared.Field.TheVariants.{Code, Flags, Balance, Sublimit}
-use Rattle.book_read.specs.declared.Reading.{Reading}
-use Rattle.book_read.specs.declared.Reading.TheVariants.{Held, Unread}
 use Rattle.book_read.specs.Block.{entries_at}
 use Rattle.book_read.specs.Book.{date_in, balance_at, sublimit_at, blocks_in, bank_place, bank_count, each, book_check}
 
@@ -41,9 +35,9 @@ bank_at s at = record {
 }
 
 -- the day number of the book's date
-abbrev pub on_day : Day → ℕ
-on_day (Number k) = k
-on_day Untrue = 0
+abbrev pub on_day : Option ℕ → ℕ
+on_day (Some k) = k
+on_day None = 0
 
 unfoldable pub day_in : List ℕ → ℕ
 day_in s = on_day (date_in s)
@@ -112,15 +106,15 @@ pub record With (A : Type 0) : Type 0 where
 unfoldable pub filled_book : List ℕ → Rows → With Book
 filled_book s t = record { rows = filled s t; answer = book_in s }
 
-abbrev pub on_answer : {A : Type 0} → Answer → A → (Refusal → A) → A
-on_answer Sound a k = a
-on_answer (Fault r) a k = k r
+abbrev pub on_answer : {A : Type 0} → Result (Unit {0}) Refusal → A → (Refusal → A) → A
+on_answer (Ok tt) a k = a
+on_answer (Err r) a k = k r
 
 -- 07 for a row that is too short, then 11 to 15; a refusal changes nothing
-unfoldable pub read_book : List ℕ → Rows → With Reading
+unfoldable pub read_book : List ℕ → Rows → With (Result Book Refusal)
 read_book s t =
     cond (roomy t)
     (on_answer (book_check s)
-    (record { rows = filled s t; answer = Held (book_in s) })
-    (λ r. record { rows = t; answer = Unread r }))
-    (record { rows = t; answer = Unread ShortBuffer })
+    (record { rows = filled s t; answer = Ok (book_in s) })
+    (λ r. record { rows = t; answer = Err r }))
+    (record { rows = t; answer = Err ShortBuffer })

@@ -1,12 +1,10 @@
 -- A block of 512 bytes, over its letter, the place and width of its entries and their test.
-use Rattle.std.specs.Prelude.{ℕ, zero, suc, ◌+◌, ◌*◌, ◌-◌, List, [], ◌∷◌, Bool, true, ◌&&◌, cond, get_or, drop, replicate, ltb, eqb}
+use Rattle.std.specs.Prelude.{ℕ, zero, suc, ◌+◌, ◌*◌, ◌-◌, List, [], ◌∷◌, Bool, true, ◌&&◌, cond, get_or, drop, replicate, ltb, eqb, Result, Ok, Err}
 use Rattle.codes.specs.Codes.{short_at}
 use Rattle.checksum.specs.Sum.{block_sum}
 use Rattle.text_scan.specs.Scan.{begins}
 use Rattle.chars.specs.declared.Refusal.{Refusal}
 use Rattle.chars.specs.declared.Refusal.TheVariants.{BookCheck, BookHeader, OutOfRange}
-use Rattle.book_read.specs.declared.Answer.{Answer}
-use Rattle.book_read.specs.declared.Answer.TheVariants.{Sound, Fault}
 
 -- a rule, whether it holds, and the number that its break gives
 pub record Rule : Type 0 where
@@ -17,9 +15,9 @@ abbrev pub rule : Bool → Refusal → Rule
 rule h r = record { holds = h; fault = r }
 
 -- the number of the first rule that is broken
-unfoldable pub first_broken : List Rule → Answer
-first_broken [] = Sound
-first_broken (r ∷ rs) = let later = first_broken rs in cond r.holds later (Fault r.fault)
+unfoldable pub first_broken : List Rule → Result (Unit {0}) Refusal
+first_broken [] = Ok tt
+first_broken (r ∷ rs) = let later = first_broken rs in cond r.holds later (Err r.fault)
 
 -- "Little-endian": the first w bytes of a list as a number
 unfoldable pub little : ℕ → List ℕ → ℕ

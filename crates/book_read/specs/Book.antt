@@ -1,15 +1,12 @@
 -- The book: its blocks, the rules in their order, and what an accepted book says.
+use Rattle.chars.specs.declared.Refusal.{Refusal}
 use Rattle.std.specs.Prelude.{ℕ, zero, suc, ◌+◌, ◌*◌, ◌-◌, ◌/◌, ◌%◌, List, [], ◌∷◌, ◌++◌, Bool, true, false, ◌&&◌, cond, length, get_or, drop, ltb, leb, eqb}
+use Rattle.std.specs.Prelude.{Option, Some, None, Result}
 use Rattle.chars.specs.Words.{within}
 use Rattle.codes.specs.Codes.{short_at}
 use Rattle.text_scan.specs.Scan.{on_next, code_at, number_at}
-use Rattle.text_scan.specs.declared.Fixed.{Fixed}
-use Rattle.text_scan.specs.declared.Fixed.TheVariants.{Value, No as Unfit}
 use Rattle.dates.specs.Dates.{day_of, sum}
-use Rattle.dates.specs.declared.Day.{Day}
-use Rattle.dates.specs.declared.Day.TheVariants.{Number, Untrue}
 use Rattle.chars.specs.declared.Refusal.TheVariants.{BookLength, BookTotal}
-use Rattle.book_read.specs.declared.Answer.{Answer}
 use Rattle.book_read.specs.Block.{Rule, rule, first_broken, little, entries_at, zeros_at, block_rules}
 
 -- "Balances, their total and sub-limits run from 0 to 6,400,000,000,000,000."
@@ -21,16 +18,16 @@ abbrev pub code_right : List ℕ → ℕ → Bool
 code_right s at = on_next (code_at s at 4) false (λ e. true)
 
 -- "date digits at 8-13"
-abbrev pub numbered : Fixed → Day
-numbered (Value v e) = day_of v
-numbered Unfit = Untrue
+abbrev pub numbered : Option (ℕ × ℕ) → Option ℕ
+numbered (Some (v, e)) = day_of v
+numbered None = None
 
-unfoldable pub date_in : List ℕ → Day
+unfoldable pub date_in : List ℕ → Option ℕ
 date_in s = numbered (number_at s 8 6)
 
-abbrev pub is_day : Day → Bool
-is_day (Number k) = true
-is_day Untrue = false
+abbrev pub is_day : Option ℕ → Bool
+is_day (Some k) = true
+is_day None = false
 
 -- "entries of 8 at 16: stream 4, administrator 1 to 255, three zeros"
 unfoldable pub stream_right : List ℕ → ℕ → Bool
@@ -114,5 +111,5 @@ book_rules s =
     rule (length_right s) BookLength
     ∷ (stream_rules s (blocks_in s) ++ (bank_blocks s (blocks_in s) 1 (blocks_in s - 1) ++ (rule (total_right s (bank_count s (blocks_in s))) BookTotal ∷ [])))
 
-unfoldable pub book_check : List ℕ → Answer
+unfoldable pub book_check : List ℕ → Result (Unit {0}) Refusal
 book_check s = first_broken (book_rules s)

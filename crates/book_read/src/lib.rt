@@ -1,8 +1,7 @@
 // The book: blocks of 512 bytes with the date, the streams and the banks. Its check and its reading.
 #![tactic(auto)]
 
-ghost use Rattle.std.specs.Prelude.{◌≡◌, true, ◌&&◌, eqb, min, ◌+◌, ◌*◌, ◌-◌, ◌≤◌, ◌<◌, ◌^◌, length, get_or, set, drop, replicate};
-ghost use Rattle.book_read.specs.declared.Answer.TheVariants.{Sound};
+ghost use Rattle.std.specs.Prelude.{◌≡◌, ℕ, Bool, true, ◌&&◌, eqb, min, ◌+◌, ◌*◌, ◌-◌, ◌≤◌, ◌<◌, ◌^◌, length, get_or, set, drop, replicate, Ok};
 ghost use Rattle.std.proofs.lemmas.List.Edits.{sets};
 ghost use Rattle.book_read.specs.Block.{first_broken, little, entries_at, head_right, zeros_at, unused_right, header_right, check_right, entries_right};
 ghost use Rattle.checksum.specs.Sum.{block_sum};
@@ -10,15 +9,6 @@ ghost use Rattle.book_read.specs.Accounts.{stream_at, bank_at, stream_row, field
 ghost use Rattle.book_read.specs.Book.{each, code_right, date_in, streams_counted, banks_counted, stream_right, bits_past, balance_at, bank_right, stream_rules, code_before, bank_rules, bank_blocks, bank_place, bank_count, total_right, book_check};
 
 use chars::Refusal;
-use dates::Day;
-use text_scan::{At, Fixed};
-
-// What the check of a book answers.
-#[derive(Clone, Copy)]
-pub enum Answer {
-    Sound,
-    Fault(Refusal),
-}
 
 // The day, and how many streams and banks a book has.
 #[derive(Clone, Copy)]
@@ -69,29 +59,11 @@ pub fn little_at(s: &[u8], at: usize, w: usize) -> u64
     requires { (at ≤ 65536) × (w ≤ 8) }
     ensures { result ≡ little w (drop at s.now) }
 {
-    let mut i = w;
     let mut v: u64 = 0;
-    while i > 0 {
-        i -= 1;
-        v = v * 256 + wide(byte(s, at + i));
+    for i in (0..w).rev() {
+        v = v * 256 + u64::from(byte(s, at + i));
     }
     v
-}
-
-fn wide(b: u8) -> u64
-    ensures value { result ≡ b }
-    ensures small { result < 256 }
-{
-    b as u64
-}
-
-// Four bytes that are there.
-fn four_at(s: &[u8], at: usize) -> u64
-    requires { at + 4 ≤ length s.now }
-    ensures value { result ≡ little 4 (drop at s.now) }
-    ensures small { result < 4294967296 }
-{
-    wide(s[at]) + wide(s[at + 1]) * 256 + wide(s[at + 2]) * 65536 + wide(s[at + 3]) * 16777216
 }
 
 // Eight bytes that are there.
@@ -99,7 +71,16 @@ fn eight_at(s: &[u8], at: usize) -> u64
     requires { at + 8 ≤ length s.now }
     ensures { result ≡ little 8 (drop at s.now) }
 {
-    four_at(s, at) + four_at(s, at + 4) * 4294967296
+    u64::from_le_bytes([
+        s[at],
+        s[at + 1],
+        s[at + 2],
+        s[at + 3],
+        s[at + 4],
+        s[at + 5],
+        s[at + 6],
+        s[at + 7],
+    ])
 }
 
 // The cents at a place: eight bytes, at once where they are there.
@@ -113,62 +94,30 @@ fn money_at(s: &[u8], at: usize) -> u64
     little_at(s, at, 8)
 }
 
-fn still_zero(all: bool, b: u8) -> bool
-    ensures { result ≡ all && eqb b 0 }
-{
-    if b != 0 {
-        return false;
-    }
-    all
-}
-
 // To the end, whatever it meets: several bytes are then looked at at once, and nearly all of them are zero.
 fn all_zero(s: &[u8], at: usize, n: usize) -> bool
     requires { at + n ≤ length s.now }
     ensures { result ≡ zeros_at s.now at n }
 {
     let mut all = true;
-    let mut left = n;
-    let mut j = at;
-    while left > 0 {
-        all = still_zero(all, s[j]);
-        left -= 1;
-        j += 1;
+    for j in at..at + n {
+        all &= s[j] == 0;
     }
     all
-}
-
-// Zeros one by one, to the end of the book at the most.
-fn zeros_to(s: &[u8], at: usize, n: usize) -> bool
-    ensures { result ≡ zeros_at s.now at n }
-{
-    let mut left = n;
-    let mut j = at;
-    while left > 0 {
-        if s.len() <= j {
-            return false;
-        }
-        if s[j] != 0 {
-            return false;
-        }
-        left -= 1;
-        j += 1;
-    }
-    true
 }
 
 // Whether n zeros stand at a place.
 pub fn zeros(s: &[u8], at: usize, n: usize) -> bool
     ensures { result ≡ zeros_at s.now at n }
 {
-    if n <= s.len() {
-        if at <= s.len() - n {
-            return all_zero(s, at, n);
-        }
+    if n <= s.len() && at <= s.len() - n {
+        all_zero(s, at, n)
+    } else {
+        n == 0
     }
-    zeros_to(s, at, n)
 }
 
+#[tactic(auto, unfolding(crate::specs::Block::check_right))]
 pub fn check_right(s: &[u8], at: usize) -> bool
     requires { at ≤ 2560 }
     ensures { result ≡ check_right s.now at }
@@ -185,6 +134,7 @@ pub fn entries(s: &[u8], at: usize) -> usize
     byte(s, at + 4) as usize
 }
 
+#[tactic(auto, using(crate::proofs::Leaves::head_is))]
 pub fn head_right(s: &[u8], at: usize, letter: u8, number: u8, blocks: u8) -> bool
     requires { at ≤ 2560 }
     ensures { result ≡ head_right s.now at letter number blocks }
@@ -199,26 +149,20 @@ pub fn head_right(s: &[u8], at: usize, letter: u8, number: u8, blocks: u8) -> bo
         0,
         0,
     ];
-    if let At::Next(_) = text_scan::lit(s, at, &head) {
-        true
-    } else {
-        false
-    }
+    text_scan::lit(s, at, &head).is_some()
 }
 
 // From the end of the entries to the check.
+#[tactic(auto, using(crate::proofs::Leaves::unused_none), unfolding(crate::specs::Block::unused_right))]
 pub fn unused_right(s: &[u8], at: usize, end: usize) -> bool
     requires { (at ≤ 2560) × (end ≤ 8192) }
     ensures { result ≡ unused_right s.now at end }
 {
-    if end < Book::CHECKED {
-        zeros(s, at + end, Book::CHECKED - end)
-    } else {
-        true
-    }
+    Book::CHECKED <= end || zeros(s, at + end, Book::CHECKED - end)
 }
 
 // The header of a block whose counts were judged before, and its unused bytes.
+#[tactic(auto, unfolding(crate::specs::Block::header_right))]
 fn header_right(
     s: &[u8],
     at: usize,
@@ -232,41 +176,29 @@ fn header_right(
     requires { (at ≤ 2560) × (first ≤ 16) × (width ≤ 24) }
     ensures { result ≡ header_right s.now at letter number blocks counted first width }
 {
-    if !head_right(s, at, letter, number, blocks) {
-        return false;
-    }
-    if !counted {
-        return false;
-    }
-    unused_right(s, at, first + width * entries(s, at))
+    head_right(s, at, letter, number, blocks)
+        && counted
+        && unused_right(s, at, first + width * entries(s, at))
 }
 
 // The day number of the book's date.
-pub fn date_in(s: &[u8]) -> Day
+#[tactic(auto, unfolding(crate::specs::Book::date_in))]
+pub fn date_in(s: &[u8]) -> Option<u64>
     ensures { result ≡ date_in s.now }
 {
-    match text_scan::number(s, 8, 6) {
-        Fixed::Value(v, _) => dates::day_of(v),
-        Fixed::No => Day::Untrue,
-    }
+    let (v, _) = text_scan::number(s, 8, 6)?;
+    dates::day_of(v)
 }
 
+#[tactic(auto, unfolding(crate::specs::Book::streams_counted))]
 fn streams_counted(s: &[u8]) -> bool
     ensures { result ≡ streams_counted s.now }
 {
     let n = entries(s, 0);
-    if n < 1 {
-        return false;
-    }
-    if Book::STREAMS < n {
-        return false;
-    }
-    let Day::Number(_) = date_in(s) else {
-        return false;
-    };
-    zeros(s, 14, 2)
+    1 <= n && n <= Book::STREAMS && date_in(s).is_some() && zeros(s, 14, 2)
 }
 
+#[tactic(auto, unfolding(crate::specs::Book::banks_counted))]
 pub fn banks_counted(blocks: usize, k: usize, n: usize) -> bool
     requires { (1 ≤ k) × (k < 5) × (n < 256) }
     ensures { result ≡ banks_counted blocks k n }
@@ -274,113 +206,101 @@ pub fn banks_counted(blocks: usize, k: usize, n: usize) -> bool
     if k + 1 < blocks {
         return n == Book::ENTRIES;
     }
-    if n < 1 {
-        return false;
-    }
-    if Book::ENTRIES < n {
-        return false;
-    }
-    Book::ENTRIES * (k - 1) + n <= Book::BANKS
+    1 <= n && n <= Book::ENTRIES && Book::ENTRIES * (k - 1) + n <= Book::BANKS
 }
 
+#[tactic(auto, unfolding(crate::specs::Book::stream_right))]
 fn stream_right(s: &[u8], at: usize) -> bool
-    requires { at ≤ 8192 }
+    requires { at ≤ 16384 }
     ensures { result ≡ stream_right s.now at }
 {
-    let At::Next(_) = text_scan::code(s, at, 4) else {
-        return false;
-    };
-    if byte(s, at + 4) < 1 {
-        return false;
-    }
-    zeros(s, at + 5, 3)
+    text_scan::code(s, at, 4).is_some() && 1 <= byte(s, at + 4) && zeros(s, at + 5, 3)
 }
 
 // The bits past the first n.
 pub fn bits_past(n: usize, bits: u64) -> u64
     ensures { result ≡ bits_past n bits }
 {
-    let mut left = n;
     let mut rest = bits;
-    while left > 0 {
-        rest = rest / 2;
-        left -= 1;
+    for _ in 0..n {
+        rest /= 2;
     }
     rest
 }
 
+#[tactic(auto, unfolding(crate::specs::Book::bank_right))]
 fn bank_right(s: &[u8], streams: usize, at: usize) -> bool
     requires { at ≤ 16384 }
     ensures { result ≡ bank_right s.now streams at }
 {
-    let At::Next(_) = text_scan::code(s, at, 4) else {
-        return false;
-    };
-    if 1 < byte(s, at + 4) {
-        return false;
+    text_scan::code(s, at, 4).is_some()
+        && byte(s, at + 4) <= 1
+        && bits_past(streams, u64::from(byte(s, at + 5))) == 0
+        && zeros(s, at + 6, 2)
+        && money_at(s, at + 8) <= Book::MOST
+        && money_at(s, at + 16) <= Book::MOST
+}
+
+// n entries from a place on: each has a code above the one before it and is right by itself.
+fn entries_right<F: Fn(usize) -> bool>(
+    s: &[u8],
+    from: usize,
+    width: usize,
+    first: u64,
+    n: usize,
+    right: F,
+) -> bool
+    requires bounds { (from ≤ 4096) × (width ≤ 24) × (n < 256) }
+    requires callable { (at : ℕ) → at ≤ 16384 → F.pre right at }
+    ensures { (r : ℕ → Bool) → ((at : ℕ) (b : Bool) → at ≤ 16384 → F.post right at b → b ≡ r at) → result ≡ entries_right s.now width r first from n }
+{
+    let mut before = first;
+    for i in 0..n {
+        let at = from + width * i;
+        let code = codes::short_code(s, at);
+        if code <= before || !right(at) {
+            return false;
+        }
+        before = code;
     }
-    if bits_past(streams, wide(byte(s, at + 5))) != 0 {
-        return false;
-    }
-    if !zeros(s, at + 6, 2) {
-        return false;
-    }
-    if Book::MOST < money_at(s, at + 8) {
-        return false;
-    }
-    money_at(s, at + 16) <= Book::MOST
+    true
 }
 
 fn streams_right(s: &[u8], n: usize) -> bool
     requires { n < 256 }
     ensures { result ≡ entries_right s.now 8 (stream_right s.now) 0 16 n }
 {
-    let mut left = n;
-    let mut at = Book::STREAMS_AT;
-    let mut before: u64 = 0;
-    while left > 0 {
-        let code = codes::short_code(s, at);
-        if code <= before {
-            return false;
-        }
-        if !stream_right(s, at) {
-            return false;
-        }
-        before = code;
-        at += Book::STREAM;
-        left -= 1;
-    }
-    true
+    entries_right(
+        s,
+        Book::STREAMS_AT,
+        Book::STREAM,
+        0,
+        n,
+        |at| stream_right(s, at),
+    )
 }
 
 fn banks_right(s: &[u8], streams: usize, first: u64, from: usize, n: usize) -> bool
     requires { (from ≤ 4096) × (n < 256) }
     ensures { result ≡ entries_right s.now 24 (bank_right s.now streams) first from n }
 {
-    let mut left = n;
-    let mut at = from;
-    let mut before = first;
-    while left > 0 {
-        let code = codes::short_code(s, at);
-        if code <= before {
-            return false;
-        }
-        if !bank_right(s, streams, at) {
-            return false;
-        }
-        before = code;
-        at += Book::BANK;
-        left -= 1;
-    }
-    true
+    entries_right(
+        s,
+        from,
+        Book::BANK,
+        first,
+        n,
+        |at| bank_right(s, streams, at),
+    )
 }
 
 // The first rule that the block of streams breaks.
-fn stream_block(s: &[u8], blocks: u8) -> Answer
+#[tactic(auto, unfolding(crate::specs::Book::stream_rules, crate::specs::Block::first_broken))]
+fn stream_block(s: &[u8], blocks: u8) -> Result<(), Refusal>
     ensures { result ≡ first_broken (stream_rules s.now blocks) }
 {
     if !check_right(s, 0) {
-        return Answer::Fault(Refusal::BookCheck);
+        return Err(Refusal::BookCheck);
     }
     if !header_right(
         s,
@@ -392,15 +312,16 @@ fn stream_block(s: &[u8], blocks: u8) -> Answer
         Book::STREAMS_AT,
         Book::STREAM,
     ) {
-        return Answer::Fault(Refusal::BookHeader);
+        return Err(Refusal::BookHeader);
     }
     if !streams_right(s, entries(s, 0)) {
-        return Answer::Fault(Refusal::OutOfRange);
+        return Err(Refusal::OutOfRange);
     }
-    Answer::Sound
+    Ok(())
 }
 
 // The code of the last bank of the block before; 0 before the first.
+#[tactic(auto, unfolding(crate::specs::Book::code_before))]
 pub fn code_before(s: &[u8], k: usize) -> u64
     requires { k < 5 }
     ensures { result ≡ code_before s.now k }
@@ -412,14 +333,15 @@ pub fn code_before(s: &[u8], k: usize) -> u64
 }
 
 // The first rule that block k, one of banks, breaks.
-fn bank_block(s: &[u8], blocks: usize, k: usize) -> Answer
+#[tactic(auto, unfolding(crate::specs::Book::bank_rules, crate::specs::Block::first_broken))]
+fn bank_block(s: &[u8], blocks: usize, k: usize) -> Result<(), Refusal>
     requires { (blocks ≤ 5) × (1 ≤ k) × (k < 5) }
     ensures { result ≡ first_broken (bank_rules s.now blocks k) }
 {
     let at = Book::BLOCK * k;
     let n = entries(s, at);
     if !check_right(s, at) {
-        return Answer::Fault(Refusal::BookCheck);
+        return Err(Refusal::BookCheck);
     }
     let counted = banks_counted(blocks, k, n);
     if !header_right(
@@ -432,34 +354,27 @@ fn bank_block(s: &[u8], blocks: usize, k: usize) -> Answer
         Book::BANKS_AT,
         Book::BANK,
     ) {
-        return Answer::Fault(Refusal::BookHeader);
+        return Err(Refusal::BookHeader);
     }
     if !banks_right(s, entries(s, 0), code_before(s, k), at + Book::BANKS_AT, n) {
-        return Answer::Fault(Refusal::OutOfRange);
+        return Err(Refusal::OutOfRange);
     }
-    Answer::Sound
+    Ok(())
 }
 
 // The first rule that a block of banks breaks.
-fn bank_blocks(s: &[u8], blocks: usize) -> Answer
+fn bank_blocks(s: &[u8], blocks: usize) -> Result<(), Refusal>
     requires { (1 ≤ blocks) × (blocks ≤ 5) }
     ensures { result ≡ first_broken (bank_blocks s.now blocks 1 (blocks - 1)) }
 {
-    let mut k = 1;
-    while k < blocks {
-        match bank_block(s, blocks, k) {
-            Answer::Sound => {
-                k += 1;
-            }
-            Answer::Fault(f) => {
-                return Answer::Fault(f);
-            }
-        }
+    for k in 1..blocks {
+        bank_block(s, blocks, k)?;
     }
-    Answer::Sound
+    Ok(())
 }
 
 // The place of a bank's entry.
+#[tactic(auto, unfolding(crate::specs::Book::bank_place))]
 fn bank_place(i: usize) -> usize
     requires { i < 400 }
     ensures value { result ≡ bank_place i }
@@ -473,19 +388,18 @@ pub fn total_right(s: &[u8], n: usize) -> bool
     ensures { result ≡ total_right s.now n }
 {
     let mut total: u64 = 0;
-    let mut i = 0;
-    while i < n {
+    for i in 0..n {
         let balance = money_at(s, bank_place(i) + 8);
         if Book::MOST - total < balance {
             return false;
         }
         total += balance;
-        i += 1;
     }
     true
 }
 
 // How many banks a book of so many blocks has.
+#[tactic(auto, unfolding(crate::specs::Book::bank_count))]
 pub fn bank_count(s: &[u8], blocks: usize) -> usize
     requires { (2 ≤ blocks) × (blocks ≤ 5) }
     ensures value { result ≡ bank_count s.now blocks }
@@ -494,30 +408,23 @@ pub fn bank_count(s: &[u8], blocks: usize) -> usize
     Book::ENTRIES * (blocks - 2) + entries(s, Book::BLOCK * (blocks - 1))
 }
 
-// 0, or the number of the first rule that a book breaks: length 11; by block check 12, header 13, entries 14; total 15.
-pub fn check(book: &[u8]) -> Answer
+// The first rule that a book breaks: length 11; by block check 12, header 13, entries 14; total 15.
+pub fn check(book: &[u8]) -> Result<(), Refusal>
     ensures { result ≡ book_check book.now }
 {
     if book.len() % Book::BLOCK != 0 {
-        return Answer::Fault(Refusal::BookLength);
+        return Err(Refusal::BookLength);
     }
     let blocks = book.len() / Book::BLOCK;
-    if blocks < 2 {
-        return Answer::Fault(Refusal::BookLength);
+    if blocks < 2 || 5 < blocks {
+        return Err(Refusal::BookLength);
     }
-    if 5 < blocks {
-        return Answer::Fault(Refusal::BookLength);
-    }
-    if let Answer::Fault(f) = stream_block(book, blocks as u8) {
-        return Answer::Fault(f);
-    }
-    if let Answer::Fault(f) = bank_blocks(book, blocks) {
-        return Answer::Fault(f);
-    }
+    stream_block(book, blocks as u8)?;
+    bank_blocks(book, blocks)?;
     if !total_right(book, bank_count(book, blocks)) {
-        return Answer::Fault(Refusal::BookTotal);
+        return Err(Refusal::BookTotal);
     }
-    Answer::Sound
+    Ok(())
 }
 
 // A column of the banks' rows. Flags are one number: 1 if the bank is suspended, and twice its stream bits.
@@ -529,12 +436,6 @@ pub enum Field {
     Sublimit,
 }
 
-#[derive(Clone, Copy)]
-pub enum Reading {
-    Held(Book),
-    Unread(Refusal),
-}
-
 // One field of the bank's entry at a place.
 fn field_at(s: &[u8], at: usize, field: Field) -> u64
     requires { at ≤ 16384 }
@@ -542,7 +443,7 @@ fn field_at(s: &[u8], at: usize, field: Field) -> u64
 {
     match field {
         Field::Code => codes::short_code(s, at),
-        Field::Flags => wide(byte(s, at + 4)) + 2 * wide(byte(s, at + 5)),
+        Field::Flags => u64::from(byte(s, at + 4)) + 2 * u64::from(byte(s, at + 5)),
         Field::Balance => money_at(s, at + 8),
         Field::Sublimit => money_at(s, at + 16),
     }
@@ -553,10 +454,8 @@ fn read_column(s: &[u8], n: usize, field: Field, out: &mut [u64])
     requires { (n ≤ 64) × (64 ≤ length out.old) }
     ensures { out.new ≡ sets out.old 0 (each (λ i. field_of field (bank_at s.now (bank_place i))) 0 n) }
 {
-    let mut i = 0;
-    while i < n {
+    for i in 0..n {
         out[i] = field_at(s, bank_place(i), field);
-        i += 1;
     }
 }
 
@@ -565,42 +464,31 @@ fn read_streams(s: &[u8], n: usize, out: &mut [u64])
     requires { (n ≤ 8) × (16 ≤ length out.old) }
     ensures { out.new ≡ sets out.old 0 (stream_row (each (λ i. stream_at s.now (8 * i + 16)) 0 n)) }
 {
-    let mut i = 0;
-    while i < n {
+    for i in 0..n {
         let at = Book::STREAM * i + Book::STREAMS_AT;
         out[2 * i] = codes::short_code(s, at);
-        out[2 * i + 1] = wide(byte(s, at + 4));
-        i += 1;
+        out[2 * i + 1] = u64::from(byte(s, at + 4));
     }
 }
 
 // The day number of the book's date; 0 for none.
+#[tactic(auto, unfolding(crate::specs::Accounts::day_in))]
 fn day_in(s: &[u8]) -> u64
     ensures { result ≡ day_in s.now }
 {
-    match date_in(s) {
-        Day::Number(k) => k,
-        Day::Untrue => 0,
-    }
+    date_in(s).unwrap_or(0)
 }
 
 // Whether rows of these lengths hold 8 streams and 64 banks.
+#[tactic(auto, unfolding(crate::specs::Accounts::room_for))]
 fn rows_fit(streams: usize, codes: usize, flags: usize, balances: usize, sublimits: usize) -> bool
     ensures { result ≡ room_for streams codes flags balances sublimits }
 {
-    if streams < 2 * Book::STREAMS {
-        return false;
-    }
-    if codes < Book::BANKS {
-        return false;
-    }
-    if flags < Book::BANKS {
-        return false;
-    }
-    if balances < Book::BANKS {
-        return false;
-    }
-    Book::BANKS <= sublimits
+    2 * Book::STREAMS <= streams
+        && Book::BANKS <= codes
+        && Book::BANKS <= flags
+        && Book::BANKS <= balances
+        && Book::BANKS <= sublimits
 }
 
 // The streams and banks of a sound book into the rows.
@@ -612,7 +500,7 @@ fn fill(
     balances: &mut [u64],
     sublimits: &mut [u64],
 ) -> Book
-    requires book_value { book_check book.now ≡ Sound }
+    requires book_value { book_check book.now ≡ Ok tt }
     requires sublimits_value { room_for (length streams.old) (length codes.old) (length flags.old) (length balances.old) (length sublimits.old) ≡ true }
     ensures { record { rows = rows_of streams.new codes.new flags.new balances.new sublimits.new; answer = result } ≡ filled_book book.now (rows_of streams.old codes.old flags.old balances.old sublimits.old) }
 {
@@ -639,7 +527,7 @@ pub fn read(
     flags: &mut [u64],
     balances: &mut [u64],
     sublimits: &mut [u64],
-) -> Reading
+) -> Result<Book, Refusal>
     ensures { record { rows = rows_of streams.new codes.new flags.new balances.new sublimits.new; answer = result } ≡ read_book book.now (rows_of streams.old codes.old flags.old balances.old sublimits.old) }
 {
     if !rows_fit(
@@ -649,10 +537,8 @@ pub fn read(
         balances.len(),
         sublimits.len(),
     ) {
-        return Reading::Unread(Refusal::ShortBuffer);
+        return Err(Refusal::ShortBuffer);
     }
-    if let Answer::Fault(f) = check(book) {
-        return Reading::Unread(f);
-    }
-    Reading::Held(fill(book, streams, codes, flags, balances, sublimits))
+    check(book)?;
+    Ok(fill(book, streams, codes, flags, balances, sublimits))
 }

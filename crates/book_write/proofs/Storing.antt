@@ -26,9 +26,13 @@ pub record Storing (first : List ℕ) (at : ℕ) (text out : List ℕ) (j : ℕ)
 pub storing_start : (first : List ℕ) (at : ℕ) (text : List ℕ) → Storing first at text first at text
 storing_start first at text = record { size = refl; same = refl }
 
+-- the same for a loop's count of what it has stored
+pub storing_first : (first : List ℕ) (at n : ℕ) (rest : ℕ → List ℕ) → Storing first at (rest n) first (at + 0) (rest (n - 0))
+storing_first first at n rest = let z : at + 0 ≡ at = omega arith in let y : n - 0 ≡ n = omega arith in rw (z, y) (storing_start first at (rest n))
+
 module _ {first : List ℕ} {at : ℕ} {text out : List ℕ} {j : ℕ} {rest : List ℕ} (g : Storing first at text out j rest) where
-  pub storing_on : {b : ℕ} {more next : List ℕ} → rest ≡ b ∷ more → next ≡ set out j b → Storing first at text next (j + 1) more
-  storing_on e p = record { size = rw (p, length-set) g.size; same = rw (p, add-one) (rw e at g.same) }
+  pub storing_on : {b k : ℕ} {more next : List ℕ} → k ≡ j + 1 → rest ≡ b ∷ more → next ≡ set out j b → Storing first at text next k more
+  storing_on q e p = record { size = rw (p, length-set) g.size; same = rw (p, q, add-one) (rw e at g.same) }
 
   pub storing_part : (part more : List ℕ) {next : List ℕ} {k : ℕ} → rest ≡ part ++ more → k ≡ j + length part → next ≡ sets out j part → Storing first at text next k more
   storing_part part more e q p = record {
@@ -39,18 +43,16 @@ module _ {first : List ℕ} {at : ℕ} {text out : List ℕ} {j : ℕ} {rest : L
   pub storing_done : rest ≡ [] → out ≡ sets first at text
   storing_done e = rw e at g.same
 
-pub little_next : (w v : ℕ) → 0 < w → little_of w v ≡ v % 256 ∷ little_of (w - 1) (v / 256)
+pub little_next : (w v : ℕ) {fewer : ℕ} → w ≡ suc fewer → little_of w v ≡ v % 256 ∷ little_of fewer (v / 256)
 unfolding little_of
-little_next zero v h = absurd (omega arith)
-little_next (suc w) v h = let z : suc w - 1 ≡ w = omega arith in rw z
+little_next w v e = rw e
 
 pub little_none : (w v : ℕ) → w ≡ 0 → little_of w v ≡ []
 unfolding little_of
 little_none w v e = rw e
 
-pub zeros_next : (n : ℕ) → 0 < n → replicate {A = ℕ} n 0 ≡ 0 ∷ replicate (n - 1) 0
-zeros_next zero h = absurd (omega arith)
-zeros_next (suc n) h = let z : suc n - 1 ≡ n = omega arith in rw z
+pub zeros_next : (n : ℕ) {fewer : ℕ} → n ≡ suc fewer → replicate {A = ℕ} n 0 ≡ 0 ∷ replicate fewer 0
+zeros_next n e = rw e
 
 pub zeros_none : (n : ℕ) → n ≡ 0 → ◌≡◌ {A = List ℕ} (replicate n 0) []
 zeros_none n e = rw e

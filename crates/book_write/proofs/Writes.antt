@@ -1,4 +1,5 @@
 -- Laws of the whole writing: counts and rows, and each return.
+use Rattle.std.specs.Prelude.{Ok, Err}
 use Prim.Native.Nat.{ℕ, ◌*◌, ◌-◌, ◌≤◌, ◌<◌}
 use mathlib.Core.Path.{◌≡◌, sym, ◌∙◌}
 use mathlib.Core.Bool.{Bool, true, false, not, and-false}
@@ -12,7 +13,6 @@ use Rattle.chars.specs.declared.Refusal.TheVariants.{BrokenTables, ShortBuffer}
 use Rattle.chars.proofs.Laws.{range_low, range_high}
 use lib.ListN.{length}
 use lib.Seq.{sets}
-use Rattle.book_write.specs.declared.Writing.TheVariants.{Written, Unwritten}
 use Rattle.book_read.specs.Book.{each}
 use Rattle.book_read.specs.Accounts.{rows_of}
 use Rattle.book_write.specs.Closing.{Made, write_book, book_bytes, streams_of, banks_of, stream_of, bank_of, stream_block, bank_blocks_of, blocks_for, holding_columns, holding_rows, Reaching}
@@ -21,49 +21,10 @@ use Rattle.book_read.proofs.Accepted.{both}
 use Rattle.book_read.proofs.Filling.{each_length}
 use Rattle.book_write.proofs.Sealing.{stream_block_length}
 
-module _ (m a b c d : ℕ) where
-  pub few_codes : a < m → false ≡ holding_columns m a b c d
-  unfolding holding_columns
-  few_codes h = simp (lt-leb m a h)
-
-  pub few_flags : b < m → false ≡ holding_columns m a b c d
-  unfolding holding_columns
-  few_flags h = simp (lt-leb m b h, and-false)
-
-  pub few_balances : c < m → false ≡ holding_columns m a b c d
-  unfolding holding_columns
-  few_balances h = simp (lt-leb m c h, and-false)
-
-  pub columns_rest : m ≤ a → m ≤ b → m ≤ c → leb m d ≡ holding_columns m a b c d
-  unfolding holding_columns
-  columns_rest p q r = rw (le-leb m a p, le-leb m b q, le-leb m c r)
-
 module _ (k : Book) (s a b c d : ℕ) where
-  pub no_stream : k.streams < 1 → false ≡ holding_rows k s a b c d
-  unfolding holding_rows
-  no_stream h = simp (lt-leb 1 k.streams h)
-
-  pub many_streams : 8 < k.streams → false ≡ holding_rows k s a b c d
-  unfolding holding_rows
-  many_streams h = simp (lt-leb k.streams 8 h, and-false)
-
-  pub no_bank : k.banks < 1 → false ≡ holding_rows k s a b c d
-  unfolding holding_rows
-  no_bank h = simp (lt-leb 1 k.banks h, and-false)
-
-  pub many_banks : 64 < k.banks → false ≡ holding_rows k s a b c d
-  unfolding holding_rows
-  many_banks h = simp (lt-leb k.banks 64 h, and-false)
-
   pub few_streams : s < 2 * k.streams → false ≡ holding_rows k s a b c d
   unfolding holding_rows
   few_streams h = simp (lt-leb (2 * k.streams) s h, and-false)
-
-  pub rows_rest : {r : Bool} → 1 ≤ k.streams → k.streams ≤ 8 → 1 ≤ k.banks → k.banks ≤ 64 → 2 * k.streams ≤ s
-      → r ≡ holding_columns k.banks a b c d → r ≡ holding_rows k s a b c d
-  unfolding holding_rows
-  rows_rest p q u v w e =
-      e ∙ rw (le-leb 1 k.streams p, le-leb k.streams 8 q, le-leb 1 k.banks u, le-leb k.banks 64 v, le-leb (2 * k.streams) s w)
 
 pub reach_part : {n : ℕ} (m : ℕ) {codes flags balances sublimits : List ℕ} → m ≤ n → Reaching n codes flags balances sublimits → Reaching m codes flags balances sublimits
 reach_part m h r = record {
@@ -110,7 +71,7 @@ holding k s a b c d h =
 -- each return of the writing
 module _ (out r₁ r₂ r₃ r₄ r₅ : List ℕ) (k : Book) {h : Bool} (p : h ≡ holding_rows k (length r₁) (length r₂) (length r₃) (length r₄) (length r₅)) where
   pub write_broken : not h ≡ true
-      → ◌≡◌ {A = Made} (record { out = out; answer = Unwritten BrokenTables }) (write_book out k (rows_of r₁ r₂ r₃ r₄ r₅))
+      → ◌≡◌ {A = Made} (record { out = out; answer = Err BrokenTables }) (write_book out k (rows_of r₁ r₂ r₃ r₄ r₅))
   unfolding write_book
   write_broken q = rw (← p, not-true h q)
 
@@ -119,14 +80,14 @@ module _ (out r₁ r₂ r₃ r₄ r₅ : List ℕ) (k : Book) {h : Bool} (p : h 
     held = holding k (length r₁) (length r₂) (length r₃) (length r₄) (length r₅) (sym p ∙ not-false h q)
 
     pub write_short : length out < 512 * blocks_for k.banks
-        → ◌≡◌ {A = Made} (record { out = out; answer = Unwritten ShortBuffer }) (write_book out k (rows_of r₁ r₂ r₃ r₄ r₅))
+        → ◌≡◌ {A = Made} (record { out = out; answer = Err ShortBuffer }) (write_book out k (rows_of r₁ r₂ r₃ r₄ r₅))
     unfolding write_book
     write_short z = rw (← p, not-false h q, lt-leb (512 * blocks_for k.banks) (length out) z)
 
     pub write_done : {a b : List ℕ} → 512 * blocks_for k.banks ≤ length out
         → a ≡ sets out 0 (stream_block k.day (each (stream_of r₁) 0 k.streams) (blocks_for k.banks))
         → b ≡ sets a 512 (bank_blocks_of (blocks_for k.banks) 1 (blocks_for k.banks - 1) (each (bank_of r₂ r₃ r₄ r₅) 0 k.banks))
-        → ◌≡◌ {A = Made} (record { out = b; answer = Written (512 * blocks_for k.banks) }) (write_book out k (rows_of r₁ r₂ r₃ r₄ r₅))
+        → ◌≡◌ {A = Made} (record { out = b; answer = Ok (512 * blocks_for k.banks) }) (write_book out k (rows_of r₁ r₂ r₃ r₄ r₅))
     unfolding write_book book_bytes streams_of banks_of
     write_done z e f =
         rw (

@@ -1,5 +1,7 @@
 -- The bytes of a book: entries, blocks and their checks, and the book of given accounts.
+use Rattle.chars.specs.declared.Refusal.{Refusal}
 use Rattle.std.specs.Prelude.{ℕ, zero, suc, ◌+◌, ◌*◌, ◌-◌, ◌/◌, ◌%◌, ◌≤◌, List, [], ◌∷◌, ◌++◌, Bool, ◌&&◌, cond, length, get_or, take, drop, replicate, leb}
+use Rattle.std.specs.Prelude.{Result, Ok, Err}
 use Rattle.std.proofs.lemmas.List.Edits.{sets}
 use Rattle.chars.specs.Words.{within}
 use Rattle.codes.specs.Codes.{short_text}
@@ -8,8 +10,6 @@ use Rattle.dates.specs.Dates.{date_of}
 use Rattle.text_put.specs.Digits.{digits_of}
 use Rattle.chars.specs.declared.Refusal.TheVariants.{BrokenTables, ShortBuffer}
 use Rattle.book_read.specs.declared.Book.{Book}
-use Rattle.book_write.specs.declared.Writing.{Writing}
-use Rattle.book_write.specs.declared.Writing.TheVariants.{Written, Unwritten}
 use Rattle.book_read.specs.Block.{head}
 use Rattle.book_read.specs.Book.{each}
 use Rattle.book_read.specs.Accounts.{Stream, Bank, Rows}
@@ -106,13 +106,13 @@ holds b t =
 -- what a buffer holds after a writing, and the answer
 pub record Made : Type 0 where
   pub out : List ℕ
-  pub answer : Writing
+  pub answer : Result ℕ Refusal
 
 -- 06 for counts out of range or rows that are too short, then 07 for a buffer under the book's own length; then the book, and nothing past it
 unfoldable pub write_book : List ℕ → Book → Rows → Made
 write_book out b t =
     cond (holds b t)
     (cond (leb (512 * blocks_for b.banks) (length out))
-    (record { out = sets out 0 (book_bytes b.day (streams_of t b.streams) (banks_of t b.banks)); answer = Written (512 * blocks_for b.banks) })
-    (record { out = out; answer = Unwritten ShortBuffer }))
-    (record { out = out; answer = Unwritten BrokenTables })
+    (record { out = sets out 0 (book_bytes b.day (streams_of t b.streams) (banks_of t b.banks)); answer = Ok (512 * blocks_for b.banks) })
+    (record { out = out; answer = Err ShortBuffer }))
+    (record { out = out; answer = Err BrokenTables })

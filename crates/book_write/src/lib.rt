@@ -11,12 +11,6 @@ ghost use Rattle.book_write.specs.Closing.{little_of, stream_bytes, bank_bytes, 
 use book_read::Book;
 use chars::Refusal;
 
-#[derive(Clone, Copy)]
-pub enum Writing {
-    Written(usize),
-    Unwritten(Refusal),
-}
-
 // One byte, if the buffer holds that place.
 fn put_byte(out: &mut [u8], at: usize, b: u8)
     ensures { out.new ≡ set out.old at b }
@@ -31,14 +25,10 @@ fn put_little(out: &mut [u8], at: usize, v: u64, w: usize)
     requires { (at ≤ 65536) × (w ≤ 8) }
     ensures { out.new ≡ sets out.old at (little_of w v) }
 {
-    let mut left = w;
-    let mut j = at;
     let mut rest = v;
-    while left > 0 {
-        put_byte(out, j, (rest % 256) as u8);
-        rest = rest / 256;
-        left -= 1;
-        j += 1;
+    for i in 0..w {
+        put_byte(out, at + i, (rest % 256) as u8);
+        rest /= 256;
     }
 }
 
@@ -47,12 +37,8 @@ fn put_zeros(out: &mut [u8], at: usize, n: usize)
     requires { (at ≤ 65536) × (n ≤ 512) }
     ensures { out.new ≡ sets out.old at (replicate n 0) }
 {
-    let mut left = n;
-    let mut j = at;
-    while left > 0 {
-        put_byte(out, j, 0);
-        left -= 1;
-        j += 1;
+    for i in 0..n {
+        put_byte(out, at + i, 0);
     }
 }
 
@@ -103,15 +89,13 @@ fn put_streams(out: &mut [u8], row: &[u64], n: usize)
     requires { (n ≤ 8) × (2 * n ≤ length row.now) }
     ensures { out.new ≡ sets out.old 16 (joined stream_bytes (each (stream_of row.now) 0 n)) }
 {
-    let mut i = 0;
-    while i < n {
+    for i in 0..n {
         put_stream(
             out,
             Book::STREAMS_AT + Book::STREAM * i,
             row[2 * i],
             row[2 * i + 1],
         );
-        i += 1;
     }
 }
 
@@ -130,8 +114,7 @@ fn put_banks(
     requires reaching { Reaching (from + n) codes.now flags.now balances.now sublimits.now }
     ensures { out.new ≡ sets out.old at (joined bank_bytes (each (bank_of codes.now flags.now balances.now sublimits.now) from n)) }
 {
-    let mut i = 0;
-    while i < n {
+    for i in 0..n {
         let b = from + i;
         put_bank(
             out,
@@ -141,7 +124,6 @@ fn put_banks(
             balances[b],
             sublimits[b],
         );
-        i += 1;
     }
 }
 
@@ -228,8 +210,7 @@ fn put_bank_blocks(
     requires reaching { Reaching banks codes.now flags.now balances.now sublimits.now }
     ensures { out.new ≡ sets out.old 512 (bank_blocks_of blocks 1 (blocks - 1) (each (bank_of codes.now flags.now balances.now sublimits.now) 0 banks)) }
 {
-    let mut k = 1;
-    while k < blocks {
+    for k in 1..blocks {
         let from = Book::ENTRIES * (k - 1);
         put_bank_block(
             out,
@@ -242,7 +223,6 @@ fn put_bank_blocks(
             from,
             in_block(banks - from),
         );
-        k += 1;
     }
 }
 
@@ -250,14 +230,11 @@ fn put_bank_blocks(
 fn in_block(left: usize) -> usize
     ensures { result ≡ min 20 left }
 {
-    if left < Book::ENTRIES {
-        left
-    } else {
-        Book::ENTRIES
-    }
+    left.min(Book::ENTRIES)
 }
 
 // Whether rows of these lengths hold so many streams and banks, and they are in range.
+#[tactic(auto, unfolding(crate::specs::Closing::holding_rows))]
 fn rows_hold(
     book: Book,
     streams: usize,
@@ -270,38 +247,20 @@ fn rows_hold(
 {
     let n = book.streams;
     let m = book.banks;
-    if n < 1 {
-        return false;
-    }
-    if Book::STREAMS < n {
-        return false;
-    }
-    if m < 1 {
-        return false;
-    }
-    if Book::BANKS < m {
-        return false;
-    }
-    if streams < 2 * n {
-        return false;
-    }
-    columns_hold(m, codes, flags, balances, sublimits)
+    1 <= n
+        && n <= Book::STREAMS
+        && 1 <= m
+        && m <= Book::BANKS
+        && 2 * n <= streams
+        && columns_hold(m, codes, flags, balances, sublimits)
 }
 
 // Whether columns of these lengths hold m banks.
+#[tactic(auto, unfolding(crate::specs::Closing::holding_columns))]
 fn columns_hold(m: usize, codes: usize, flags: usize, balances: usize, sublimits: usize) -> bool
     ensures { result ≡ holding_columns m codes flags balances sublimits }
 {
-    if codes < m {
-        return false;
-    }
-    if flags < m {
-        return false;
-    }
-    if balances < m {
-        return false;
-    }
-    m <= sublimits
+    m <= codes && m <= flags && m <= balances && m <= sublimits
 }
 
 // The closing book of a day: its date, and the streams and banks of the rows, as many as `book` says.
@@ -314,7 +273,7 @@ pub fn write(
     flags: &[u64],
     balances: &[u64],
     sublimits: &[u64],
-) -> Writing
+) -> Result<usize, Refusal>
     ensures { record { out = out.new; answer = result } ≡ write_book out.old book (rows_of streams.now codes.now flags.now balances.now sublimits.now) }
 {
     if !rows_hold(
@@ -325,14 +284,14 @@ pub fn write(
         balances.len(),
         sublimits.len(),
     ) {
-        return Writing::Unwritten(Refusal::BrokenTables);
+        return Err(Refusal::BrokenTables);
     }
     let banks = book.banks;
     let blocks = (banks + 19) / Book::ENTRIES + 1;
     if out.len() < Book::BLOCK * blocks {
-        return Writing::Unwritten(Refusal::ShortBuffer);
+        return Err(Refusal::ShortBuffer);
     }
     put_stream_block(out, book.day, streams, book.streams, blocks);
     put_bank_blocks(out, blocks, codes, flags, balances, sublimits, banks);
-    Writing::Written(Book::BLOCK * blocks)
+    Ok(Book::BLOCK * blocks)
 }

@@ -1,11 +1,11 @@
 -- A clearing of words that is done is a clearing as the rules see it.
+use Rattle.std.specs.Prelude.{Ok}
 use mathlib.Core.Path.{◌≡◌, refl, ap}
 use Prim.Native.Nat.{ℕ}
 use native.Mathlib.Omega.{arith}
 use mathlib.Core.Bool.{Bool, true, false}
 use lib.ListN.{length-replicate}
 use Rattle.chars.specs.Words.{Says}
-use Rattle.model.specs.declared.Answer.TheVariants.{Done}
 use Rattle.model.specs.Calls.{cleared}
 use Rattle.tables.specs.Words.{sheet_length, desk_of, tables_of}
 use Rattle.tables.specs.Lent.{Long, Cleared, clear_lent}
@@ -41,12 +41,12 @@ long_tables x l =
     }
 
 pub cleared_as_seen : (x : EngineWords) (y : Started) → ClearedWords x y → y.number ≡ 0
-    → Cleared (desk_in x.desk) (tables_by x) (record { answer = Done; desk = desk_in y.words.desk; tables = tables_by y.words })
+    → Cleared (desk_in x.desk) (tables_by x) (record { answer = Ok tt; desk = desk_in y.words.desk; tables = tables_by y.words })
 unfolding clear_words clear_lent
 cleared_as_seen x y c h = go c.long c.says c.is
   where
     go : (k : Bool) → Says (LongWords x) k → y ≡ clear_words k x
-        → Cleared (desk_in x.desk) (tables_by x) (record { answer = Done; desk = desk_in y.words.desk; tables = tables_by y.words })
+        → Cleared (desk_in x.desk) (tables_by x) (record { answer = Ok tt; desk = desk_in y.words.desk; tables = tables_by y.words })
     go true l e = record { long = true; says = long_tables x l; is = rw (e, no_desk, no_tables) }
     go false l e = absurd (omega (arith, h, ap (λ (z : Started). z.number) e))
 

@@ -12,8 +12,7 @@ use Rattle.chars.specs.Words.{Says}
 use Rattle.chars.specs.Refusals.{number_of}
 use Rattle.chars.specs.declared.Refusal.TheVariants.{BrokenTables, ShortBuffer}
 use Rattle.model.specs.declared.Action.{Action}
-use Rattle.model.specs.declared.Answer.{Answer}
-use Rattle.model.specs.Answers.{answer_number}
+use Rattle.model.specs.Answers.{Answer, answer_number}
 use Rattle.model.specs.Calls.{Asked}
 use Rattle.queue.proofs.MemoryLaws.{by_bool}
 use Rattle.tables.specs.declared.Desk.{Desk}

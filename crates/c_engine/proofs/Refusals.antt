@@ -1,4 +1,5 @@
 -- Refusals before all others, 06, 05 and 07: the words are as they were, and the report says that nothing was written. And an action that is none.
+use Rattle.std.specs.Prelude.{Err}
 use mathlib.Core.Path.{◌≡◌, refl, ap, ◌∙◌}
 use Prim.Native.Nat.{ℕ, ◌≤◌}
 use native.Mathlib.Omega.{arith}
@@ -12,10 +13,9 @@ use Rattle.chars.specs.Words.{Says}
 use Rattle.chars.specs.declared.Refusal.{Refusal}
 use Rattle.chars.specs.declared.Refusal.TheVariants.{BrokenTables, WrongMoment}
 use Rattle.dates.specs.Dates.{is_true, day_of}
+use Rattle.model.specs.Answers.{Answer}
 use Rattle.model.specs.declared.Action.{Action}
 use Rattle.model.specs.declared.Action.TheVariants.{ClosingBook}
-use Rattle.model.specs.declared.Answer.{Answer}
-use Rattle.model.specs.declared.Answer.TheVariants.{Refused}
 use Rattle.model.specs.declared.Phase.{Phase}
 use Rattle.model.specs.declared.Phase.TheVariants.{Fresh, Open, Closed}
 use Rattle.model.specs.State.{State}
@@ -33,7 +33,7 @@ abbrev pub RightIn : Words → Type 0
 RightIn x = Right (lent_in x).desk (lent_in x).tables
 
 abbrev refused_at : Refusal → Words → Left
-refused_at r x = record { answer = Refused r; written = 0; tried = 0; lent = lent_in x }
+refused_at r x = record { answer = Err r; written = 0; tried = 0; lent = lent_in x }
 
 module _ (x : Words) (a : Asked) (y : Returned) (room : 2 ≤ length x.report) (shape : InShape x) (c : CalledWords x a y) where
   as_it_was : (r : Refusal) → returned x (refused_at r x) ≡ unchanged r x
@@ -55,7 +55,7 @@ module _ (x : Words) (a : Asked) (y : Returned) (room : 2 ≤ length x.report) (
       s.is ∙ ap (returned x) (s.called.is ∙ broken_left s.called.kept s.called.says h) ∙ as_it_was BrokenTables
 
   -- 05 and 07
-  pub at_once : RightIn x → (r : Refusal) → judge (engine_in (lent_in x).desk (lent_in x).tables).state (call_of (lent_in x) a) ≡ Refused r
+  pub at_once : RightIn x → (r : Refusal) → judge (engine_in (lent_in x).desk (lent_in x).tables).state (call_of (lent_in x) a) ≡ Err r
       → y ≡ unchanged r x
   unfolding call
   at_once q r h =
@@ -82,7 +82,7 @@ never true Closed = refl
 never false p = refl
 
 -- 0 is no date
-no_moment : (s : State) (k : Call) → k.asked.action ≡ ClosingBook 0 → judge s k ≡ Refused WrongMoment
+no_moment : (s : State) (k : Call) → k.asked.action ≡ ClosingBook 0 → judge s k ≡ Err WrongMoment
 unfolding judge day_of is_true
 no_moment s k e = rw (e, never (right_clock (ClosingBook 0) s.day k.asked.clock) s.day.phase)
 

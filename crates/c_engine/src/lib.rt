@@ -125,11 +125,7 @@ fn read_streams(desk: &[u64]) -> [u64; 16]
     ensures { result ≡ take 16 (drop 6 desk.now) }
 {
     let mut streams = [0u64; 16];
-    let mut i = 0;
-    while i < 16 {
-        streams[i] = desk[DESK_STREAM + i];
-        i += 1;
-    }
+    streams.copy_from_slice(&desk[DESK_STREAM..]);
     streams
 }
 
@@ -154,11 +150,7 @@ fn write_streams(desk: &mut [u64], streams: [u64; 16])
     requires { length desk.old ≡ 22 }
     ensures { desk.new ≡ take 6 desk.old ++ streams }
 {
-    let mut i = 0;
-    while i < 16 {
-        desk[DESK_STREAM + i] = streams[i];
-        i += 1;
-    }
+    desk[DESK_STREAM..].copy_from_slice(&streams);
 }
 
 fn write_desk(desk: &mut [u64], left: Desk)
@@ -191,15 +183,13 @@ fn load(
     ensures { Columns (banks_in banks.now)
         codes.new flags.new balances.new sublimits.new sheet.new }
 {
-    let mut i = 0;
-    while i < BANKS {
+    for i in 0..BANKS {
         let bank = BANK_WORDS * i;
         codes[i] = banks[bank + BANK_CODE];
         flags[i] = banks[bank + BANK_FLAGS];
         balances[i] = banks[bank + BANK_BALANCE];
         sublimits[i] = banks[bank + BANK_SUBLIMIT];
         sheet[i] = banks[bank + BANK_WAITING];
-        i += 1;
     }
 }
 
@@ -218,15 +208,13 @@ fn save(
     ensures { Columns (banks_in banks.new)
         codes.now flags.now balances.now sublimits.now sheet.now }
 {
-    let mut i = 0;
-    while i < BANKS {
+    for i in 0..BANKS {
         let bank = BANK_WORDS * i;
         banks[bank + BANK_CODE] = codes[i];
         banks[bank + BANK_FLAGS] = flags[i];
         banks[bank + BANK_BALANCE] = balances[i];
         banks[bank + BANK_SUBLIMIT] = sublimits[i];
         banks[bank + BANK_WAITING] = sheet[i];
-        i += 1;
     }
 }
 
@@ -327,11 +315,9 @@ fn call_on(
     let told = call_banks(
         quick, clock, action, input, before, banks, batches, references, bins, out, tries,
     );
-    let left = told.desk;
-    let answer = told.answer;
-    write_desk(desk, left);
+    write_desk(desk, told.desk);
     write_report(report, told.written, told.tried);
-    answer.number()
+    model::number_of(told.answer)
 }
 
 fn action_of(number: u64, first: u64, second: u64, third: u64, fourth: u64) -> Action

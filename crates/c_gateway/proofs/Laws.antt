@@ -1,4 +1,5 @@
 -- Rows of words: four stores are a field, and fields one after another are a row.
+use Rattle.std.specs.Prelude.{Result, Ok, Err}
 use Prim.Native.Nat.{ℕ, zero, suc, ◌+◌, ◌*◌, ◌≤◌, ◌<◌}
 use mathlib.Core.Path.{◌≡◌, refl, ap, sym, ◌∙◌}
 use mathlib.Core.Bool.{Bool, true, false, not, cond}
@@ -17,20 +18,12 @@ use Rattle.text_scan.specs.declared.Cursor.{Cursor}
 use Rattle.text_fields.specs.Fields.{absent, nothing, place, field_at, why_not}
 use Rattle.text_fields.specs.declared.Break.{Break}
 use Rattle.text_fields.specs.declared.Item.{Item}
-use Rattle.text_fields.specs.declared.Field.{Field}
-use Rattle.text_fields.specs.declared.Field.TheVariants.{Good, Bad}
 use Rattle.text_fields.specs.declared.Kind.TheVariants.{Count}
 use Rattle.request_read.specs.terms.Terms.{no_terms, terms_at}
-use Rattle.request_read.specs.declared.terms.Stated.{Stated}
-use Rattle.request_read.specs.declared.terms.Stated.TheVariants.{Whole}
 use Rattle.request_read.specs.declared.terms.Terms.{Terms}
-use Rattle.request_read.specs.payments.Payments.{none, payment_at, more_at, ended, why_unpaid, payments_at}
+use Rattle.request_read.specs.payments.Payments.{none, payment_at, more_at, ended, payments_at}
 use Rattle.request_read.specs.declared.payments.Payment.{Payment}
 use Rattle.request_read.specs.declared.payments.Payments.{Payments}
-use Rattle.request_read.specs.declared.payments.Paid.{Paid}
-use Rattle.request_read.specs.declared.payments.Paid.TheVariants.{One, Unpaid}
-use Rattle.request_read.specs.declared.payments.Ending.{Ending}
-use Rattle.request_read.specs.declared.payments.Ending.TheVariants.{Done, Cut}
 use Rattle.request_read.proofs.payments.Laws.{Going, going_from, going_full, going_cut, going_last, going_on}
 use Rattle.request_read.proofs.whole.Laws.{settlement_2, settlement_3, settlement_4, settlement_5}
 use Rattle.request_read.specs.whole.Request.{bare, refusal, settlement, cut_by, settlement_at}
@@ -40,8 +33,6 @@ use Rattle.request_read.specs.declared.whole.Outcome.{Outcome}
 use Rattle.request_read.specs.declared.whole.Outcome.TheVariants.{Recall, Refused}
 use Rattle.request_read.specs.declared.whole.Reading.{Reading}
 use Rattle.book_read.specs.Book.{book_check}
-use Rattle.book_read.specs.declared.Answer.{Answer}
-use Rattle.book_read.specs.declared.Answer.TheVariants.{Sound, Fault}
 use Rattle.chars.specs.declared.Refusal.{Refusal}
 use Rattle.chars.specs.declared.Refusal.TheVariants.{ShortBuffer}
 use Rattle.c_gateway.specs.declared.Paying.{Paying}
@@ -101,11 +92,11 @@ refused_row row b h x e f g =
 
 -- ---- the book
 
-pub sound_book : (book : List ℕ) {a : Answer} → a ≡ book_check book → a ≡ Sound → 0 ≡ book_number book
+pub sound_book : (book : List ℕ) {a : Result (Unit {0}) Refusal} → a ≡ book_check book → a ≡ Ok tt → 0 ≡ book_number book
 unfolding book_number
 sound_book book e f = simp (← e, f)
 
-pub faulty_book : (book : List ℕ) {a : Answer} {f : Refusal} {n : ℕ} → a ≡ book_check book → a ≡ Fault f → n ≡ number_of f → n ≡ book_number book
+pub faulty_book : (book : List ℕ) {a : Result (Unit {0}) Refusal} {f : Refusal} {n : ℕ} → a ≡ book_check book → a ≡ Err f → n ≡ number_of f → n ≡ book_number book
 unfolding book_number
 faulty_book book e g h = simp (h, ← e, g)
 
@@ -147,20 +138,20 @@ module _ {s : List ℕ} {at n j : ℕ} {places : List ℕ} (g : Put s at places 
   pub put_long : length places ≡ 160
   put_long = ap length g.there ∙ words_long g.items ∙ omega (arith, g.going.size)
 
-  told : {e : Ending} {m : ℕ} {ps : List Payment} {o : List ℕ} → o ≡ payments_words ps → ended e m ps ≡ payments_at s at → (record { ending = e; n = m } ≡ paying_at s at) × (o ≡ payments_words (payments_at s at).items)
+  told : {e : Result Cursor Break} {m : ℕ} {ps : List Payment} {o : List ℕ} → o ≡ payments_words ps → ended e m ps ≡ payments_at s at → (record { ending = e; n = m } ≡ paying_at s at) × (o ≡ payments_words (payments_at s at).items)
   told o e = rw (← e) (refl, o)
 
-  pub put_full : 10 ≤ n → (record { ending = Done (place j); n = n } ≡ paying_at s at) × (places ≡ payments_words (payments_at s at).items)
+  pub put_full : 10 ≤ n → (record { ending = Ok (place j); n = 10 } ≡ paying_at s at) × (places ≡ payments_words (payments_at s at).items)
   put_full h = told g.there (going_full g.going h)
 
-  pub put_cut : {r : Paid} {b w : Break} → n < 10 → r ≡ payment_at s j → r ≡ Unpaid b → w ≡ why_unpaid r → (record { ending = Cut w; n = n } ≡ paying_at s at) × (places ≡ payments_words (payments_at s at).items)
-  put_cut h p q w = rw (w, q) (told g.there (going_cut g.going h p q))
+  pub put_cut : {r : Result (Payment × Cursor) Break} {b : Break} → n < 10 → r ≡ payment_at s j → r ≡ Err b → (record { ending = Err b; n = n } ≡ paying_at s at) × (places ≡ payments_words (payments_at s at).items)
+  put_cut h p q = told g.there (going_cut g.going h p q)
 
-  module _ {r : Paid} {q : Payment} {c : Cursor} {b : Bool} {o : List ℕ} (h : n < 10) (p : r ≡ payment_at s j) (p' : r ≡ One q c) (f : o ≡ sets places (16 * n) (payment_words q)) (m : b ≡ more_at s c.at) where
+  module _ {r : Result (Payment × Cursor) Break} {q : Payment} {c : Cursor} {b : Bool} {o : List ℕ} (h : n < 10) (p : r ≡ payment_at s j) (p' : r ≡ Ok (q, c)) (f : o ≡ sets places (16 * n) (payment_words q)) (m : b ≡ more_at s c.at) where
     one_more : o ≡ payments_words (set g.items n q)
     one_more = f ∙ rw g.there (sym (put_one g.items n q (omega (arith, g.going.size))))
 
-    pub put_last : not b ≡ true → (record { ending = Done (place c.at); n = n + 1 } ≡ paying_at s at) × (o ≡ payments_words (payments_at s at).items)
+    pub put_last : not b ≡ true → (record { ending = Ok (place c.at); n = n + 1 } ≡ paying_at s at) × (o ≡ payments_words (payments_at s at).items)
     put_last m' = told one_more (going_last g.going h p p' m m')
 
     pub put_on : not b ≡ false → Put s at o (n + 1) c.at
@@ -194,24 +185,24 @@ pub begun_refused : (row : List ℕ) (h : Head) {y : Outcome} {b : Break} {r : R
 begun_refused row h e f p = rw (← e, f) p
 
 -- the refusals of a 131 behind its address, and that it is one
-module _ (s : List ℕ) (at : ℕ) (h : Head) {t : Stated} {u : Terms} {c : Cursor} (p : t ≡ terms_at s at) (p' : t ≡ Whole u c) {y : Paying} (q : y ≡ paying_at s c.at) where
-  so_ends : {e : Ending} → y.ending ≡ e → (payments_at s c.at).ending ≡ e
+module _ (s : List ℕ) (at : ℕ) (h : Head) {t : Result (Terms × Cursor) Break} {u : Terms} {c : Cursor} (p : t ≡ terms_at s at) (p' : t ≡ Ok (u, c)) {y : Paying} (q : y ≡ paying_at s c.at) where
+  so_ends : {e : Result Cursor Break} → y.ending ≡ e → (payments_at s c.at).ending ≡ e
   so_ends e = sym (ap (λ (z : Paying). z.ending) q) ∙ e
 
-  pub cut_off : {b w : Break} → y.ending ≡ Cut b → w ≡ cut_by y.ending → refusal h.subtype w h.address ≡ settlement_at s at h
-  cut_off q' w = settlement_2 s at h p p' refl (so_ends q') (w ∙ ap (λ (z : Paying). cut_by z.ending) q) refl
+  pub cut_off : {b : Break} → y.ending ≡ Err b → refusal h.subtype b h.address ≡ settlement_at s at h
+  cut_off q' = settlement_2 s at h p p' refl (so_ends q') (sym (ap cut_by (so_ends q'))) refl
 
-  module _ {d : Cursor} (q' : y.ending ≡ Done d) {f : Field} (r : f ≡ field_at s d.at (bytes ":203:") (Count y.n)) where
+  module _ {d : Cursor} (q' : y.ending ≡ Ok d) {f : Result (Item × Cursor) Break} (r : f ≡ field_at s d.at (bytes ":203:") (Count y.n)) where
     counted : f ≡ field_at s d.at (bytes ":203:") (Count (payments_at s c.at).n)
     counted = r ∙ ap (λ (z : Paying). field_at s d.at (bytes ":203:") (Count z.n)) q
 
-    pub uncounted : {b w : Break} → f ≡ Bad b → w ≡ why_not f → refusal h.subtype w h.address ≡ settlement_at s at h
-    uncounted r' w = settlement_3 s at h p p' refl (so_ends q') counted r' w refl
+    pub uncounted : {b : Break} → f ≡ Err b → refusal h.subtype b h.address ≡ settlement_at s at h
+    uncounted r' = settlement_3 s at h p p' refl (so_ends q') counted r' (sym (ap why_not r')) refl
 
-    pub followed : {i : Item} {e : Cursor} {w : Break} → f ≡ Good i e → e.at < length s → w ≡ absent e.at → refusal h.subtype w h.address ≡ settlement_at s at h
+    pub followed : {i : Item} {e : Cursor} {w : Break} → f ≡ Ok (i, e) → e.at < length s → w ≡ absent e.at → refusal h.subtype w h.address ≡ settlement_at s at h
     followed r' l w = settlement_4 s at h p p' refl (so_ends q') counted r' l w refl
 
-    pub settles : {i : Item} {e : Cursor} → f ≡ Good i e → length s ≤ e.at → settlement h u (payments_at s c.at) i ≡ settlement_at s at h
+    pub settles : {i : Item} {e : Cursor} → f ≡ Ok (i, e) → length s ≤ e.at → settlement h u (payments_at s c.at) i ≡ settlement_at s at h
     settles r' l = settlement_5 s at h p p' refl (so_ends q') counted r' l
 
 -- ---- rows of too few words

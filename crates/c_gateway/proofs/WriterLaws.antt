@@ -1,4 +1,5 @@
 -- The writers of rows: one law for each return.
+use Rattle.std.specs.Prelude.{Result, Ok, Err}
 use Prim.Native.Nat.{ℕ, ◌+◌, ◌*◌, ◌≤◌, ◌<◌}
 use mathlib.Core.Path.{◌≡◌, refl, sym}
 use mathlib.Core.Bool.{Bool, true, false, not, ◌&&◌}
@@ -22,8 +23,6 @@ use Rattle.response_write.specs.declared.Answer.{Answer}
 use Rattle.response_write.specs.declared.Answer.TheVariants.{Recalled, Kept}
 use Rattle.response_write.specs.declared.Settlement.{Settlement}
 use Rattle.response_write.specs.declared.Recall.{Recall}
-use Rattle.response_write.specs.declared.Written.{Written}
-use Rattle.response_write.specs.declared.Written.TheVariants.{End, Unfit}
 use Rattle.request_write.specs.Orders.{Wrote as WroteOrder}
 use Rattle.request_write.specs.declared.Payable.{Payable}
 use Rattle.request_write.specs.declared.Order.{Order}
@@ -100,17 +99,17 @@ status_told row p = rw p
 
 -- a status past 1 is 87; of another the writer of the response answers
 module _ (row out : List ℕ) {q : Bool} (e : q ≡ has_status row) where
-  pub no_status : (holds : Bool) (text : List ℕ) → not q ≡ true → Wrote (has_status row && holds) out 0 text (Unfit Malformed) out
+  pub no_status : (holds : Bool) (text : List ℕ) → not q ≡ true → Wrote (has_status row && holds) out 0 text (Err Malformed) out
   no_status holds text f = rw (← e, not-true q f) (refl, refl)
 
-  module _ (f : not q ≡ false) {w : Written} {left : List ℕ} where
+  module _ (f : not q ≡ false) {w : Result ℕ Refusal} {left : List ℕ} where
     pub settlement_writes : {s : Settlement} → s ≡ settlement_in row → Wrote (is_settlement s) out 0 (settlement_text s) w left → Wrote (holds_settlement row) out 0 (settlement_text (settlement_in row)) w left
     settlement_writes g k = rw (← e, not-false q f, ← g) k
 
     pub recall_writes : {r : Recall} → r ≡ recall_in row → Wrote (is_recall r) out 0 (recall_text r) w left → Wrote (holds_recall row) out 0 (recall_text (recall_in row)) w left
     recall_writes g k = rw (← e, not-false q f, ← g) k
 
-module _ (row out : List ℕ) {w : Written} {left : List ℕ} where
+module _ (row out : List ℕ) {w : Result ℕ Refusal} {left : List ℕ} where
   pub settlement_kind : {k : ℕ} → k ≡ value_in row 4 → k ≡ 132 → Wrote (holds_settlement row) out 0 (settlement_text (settlement_in row)) w left
       → (w ≡ response_written row out) × (left ≡ response_left row out)
   unfolding response_written response_left
@@ -126,21 +125,21 @@ module _ (row out : List ℕ) {w : Written} {left : List ℕ} where
   order_writes e g = rw (← e) (g.answer, g.result)
 
 module _ (row out : List ℕ) where
-  pub other_kind : {k : ℕ} → k ≡ value_in row 4 → (k ≡ 132 → ⊥) → (k ≡ 134 → ⊥) → (Unfit OtherSubType ≡ response_written row out) × (out ≡ response_left row out)
+  pub other_kind : {k : ℕ} → k ≡ value_in row 4 → (k ≡ 132 → ⊥) → (k ≡ 134 → ⊥) → (Err OtherSubType ≡ response_written row out) × (out ≡ response_left row out)
   unfolding response_written response_left
   other_kind p e f = rw (← p, ne_eqb _ _ e, ne_eqb _ _ f) (refl, refl)
 
 -- ---- what is told
 
-module _ (w : Written) (told : List ℕ) where
-  pub tell_unfit : {why : Refusal} {n : ℕ} → w ≡ Unfit why → n ≡ number_of why → (n ≡ number_by w) × (told ≡ told_by w told)
+module _ (w : Result ℕ Refusal) (told : List ℕ) where
+  pub tell_unfit : {why : Refusal} {n : ℕ} → w ≡ Err why → n ≡ number_of why → (n ≡ number_by w) × (told ≡ told_by w told)
   tell_unfit e p = rw e (p, refl)
 
-  pub tell_end : {n : ℕ} → w ≡ End n → (0 ≡ number_by w) × (set told 0 n ≡ told_by w told)
+  pub tell_end : {n : ℕ} → w ≡ Ok n → (0 ≡ number_by w) × (set told 0 n ≡ told_by w told)
   tell_end e = rw e (refl, refl)
 
 -- a row, or what is to be told, of too few words; and enough of both
-module _ (words : ℕ) (row told out : List ℕ) (w : Written) (left : List ℕ) where
+module _ (words : ℕ) (row told out : List ℕ) (w : Result ℕ Refusal) (left : List ℕ) where
   abbrev Answered : ℕ → List ℕ → List ℕ → Type 0
   Answered n o t = (n ≡ number_for (is_ready words row told) w) × (o ≡ left_for (is_ready words row told) left out) × (t ≡ told_for (is_ready words row told) w told)
 
@@ -152,6 +151,6 @@ module _ (words : ℕ) (row told out : List ℕ) (w : Written) (left : List ℕ)
   unfolding number_for left_for told_for
   none_told g h e = rw (le-leb _ _ g, lt-leb _ _ h) (e, refl, refl)
 
-  pub all_told : {n : ℕ} {x : Written} {o t : List ℕ} → words ≤ length row → 1 ≤ length told → (x ≡ w) × (o ≡ left) → (n ≡ number_by x) × (t ≡ told_by x told) → Answered n o t
+  pub all_told : {n : ℕ} {x : Result ℕ Refusal} {o t : List ℕ} → words ≤ length row → 1 ≤ length told → (x ≡ w) × (o ≡ left) → (n ≡ number_by x) × (t ≡ told_by x told) → Answered n o t
   unfolding number_for left_for told_for
   all_told g h p q = rw (le-leb _ _ g, le-leb _ _ h, ← p.0) (q.0, p.1, q.1)

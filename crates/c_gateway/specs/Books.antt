@@ -1,13 +1,12 @@
 -- What the entry point of the book check answers.
-use Rattle.std.specs.Prelude.{ℕ, List}
+use Rattle.chars.specs.declared.Refusal.{Refusal}
+use Rattle.std.specs.Prelude.{ℕ, List, Result, Ok, Err}
 use Rattle.chars.specs.Refusals.{number_of}
 use Rattle.book_read.specs.Book.{book_check}
-use Rattle.book_read.specs.declared.Answer.{Answer}
-use Rattle.book_read.specs.declared.Answer.TheVariants.{Sound, Fault}
 
-abbrev pub answer_number : Answer → ℕ
-answer_number Sound = 0
-answer_number (Fault f) = number_of f
+abbrev pub answer_number : Result (Unit {0}) Refusal → ℕ
+answer_number (Ok tt) = 0
+answer_number (Err f) = number_of f
 
 -- 0, or 11 to 15
 unfoldable pub book_number : List ℕ → ℕ

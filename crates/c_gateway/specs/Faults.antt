@@ -4,8 +4,8 @@ use Rattle.chars.specs.Refusals.{number_of}
 use Rattle.book_explain.specs.Faults.{refusal_of, book_finding}
 use Rattle.book_explain.specs.declared.Flaw.{Flaw}
 use Rattle.book_explain.specs.declared.Flaw.TheVariants.{WrongLength, WrongSum, WrongHead, WrongCount, UntrueDate, AfterDate, Unused, NoCode, NotAbove, NoAdministrator, WrongFlag, NoStream, EntryZeros, HighBalance, HighSublimit, HighTotal}
-use Rattle.book_explain.specs.declared.Finding.{Finding}
-use Rattle.book_explain.specs.declared.Finding.TheVariants.{Whole, Broken}
+use Rattle.book_explain.specs.Faults.{Finding}
+use Rattle.std.specs.Prelude.{Ok, Err}
 use Rattle.c_gateway.specs.Rows.{number_in, row_after}
 
 -- the tests of a book have their numbers in their order
@@ -31,12 +31,12 @@ abbrev pub spot_words : (block entry test : ℕ) → List ℕ
 spot_words block entry test = block ∷ entry ∷ test ∷ []
 
 abbrev pub finding_number : Finding → ℕ
-finding_number Whole = 0
-finding_number (Broken p) = number_of (refusal_of p.flaw)
+finding_number (Ok u) = 0
+finding_number (Err p) = number_of (refusal_of p.flaw)
 
 abbrev pub finding_words : Finding → List ℕ
-finding_words Whole = spot_words 0 0 0
-finding_words (Broken p) = spot_words p.block p.entry (flaw_number p.flaw)
+finding_words (Ok u) = spot_words 0 0 0
+finding_words (Err p) = spot_words p.block p.entry (flaw_number p.flaw)
 
 -- 0, or 11 to 15
 unfoldable pub fault_number : List ℕ → List ℕ → ℕ

@@ -1,5 +1,6 @@
 -- What the entry points of the writers answer and leave: the text of the values in a row, as the readers fill it.
-use Rattle.std.specs.Prelude.{ℕ, ◌+◌, ◌*◌, Bool, ◌&&◌, cond, List, [], ◌∷◌, eqb, leb, length, get_or, set}
+use Rattle.chars.specs.declared.Refusal.{Refusal}
+use Rattle.std.specs.Prelude.{ℕ, ◌+◌, ◌*◌, Bool, ◌&&◌, cond, List, [], ◌∷◌, eqb, leb, length, get_or, set, Result, Ok, Err}
 use Rattle.chars.specs.Refusals.{number_of}
 use Rattle.chars.specs.declared.Refusal.TheVariants.{ShortBuffer, OtherSubType}
 use Rattle.codes.specs.declared.Code.{Code}
@@ -15,8 +16,6 @@ use Rattle.response_write.specs.declared.Answer.{Answer}
 use Rattle.response_write.specs.declared.Answer.TheVariants.{Recalled, Kept}
 use Rattle.response_write.specs.declared.Settlement.{Settlement}
 use Rattle.response_write.specs.declared.Recall.{Recall}
-use Rattle.response_write.specs.declared.Written.{Written}
-use Rattle.response_write.specs.declared.Written.TheVariants.{End, Unfit}
 use Rattle.request_write.specs.Orders.{order_text, answer_of, left_of}
 use Rattle.request_write.specs.declared.Payable.{Payable}
 use Rattle.request_write.specs.declared.Order.{Order}
@@ -64,16 +63,16 @@ order_in row = record {
 }
 
 -- the number of a refusal, or 0 and the text's length
-abbrev pub number_by : Written → ℕ
-number_by (End n) = 0
-number_by (Unfit r) = number_of r
+abbrev pub number_by : Result ℕ Refusal → ℕ
+number_by (Ok n) = 0
+number_by (Err r) = number_of r
 
-abbrev pub told_by : Written → List ℕ → List ℕ
-told_by (End n) told = set told 0 n
-told_by (Unfit r) told = told
+abbrev pub told_by : Result ℕ Refusal → List ℕ → List ℕ
+told_by (Ok n) told = set told 0 n
+told_by (Err r) told = told
 
 -- "The request writer gives the number its reader would give, else 07 if the text does not fit, and then writes nothing."
-unfoldable pub order_written : Order → List ℕ → Written
+unfoldable pub order_written : Order → List ℕ → Result ℕ Refusal
 order_written o out = answer_of (request_at (order_text o)).outcome out 0 (order_text o)
 
 unfoldable pub order_left : Order → List ℕ → List ℕ
@@ -105,13 +104,13 @@ abbrev pub holds_recall : List ℕ → Bool
 holds_recall row = has_status row && is_recall (recall_in row)
 
 -- 132, 134, or "88 for another sub type"
-unfoldable pub response_written : List ℕ → List ℕ → Written
+unfoldable pub response_written : List ℕ → List ℕ → Result ℕ Refusal
 response_written row out =
     cond (eqb (value_in row 4) 132)
     (written_if (holds_settlement row) out 0 (settlement_text (settlement_in row)))
     (cond (eqb (value_in row 4) 134)
     (written_if (holds_recall row) out 0 (recall_text (recall_in row)))
-    (Unfit OtherSubType))
+    (Err OtherSubType))
 
 unfoldable pub response_left : List ℕ → List ℕ → List ℕ
 response_left row out =
@@ -125,11 +124,11 @@ response_left row out =
 abbrev pub is_ready : ℕ → List ℕ → List ℕ → Bool
 is_ready words row told = leb words (length row) && leb 1 (length told)
 
-unfoldable pub number_for : Bool → Written → ℕ
+unfoldable pub number_for : Bool → Result ℕ Refusal → ℕ
 number_for ready w = cond ready (number_by w) (number_of ShortBuffer)
 
 unfoldable pub left_for : Bool → List ℕ → List ℕ → List ℕ
 left_for ready left out = cond ready left out
 
-unfoldable pub told_for : Bool → Written → List ℕ → List ℕ
+unfoldable pub told_for : Bool → Result ℕ Refusal → List ℕ → List ℕ
 told_for ready w told = cond ready (told_by w told) told

@@ -1,10 +1,9 @@
 // Where a book breaks, for a program in C.
 ghost use Rattle.std.specs.Prelude.{◌≡◌, ◌≤◌, length};
 ghost use Rattle.std.proofs.lemmas.List.Edits.{sets};
-ghost use Rattle.book_explain.specs.declared.Finding.TheVariants.{Broken};
 ghost use Rattle.c_gateway.specs.Faults.{flaw_number, spot_words, finding_number, finding_words, fault_number, fault_row};
 
-use book_explain::{Finding, Flaw, Spot};
+use book_explain::{Flaw, Spot};
 use chars::Refusal;
 
 // Words of the row of a fault, and which is which.
@@ -83,23 +82,23 @@ fn put_words(row: &mut [u64], block: u64, entry: u64, test: u64)
 
 fn put_spot(row: &mut [u64], p: Spot) -> u64
     requires { 3 ≤ length row.old }
-    ensures { (result ≡ finding_number (Broken p)) × (row.new ≡ sets row.old 0 (finding_words (Broken p))) }
+    ensures { (result ≡ finding_number (Err p)) × (row.new ≡ sets row.old 0 (finding_words (Err p))) }
 {
     let flaw = p.flaw;
     put_words(row, p.block as u64, p.entry as u64, flaw_number(flaw));
     flaw.refusal().number()
 }
 
-fn put_finding(row: &mut [u64], f: Finding) -> u64
+fn put_finding(row: &mut [u64], f: Result<(), Spot>) -> u64
     requires { 3 ≤ length row.old }
     ensures { (result ≡ finding_number f) × (row.new ≡ sets row.old 0 (finding_words f)) }
 {
     match f {
-        Finding::Whole => {
+        Ok(()) => {
             put_words(row, 0, 0, 0);
             0
         }
-        Finding::Broken(p) => put_spot(row, p),
+        Err(p) => put_spot(row, p),
     }
 }
 

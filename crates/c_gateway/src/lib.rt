@@ -17,15 +17,14 @@ ghost use Rattle.c_gateway.specs.Responses.{number_words, batch_words, status_wo
 ghost use Rattle.c_gateway.specs.Books.{book_number};
 ghost use Rattle.chars.specs.Refusals.{number_of};
 
-use book_read::Answer;
 use chars::Refusal;
 use codes::Code;
-use request_read::payments::{Ending, Paid, Payment};
-use request_read::terms::{Activation, Stated, Terms};
+use request_read::payments::Payment;
+use request_read::terms::{Activation, Terms};
 use request_read::whole::{Address, Head, Named, Outcome, Reached};
 use response_read::{Parts, ReadResponse, Reply};
 use response_write::{Recall, Settlement};
-use text_fields::{Break, Field, Item};
+use text_fields::{Break, Item};
 use text_scan::Cursor;
 use text_values::Part;
 
@@ -109,7 +108,7 @@ pub const REACHED_BIN: u64 = 2;
 // How the payments of a text end, and how many there are.
 #[derive(Clone, Copy)]
 pub struct Paying {
-    pub ending: Ending,
+    pub ending: Result<Cursor, Break>,
     pub n: usize,
 }
 
@@ -149,8 +148,7 @@ fn put_item(row: &mut [u64], at: usize, i: Item)
     requires { at + 4 ≤ length row.old }
     ensures { row.new ≡ sets row.old at (item_words i) }
 {
-    let part = i.part;
-    put_field(row, at, part, i.number, 0);
+    put_field(row, at, i.part, i.number, 0);
 }
 
 fn put_code(row: &mut [u64], at: usize, p: Part, c: Code)
@@ -164,9 +162,7 @@ fn put_named(row: &mut [u64], at: usize, n: Named)
     requires { at + 4 ≤ length row.old }
     ensures { row.new ≡ sets row.old at (named_words n) }
 {
-    let part = n.part;
-    let code = n.code;
-    put_code(row, at, part, code);
+    put_code(row, at, n.part, n.code);
 }
 
 // 22A and 119.
@@ -174,10 +170,8 @@ fn put_address(row: &mut [u64], a: Address)
     requires { 192 ≤ length row.old }
     ensures { row.new ≡ sets row.old 8 (address_words a) }
 {
-    let stream = a.stream;
-    let bin = a.bin;
-    put_item(row, REQUEST_STREAM, stream);
-    put_named(row, REQUEST_BIN, bin);
+    put_item(row, REQUEST_STREAM, a.stream);
+    put_named(row, REQUEST_BIN, a.bin);
 }
 
 // 20, 12, 22A and 119.
@@ -185,12 +179,9 @@ fn put_head(row: &mut [u64], h: Head)
     requires { 192 ≤ length row.old }
     ensures { row.new ≡ sets row.old 0 (head_words h) }
 {
-    let reference = h.reference;
-    let subtype = h.subtype;
-    let address = h.address;
-    put_named(row, REQUEST_REFERENCE, reference);
-    put_item(row, REQUEST_SUB_TYPE, subtype);
-    put_address(row, address);
+    put_named(row, REQUEST_REFERENCE, h.reference);
+    put_item(row, REQUEST_SUB_TYPE, h.subtype);
+    put_address(row, h.address);
 }
 
 // 175.
@@ -209,13 +200,9 @@ fn put_terms(row: &mut [u64], t: Terms)
     requires { 192 ≤ length row.old }
     ensures { row.new ≡ sets row.old 16 (terms_words t) }
 {
-    let numbers = t.numbers;
-    let date = t.date;
-    let activated = t.activated;
-    let activation = t.activation;
-    put_field(row, REQUEST_NUMBERS, numbers, t.number, t.count);
-    put_item(row, REQUEST_DATE, date);
-    put_activation(row, activated, activation);
+    put_field(row, REQUEST_NUMBERS, t.numbers, t.number, t.count);
+    put_item(row, REQUEST_DATE, t.date);
+    put_activation(row, t.activated, t.activation);
 }
 
 // 127, 32B, 113 and 102.
@@ -223,14 +210,10 @@ fn put_payment(row: &mut [u64], at: usize, p: Payment)
     requires { at + 16 ≤ length row.old }
     ensures { row.new ≡ sets row.old at (payment_words p) }
 {
-    let side = p.side;
-    let amount = p.amount;
-    let letters = p.letters;
-    let bank = p.bank;
-    put_item(row, at + PAYMENT_SIDE, side);
-    put_item(row, at + PAYMENT_AMOUNT, amount);
-    put_item(row, at + PAYMENT_LETTERS, letters);
-    put_item(row, at + PAYMENT_BANK, bank);
+    put_item(row, at + PAYMENT_SIDE, p.side);
+    put_item(row, at + PAYMENT_AMOUNT, p.amount);
+    put_item(row, at + PAYMENT_LETTERS, p.letters);
+    put_item(row, at + PAYMENT_BANK, p.bank);
 }
 
 // The payments that stand at a cursor, each put into its place as it is read: how they end, and how many there are.
@@ -238,29 +221,25 @@ fn put_payments(places: &mut [u64], text: &[u8], c: Cursor) -> Paying
     requires { places.old ≡ payments_words none }
     ensures { (result ≡ paying_at text.now c.at) × (places.new ≡ payments_words (payments_at text.now c.at).items) }
 {
-    let mut n = 0;
     let mut at = c.at;
-    while n < PAYMENTS {
-        let r = request_read::payments::read_payment(text, Cursor { at });
-        let Paid::One(p, next) = r else {
-            return Paying {
-                ending: Ending::Cut(r.why()),
-                n,
-            };
-        };
-        put_payment(places, PAYMENT_WORDS * n, p);
-        n += 1;
-        at = next.at;
+    for n in 0..PAYMENTS {
+        match request_read::payments::read_payment(text, Cursor { at }) {
+            Err(b) => return Paying { ending: Err(b), n },
+            Ok((p, next)) => {
+                put_payment(places, PAYMENT_WORDS * n, p);
+                at = next.at;
+            }
+        }
         if !request_read::payments::more(text, Cursor { at }) {
             return Paying {
-                ending: Ending::Done(Cursor { at }),
-                n,
+                ending: Ok(Cursor { at }),
+                n: n + 1,
             };
         }
     }
     Paying {
-        ending: Ending::Done(Cursor { at }),
-        n,
+        ending: Ok(Cursor { at }),
+        n: PAYMENTS,
     }
 }
 
@@ -269,10 +248,8 @@ fn put_words(row: &mut [u64], at: usize, words: &[u64])
     requires { at + length words.now ≤ length row.old }
     ensures { row.new ≡ sets row.old at words.now }
 {
-    let mut i = 0;
-    while i < words.len() {
-        row[at + i] = words[i];
-        i += 1;
+    for (i, word) in words.iter().enumerate() {
+        row[at + i] = *word;
     }
 }
 
@@ -313,14 +290,10 @@ fn put_refused(row: &mut [u64], b: Break, h: Head) -> u64
     requires { 192 ≤ length row.old }
     ensures { (result ≡ number_of b.refusal) × (row.new ≡ sets row.old 0 (refused_words b h)) }
 {
-    let subtype = h.subtype;
-    let address = h.address;
-    let reached = address.reached;
-    let refusal = b.refusal;
-    put_break(row, b, reached_number(reached));
-    put_item(row, REQUEST_SUB_TYPE, subtype);
-    put_address(row, address);
-    refusal.number()
+    put_break(row, b, reached_number(h.address.reached));
+    put_item(row, REQUEST_SUB_TYPE, h.subtype);
+    put_address(row, h.address);
+    b.refusal.number()
 }
 
 // After 119 of a 131. Nothing is put before all was read.
@@ -328,22 +301,22 @@ fn put_settling(row: &mut [u64], text: &[u8], c: Cursor, head: Head) -> u64
     requires { 192 ≤ length row.old }
     ensures { (result ≡ reading_number (settlement_at text.now c.at head)) × (row.new ≡ sets row.old 0 (reading_words (settlement_at text.now c.at head))) }
 {
-    let t = request_read::terms::read_terms(text, c);
-    let Stated::Whole(terms, past) = t else {
-        return put_refused(row, t.why(), head);
+    let (terms, c) = match request_read::terms::read_terms(text, c) {
+        Ok(read) => read,
+        Err(b) => return put_refused(row, b, head),
     };
     let mut places = [0u64; 160];
-    let p = put_payments(&mut places, text, past);
-    let ending = p.ending;
-    let Ending::Done(then) = ending else {
-        return put_refused(row, request_read::whole::cut(ending), head);
+    let paying = put_payments(&mut places, text, c);
+    let c = match paying.ending {
+        Ok(c) => c,
+        Err(b) => return put_refused(row, b, head),
     };
-    let f = text_fields::read_count(text, then, p.n as u64);
-    let Field::Good(count, next) = f else {
-        return put_refused(row, f.why(), head);
+    let (count, c) = match text_fields::read_count(text, c, paying.n as u64) {
+        Ok(read) => read,
+        Err(b) => return put_refused(row, b, head),
     };
-    if next.at < text.len() {
-        return put_refused(row, Break::absent(next.at), head);
+    if c.at < text.len() {
+        return put_refused(row, Break::absent(c.at), head);
     }
     put_accepted(row, head, terms, count, &places)
 }
@@ -391,12 +364,9 @@ fn put_number(row: &mut [u64], p: Parts, number: u64, kind: u64, reference: Code
     requires { 28 ≤ length row.old }
     ensures { row.new ≡ sets row.old 0 (number_words p number kind reference) }
 {
-    let number_part = p.number;
-    let subtype_part = p.subtype;
-    let reference_part = p.reference;
-    put_field(row, RESPONSE_NUMBER, number_part, number, 0);
-    put_field(row, RESPONSE_SUB_TYPE, subtype_part, kind, 0);
-    put_code(row, RESPONSE_REFERENCE, reference_part, reference);
+    put_field(row, RESPONSE_NUMBER, p.number, number, 0);
+    put_field(row, RESPONSE_SUB_TYPE, p.subtype, kind, 0);
+    put_code(row, RESPONSE_REFERENCE, p.reference, reference);
 }
 
 // 22A and 119.
@@ -404,10 +374,8 @@ fn put_batch(row: &mut [u64], p: Parts, stream: u64, bin: Code)
     requires { 28 ≤ length row.old }
     ensures { row.new ≡ sets row.old 12 (batch_words p stream bin) }
 {
-    let stream_part = p.stream;
-    let bin_part = p.bin;
-    put_field(row, RESPONSE_STREAM, stream_part, stream, 0);
-    put_code(row, RESPONSE_BIN, bin_part, bin);
+    put_field(row, RESPONSE_STREAM, p.stream, stream, 0);
+    put_code(row, RESPONSE_BIN, p.bin, bin);
 }
 
 // 451, and 13E or 432.
@@ -415,10 +383,8 @@ fn put_status(row: &mut [u64], p: Parts, status: u64, first: u64, second: u64)
     requires { 28 ≤ length row.old }
     ensures { row.new ≡ sets row.old 20 (status_words p status first second) }
 {
-    let status_part = p.status;
-    let detail_part = p.detail;
-    put_field(row, RESPONSE_STATUS, status_part, status, 0);
-    put_field(row, RESPONSE_DETAIL, detail_part, first, second);
+    put_field(row, RESPONSE_STATUS, p.status, status, 0);
+    put_field(row, RESPONSE_DETAIL, p.detail, first, second);
 }
 
 // How a batch ended: settled on a day at a second, or rejected with a number.
@@ -447,12 +413,9 @@ fn put_settlement(row: &mut [u64], p: Parts, s: Settlement) -> u64
     requires { 28 ≤ length row.old }
     ensures { (result ≡ 0) × (row.new ≡ sets row.old 0 (settlement_words p s)) }
 {
-    let reference = s.reference;
-    let bin = s.bin;
-    let outcome = s.outcome;
-    put_number(row, p, s.number, 132, reference);
-    put_batch(row, p, s.stream, bin);
-    put_outcome(row, p, outcome);
+    put_number(row, p, s.number, 132, s.reference);
+    put_batch(row, p, s.stream, s.bin);
+    put_outcome(row, p, s.outcome);
     0
 }
 
@@ -461,11 +424,9 @@ fn put_recall(row: &mut [u64], p: Parts, r: Recall) -> u64
     requires { 28 ≤ length row.old }
     ensures { (result ≡ 0) × (row.new ≡ sets row.old 0 (recall_words p r)) }
 {
-    let reference = r.reference;
-    let answer = r.answer;
-    put_number(row, p, r.number, 134, reference);
+    put_number(row, p, r.number, 134, r.reference);
     put_batch(row, p, 0, Code::nothing());
-    put_answer(row, p, answer);
+    put_answer(row, p, r.answer);
     0
 }
 
@@ -474,9 +435,8 @@ fn put_unread(row: &mut [u64], b: Break) -> u64
     requires { 28 ≤ length row.old }
     ensures { (result ≡ number_of b.refusal) × (row.new ≡ sets row.old 0 (break_words b 0)) }
 {
-    let refusal = b.refusal;
     put_break(row, b, REACHED_NOTHING);
-    refusal.number()
+    b.refusal.number()
 }
 
 fn put_reply(row: &mut [u64], r: ReadResponse) -> u64
@@ -508,7 +468,7 @@ pub fn purmagheli_check_book(book: &[u8]) -> u64
     ensures { result ≡ book_number book.now }
 {
     match book_read::check(book) {
-        Answer::Sound => 0,
-        Answer::Fault(f) => f.number(),
+        Ok(()) => 0,
+        Err(f) => f.number(),
     }
 }

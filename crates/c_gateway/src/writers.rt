@@ -8,7 +8,7 @@ use chars::Refusal;
 use codes::Code;
 use request_read::terms::Activation;
 use request_write::{Order, Payable, Side};
-use response_write::{Answer, Outcome, Recall, Settlement, Written};
+use response_write::{Answer, Outcome, Recall, Settlement};
 
 // Words of what is told of a text that was written: its length.
 pub const TOLD_WORDS: usize = 1;
@@ -171,44 +171,44 @@ fn has_status(row: &[u64]) -> bool
     value(row, crate::RESPONSE_STATUS) <= 1
 }
 
-fn write_settlement(row: &[u64], out: &mut [u8]) -> Written
+fn write_settlement(row: &[u64], out: &mut [u8]) -> Result<usize, Refusal>
     ensures { Wrote (holds_settlement row.now) out.old 0 (settlement_text (settlement_in row.now)) result out.new }
 {
     if !has_status(row) {
-        return Written::Unfit(Refusal::Malformed);
+        return Err(Refusal::Malformed);
     }
     response_write::write_settlement(out, 0, settlement(row))
 }
 
-fn write_recall(row: &[u64], out: &mut [u8]) -> Written
+fn write_recall(row: &[u64], out: &mut [u8]) -> Result<usize, Refusal>
     ensures { Wrote (holds_recall row.now) out.old 0 (recall_text (recall_in row.now)) result out.new }
 {
     if !has_status(row) {
-        return Written::Unfit(Refusal::Malformed);
+        return Err(Refusal::Malformed);
     }
     response_write::write_recall(out, 0, recall(row))
 }
 
 // The text of a row by its sub type, which is judged first, as its reader judges it.
-fn write_response(row: &[u64], out: &mut [u8]) -> Written
+fn write_response(row: &[u64], out: &mut [u8]) -> Result<usize, Refusal>
     ensures { (result ≡ response_written row.now out.old) × (out.new ≡ response_left row.now out.old) }
 {
     let kind = value(row, crate::RESPONSE_SUB_TYPE);
     match kind {
         132 => write_settlement(row, out),
         134 => write_recall(row, out),
-        _ => Written::Unfit(Refusal::OtherSubType),
+        _ => Err(Refusal::OtherSubType),
     }
 }
 
 // The number of a refusal, or 0 and the text's length as what is told.
-fn tell(w: Written, told: &mut [u64]) -> u64
+fn tell(w: Result<usize, Refusal>, told: &mut [u64]) -> u64
     requires { 1 ≤ length told.old }
     ensures { (result ≡ number_by w) × (told.new ≡ told_by w told.old) }
 {
     match w {
-        Written::Unfit(why) => why.number(),
-        Written::End(n) => {
+        Err(why) => why.number(),
+        Ok(n) => {
             told[0] = n as u64;
             0
         }

@@ -4,13 +4,14 @@ mod acts;
 ghost use Rattle.std.specs.Prelude.{ℕ};
 ghost use Rattle.call.specs.action.Working.{middle, acted_in, tested_in, Workable, Worked};
 
-use model::{Action, Answer};
+use chars::Refusal;
+use model::Action;
 use tables::Desk;
 
 // What both have left: the answer, how many wait, the tries, the place reached in the buffer and the texts of the day.
 #[derive(Clone, Copy)]
 pub struct Report {
-    pub answer: Answer,
+    pub answer: Result<(), Refusal>,
     pub queued: usize,
     pub pending: usize,
     pub tried: usize,
@@ -61,9 +62,8 @@ pub fn work(
         out,
         acted.at,
     );
-    let answer = acted.answer;
     Report {
-        answer,
+        answer: acted.answer,
         queued: tested.waiting,
         pending: acted.pending,
         tried: tested.tried,

@@ -1,6 +1,5 @@
 // The engine's calls, all but clearing: one function, with an action.
-ghost use Rattle.std.specs.Prelude.{◌≡◌, ℕ, length};
-ghost use Rattle.model.specs.declared.Answer.TheVariants.{Refused};
+ghost use Rattle.std.specs.Prelude.{◌≡◌, ℕ, length, Err};
 ghost use Rattle.model.specs.Kinds.{kind_of};
 ghost use Rattle.model.specs.Calls.{performed};
 ghost use Rattle.tables.specs.Moment.{call_for, lent_on};
@@ -11,7 +10,7 @@ ghost use Rattle.call.specs.entry.Calls.{kind_by, Performable};
 
 use crate::step::Told;
 use chars::Refusal;
-use model::{Action, Answer};
+use model::Action;
 use tables::Desk;
 
 // What an action does: it opens a day, takes the steps (a) to (d), or gives a book of a date.
@@ -27,21 +26,17 @@ fn kind_of(action: Action) -> Kind
 {
     match action {
         Action::Opening => Kind::Opens,
-        Action::Message(_) => Kind::Steps,
-        Action::SubLimit(_, _) => Kind::Steps,
-        Action::Status(_, _, _) => Kind::Steps,
-        Action::Tick => Kind::Steps,
-        Action::Close => Kind::Steps,
         Action::ClosingBook(date) => Kind::Gives(date),
+        _ => Kind::Steps,
     }
 }
 
 // A refusal that changes nothing.
 fn refused(refusal: Refusal, kept: Desk) -> Told
-    ensures { result ≡ record { answer = Refused refusal; written = 0; tried = 0; desk = kept } }
+    ensures { result ≡ record { answer = Err refusal; written = 0; tried = 0; desk = kept } }
 {
     Told {
-        answer: Answer::Refused(refusal),
+        answer: Err(refusal),
         written: 0,
         tried: 0,
         desk: kept,
@@ -87,13 +82,11 @@ fn perform(
     match kind {
         Kind::Opens => {
             let begun = call_day::open_day(desk, clock, codes, flags, balances, sublimits, input);
-            let answer = begun.answer;
-            let opened = begun.desk;
             Told {
-                answer,
+                answer: begun.answer,
                 written: 0,
                 tried: 0,
-                desk: opened,
+                desk: begun.desk,
             }
         }
         Kind::Steps => {
@@ -108,7 +101,7 @@ fn perform(
             let written = call_day::give_book(desk, codes, flags, balances, sublimits, date, out);
             let moved = tables::moment::moved(desk, clock);
             Told {
-                answer: Answer::Done,
+                answer: Ok(()),
                 written,
                 tried: 0,
                 desk: moved,
@@ -153,8 +146,8 @@ pub fn call(
     }
     let judged = tables::moment::judge(desk, clock, action, out.len(), tries.len());
     match judged {
-        Answer::Refused(refusal) => refused(refusal, desk),
-        Answer::Done => perform(
+        Err(refusal) => refused(refusal, desk),
+        Ok(()) => perform(
             quick, clock, action, input, desk, codes, flags, balances, sublimits, batches,
             references, bins, sheet, out, tries,
         ),

@@ -10,13 +10,14 @@ ghost use Rattle.tables.specs.Lent.{left_by};
 ghost use Rattle.call.specs.step.Stepping.{Steppable, lent_as, left_as, desk_after};
 
 use call_orders::heads;
-use model::{Action, Answer, Phase};
+use chars::Refusal;
+use model::{Action, Phase};
 use tables::Desk;
 
 // What a call tells: its answer, how much of buffer and row it has written, and the desk that it leaves.
 #[derive(Clone, Copy)]
 pub struct Told {
-    pub answer: Answer,
+    pub answer: Result<(), Refusal>,
     pub written: usize,
     pub tried: usize,
     pub desk: Desk,
@@ -25,15 +26,7 @@ pub struct Told {
 fn is_close(action: Action) -> bool
     ensures { result ≡ is_close action }
 {
-    match action {
-        Action::Close => true,
-        Action::Opening => false,
-        Action::Message(_) => false,
-        Action::SubLimit(_, _) => false,
-        Action::Status(_, _, _) => false,
-        Action::Tick => false,
-        Action::ClosingBook(_) => false,
-    }
+    matches!(action, Action::Close)
 }
 
 // The desk after a call's texts.
@@ -97,12 +90,11 @@ pub fn step(
         out,
         tries,
     );
-    let answer = done.answer;
     if is_close(action) {
         let last = edges::close(batches, bins, desk.date, done.texts, out, done.at);
         let left = desk_after(moved, Phase::Closed, last.texts);
         return Told {
-            answer,
+            answer: done.answer,
             written: last.at,
             tried: done.tried,
             desk: left,
@@ -116,10 +108,9 @@ pub fn step(
         done.pending,
         &memory,
     );
-    let phase = desk.phase;
-    let left = desk_after(moved, phase, done.texts);
+    let left = desk_after(moved, desk.phase, done.texts);
     Told {
-        answer,
+        answer: done.answer,
         written: done.at,
         tried: done.tried,
         desk: left,

@@ -1,4 +1,5 @@
 -- The debit that a status change names.
+use Rattle.std.specs.Prelude.{Option, Some, None}
 use Prim.Native.Nat.{ℕ, ◌+◌, ◌*◌, ◌-◌, ◌≤◌, ◌<◌}
 use mathlib.Core.Path.{◌≡◌, sym, ap, ◌∙◌}
 use mathlib.Core.Bool.{Bool, true, false}
@@ -12,8 +13,6 @@ use Rattle.model.specs.State.{at, nowhere, Place, live, Batches, place_at, place
 use Rattle.model.specs.Messages.{waiting}
 use Rattle.model.specs.Changes.{has_debit}
 use Rattle.model.proofs.Seeking.{is_waiting}
-use Rattle.tables.specs.declared.Sought.{Sought}
-use Rattle.tables.specs.declared.Sought.TheVariants.{Here, Nowhere}
 use Rattle.tables.specs.Seeking.{found_by}
 use Rattle.tables.specs.Rows.{word, place_in, batch_rows}
 use Rattle.tables_rules.specs.batch_rules.BatchRules.{payments_in}
@@ -43,15 +42,15 @@ module _ (t q : List ℕ) (nq : ℕ) (w : List ℕ) (nw : ℕ) (bin : Code) wher
         there = word_live t p (live_word t p (live_at bin (place_at b p) a.there.yes).is);
       }
 
-  pub place_below : Ready t q nq w nw → (found : Sought) → found_by found ≡ waiting b bin → (p : ℕ) → found ≡ Here p → p < 32
+  pub place_below : Ready t q nq w nw → (found : Option ℕ) → found_by found ≡ waiting b bin → (p : ℕ) → found ≡ Some p → p < 32
   place_below r found is p e = (waits_at p (sym is ∙ rw e)).below
 
-  module _ (k : ℕ) (found : Sought) (is : found_by found ≡ waiting b bin) where
-    pub debit_none : found ≡ Nowhere → nowhere ≡ debit_on b k bin
+  module _ (k : ℕ) (found : Option ℕ) (is : found_by found ≡ waiting b bin) where
+    pub debit_none : found ≡ None → nowhere ≡ debit_on b k bin
     unfolding debit_on
     debit_none e = rw (sym is, e)
 
-    module _ (ready : Ready t q nq w nw) (all : AllCounted t) (p : ℕ) (e : found ≡ Here p) where
+    module _ (ready : Ready t q nq w nw) (all : AllCounted t) (p : ℕ) (e : found ≡ Some p) where
       is_live : Waits p
       is_live = waits_at p (sym is ∙ rw e)
 

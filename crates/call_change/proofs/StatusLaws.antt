@@ -1,4 +1,5 @@
 -- A status change.
+use Rattle.std.specs.Prelude.{Option, Some, None, Ok, Err}
 use Prim.Native.Nat.{ℕ, zero, suc, ◌+◌, ◌≤◌, ◌<◌}
 use mathlib.Core.Path.{◌≡◌, refl, sym, ap, subst, ◌∙◌}
 use mathlib.Core.Bool.{Bool, true, false, not}
@@ -13,7 +14,6 @@ use Rattle.codes.specs.declared.Code.{Code}
 use Rattle.book_read.specs.Range.{Each}
 use Rattle.settle.specs.Payments.{Payment, payment, payment_at, payments_from}
 use Rattle.queue.proofs.MemoryLaws.{by_bool}
-use Rattle.model.specs.declared.Answer.TheVariants.{Done, Refused}
 use Rattle.model.specs.State.{at, nowhere, Batch, Place, live, Batches, State, place_at, payments_at, payments_of, with_place}
 use Rattle.model.specs.Messages.{place, bank_place, waiting, leaving, untouched}
 use Rattle.model.specs.Changes.{has_debit, with_letter, status}
@@ -21,8 +21,6 @@ use Rattle.model.specs.Calls.{woken}
 use Rattle.model.proofs.Seeking.{by_found, not_found}
 use Rattle.model.proofs.Standing.{Standing, vacant, building, awaits, stands, Stood}
 use Rattle.model.proofs.Lettering.{a_status, a_byte, lettered_standing}
-use Rattle.tables.specs.declared.Sought.{Sought}
-use Rattle.tables.specs.declared.Sought.TheVariants.{Here, Nowhere}
 use Rattle.tables.specs.Seeking.{found_by}
 use Rattle.tables.specs.Rows.{word, batch_rows}
 use Rattle.tables.specs.Words.{batch_words}
@@ -136,7 +134,7 @@ module _ (s : State) (code letter k : ℕ) (bin : Code) (esa : member letter (by
       (λ e. rw (esa, bank, e))
 
   status_changes : (p : ℕ) → DebitAt s.batches k bin p
-      → status s code bin letter ≡ leaving s Done [] (place p ∷ []) (with_place s.batches p (with_letter k letter (place_at s.batches p))) s.known
+      → status s code bin letter ≡ leaving s (Ok tt) [] (place p ∷ []) (with_place s.batches p (with_letter k letter (place_at s.batches p))) s.known
   unfolding status
   status_changes p d = rw (esa, bank, d.waits, d.has)
 
@@ -148,7 +146,7 @@ module _ (banks : ℕ) (codes : List ℕ) (t q : List ℕ) (nq : ℕ) (w : List 
   Leaves m f =
       Ready t q nq w nw
       × ((s : State) → s.house.banks ≡ banks → s.house.codes ≡ codes → s.batches ≡ seen t q nq w nw
-      → Changed s (status s code bin letter) (Refused f) (seen t q nq w nw) s.books.sublimits m m)
+      → Changed s (status s code bin letter) (Err f) (seen t q nq w nw) s.books.sublimits m m)
 
   leaves : (m : List ℕ) (f : Refusal)
       → ((s : State) → s.house.banks ≡ banks → s.house.codes ≡ codes → s.batches ≡ seen t q nq w nw → status s code bin letter ≡ untouched s f) → Leaves m f
@@ -158,22 +156,22 @@ module _ (banks : ℕ) (codes : List ℕ) (t q : List ℕ) (nq : ℕ) (w : List 
   unfolding status
   wrong_letter_lem m n = leaves m WrongEsa (λ s b c e. let g : member letter (bytes "ADP") ≡ false = sym esa ∙ not-true v n in rw g)
 
-  module _ (n : not v ≡ false) (r : Sought) (is : found_by r ≡ bank_place (banks_house banks codes []) code) where
+  module _ (n : not v ≡ false) (r : Option ℕ) (is : found_by r ≡ bank_place (banks_house banks codes []) code) where
     is_letter_lem : member letter (bytes "ADP") ≡ true
     is_letter_lem = sym esa ∙ not-false v n
 
-    pub unknown_bank : (m : List ℕ) → r ≡ Nowhere → Leaves m UnknownBank
+    pub unknown_bank : (m : List ℕ) → r ≡ None → Leaves m UnknownBank
     unfolding status
     unknown_bank m h = leaves m UnknownBank (λ s b c e. let g : bank_place s.house code ≡ nowhere = bank_there banks codes code r is s b c ∙ rw h in rw (is_letter_lem, g))
 
-    module _ (k : ℕ) (h : r ≡ Here k) (d : Sought) (so : found_by d ≡ debit_on (seen t q nq w nw) k bin) where
+    module _ (k : ℕ) (h : r ≡ Some k) (d : Option ℕ) (so : found_by d ≡ debit_on (seen t q nq w nw) k bin) where
       known_bank : (s : State) → s.house.banks ≡ banks → s.house.codes ≡ codes → bank_place s.house code ≡ at k
       known_bank s b c = bank_there banks codes code r is s b c ∙ rw h
 
-      pub no_debit : (m : List ℕ) → d ≡ Nowhere → Leaves m NothingThere
+      pub no_debit : (m : List ℕ) → d ≡ None → Leaves m NothingThere
       no_debit m f = leaves m NothingThere (λ s b c e. status_nothing s code letter k bin is_letter_lem (known_bank s b c) (rw e (sym so ∙ rw f)))
 
-      module _ (p : ℕ) (f : d ≡ Here p) where
+      module _ (p : ℕ) (f : d ≡ Some p) where
         debit : DebitAt (seen t q nq w nw) k bin p
         debit = debit_at_lem (seen t q nq w nw) k bin p (sym so ∙ rw f)
 
@@ -193,7 +191,7 @@ module _ (banks : ℕ) (codes : List ℕ) (t q : List ℕ) (nq : ℕ) (w : List 
             → (m' : List ℕ) → m' ≡ set m p 0
             → Ready t' q nq w nw
             × ((s : State) → s.house.banks ≡ banks → s.house.codes ≡ codes → s.batches ≡ seen t q nq w nw
-            → Changed s (status s code bin letter) Done (seen t' q nq w nw) s.books.sublimits m m')
+            → Changed s (status s code bin letter) (Ok tt) (seen t' q nq w nw) s.books.sublimits m m')
         unfolding woken
         changes m t' l i m' j =
             let z = relettered_became banks t q nq w nw pre.0 pre.1 k letter p waits.below waits.there is_letter_lem t' l i in (

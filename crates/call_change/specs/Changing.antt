@@ -2,7 +2,7 @@
 use Rattle.std.specs.Prelude.{ℕ, ◌<◌, ◌≡◌, cond, List, [], get_or}
 use Rattle.codes.specs.declared.Code.{Code}
 use Rattle.settle.specs.Settlement.{accounts}
-use Rattle.model.specs.declared.Answer.{Answer}
+use Rattle.model.specs.Answers.{Answer}
 use Rattle.model.specs.State.{Found, at, nowhere, on_found, Batches, State, payments_at}
 use Rattle.model.specs.Messages.{Acted, waiting}
 use Rattle.model.specs.Changes.{has_debit}

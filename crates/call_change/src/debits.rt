@@ -10,16 +10,12 @@ ghost use Rattle.call_change.specs.Changing.{AllCounted, debit_on};
 use call_plan::plan::finding;
 use codes::Code;
 use settle::Batch;
-use tables::Sought;
 
 // A space, which a text may have for A, is no letter to change to.
 pub fn is_esa(letter: u64) -> bool
     ensures { result ≡ member letter (bytes "ADP") }
 {
-    match letter {
-        65 | 68 | 80 => true,
-        _ => false,
-    }
+    matches!(letter, 65 | 68 | 80)
 }
 
 // The place of the batch in which it waits.
@@ -31,20 +27,17 @@ pub fn waiting_debit(
     nw: usize,
     bank: usize,
     bin: Code,
-) -> Sought
+) -> Option<usize>
     requires { Ready batches.now queue.now nq pending.now nw × AllCounted batches.now }
     ensures { found_by result ≡ debit_on (seen batches.now queue.now nq pending.now nw) bank bin }
 {
-    let found = finding::waiting(batches, queue, nq, pending, nw, bin);
-    let Sought::Here(place) = found else {
-        return Sought::Nowhere;
-    };
+    let place = finding::waiting(batches, queue, nq, pending, nw, bin)?;
     let a = place * Batch::WIDTH;
     let e = a + Batch::WIDTH;
     if tables_rules::payments::money::has_debit(&batches[a..e], bank as u64) {
-        return Sought::Here(place);
+        return Some(place);
     }
-    Sought::Nowhere
+    None
 }
 
 // The letter is changed in the row of a place: no other row is changed.

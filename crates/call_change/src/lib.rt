@@ -13,9 +13,7 @@ ghost use Rattle.call_change.specs.Changing.{Changed};
 use call_plan::rules::places;
 use chars::Refusal;
 use codes::Code;
-use model::Answer;
 use settle::Bank;
-use tables::Sought;
 
 // "A sub-limit change for an unknown bank gives 76, then 14."
 pub fn sub_limit(
@@ -25,20 +23,17 @@ pub fn sub_limit(
     memory: &mut [u64],
     code: u64,
     cents: u64,
-) -> Answer
+) -> Result<(), Refusal>
     requires { (banks ≤ length codes.now) × (banks ≤ length sublimits.old) }
     ensures { (s : State) → s.house.banks ≡ banks → s.house.codes ≡ codes.now → s.books.sublimits ≡ sublimits.old → Changed s (sub_limit s code cents) result s.batches sublimits.new memory.old memory.new }
 {
-    let found = places::bank_place(codes, banks, code);
-    let Sought::Here(bank) = found else {
-        return Answer::Refused(Refusal::UnknownBank);
-    };
+    let bank = places::bank_place(codes, banks, code).ok_or(Refusal::UnknownBank)?;
     if Bank::RICHEST < cents {
-        return Answer::Refused(Refusal::OutOfRange);
+        return Err(Refusal::OutOfRange);
     }
     sublimits[bank] = cents;
     queue::wake_bank(memory, bank as u64);
-    Answer::Done
+    Ok(())
 }
 
 // "A status change names bank, BIN and letter: not A, D or P 80; unknown bank 76; no pending or queued batch of that BIN with a debit of
@@ -55,22 +50,17 @@ pub fn status(
     code: u64,
     bin: Code,
     letter: u64,
-) -> Answer
+) -> Result<(), Refusal>
     requires { Ready batches.old queue.now nq pending.now nw × Stood banks (seen batches.old queue.now nq pending.now nw) × (banks ≤ length codes.now) }
     ensures { Ready batches.new queue.now nq pending.now nw × ((s : State) → s.house.banks ≡ banks → s.house.codes ≡ codes.now → s.batches ≡ seen batches.old queue.now nq pending.now nw → Changed s (status s code bin letter) result (seen batches.new queue.now nq pending.now nw) s.books.sublimits memory.old memory.new) }
 {
     if !debits::is_esa(letter) {
-        return Answer::Refused(Refusal::WrongEsa);
+        return Err(Refusal::WrongEsa);
     }
-    let payer = places::bank_place(codes, banks, code);
-    let Sought::Here(bank) = payer else {
-        return Answer::Refused(Refusal::UnknownBank);
-    };
-    let debit = debits::waiting_debit(batches, queue, nq, pending, nw, bank, bin);
-    let Sought::Here(place) = debit else {
-        return Answer::Refused(Refusal::NothingThere);
-    };
-    debits::reletter_at(batches, place, bank as u64, letter);
+    let payer = places::bank_place(codes, banks, code).ok_or(Refusal::UnknownBank)?;
+    let debit = debits::waiting_debit(batches, queue, nq, pending, nw, payer, bin);
+    let place = debit.ok_or(Refusal::NothingThere)?;
+    debits::reletter_at(batches, place, payer as u64, letter);
     queue::wake_batch(memory, place);
-    Answer::Done
+    Ok(())
 }

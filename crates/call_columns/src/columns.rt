@@ -34,43 +34,8 @@ fn row_of(
         waiting: 0,
     };
     let mut row = [none; 64];
-    let mut i = 0;
-    while i < Account::ROW {
-        row[i] = Account {
-            code: codes[i],
-            flags: flags[i],
-            balance: balances[i],
-            sublimit: sublimits[i],
-            waiting: sheet[i],
-        };
-        i += 1;
-    }
+    call_records::save(&mut row, codes, flags, balances, sublimits, sheet);
     row
-}
-
-// The five columns of a row.
-fn part(
-    row: [Account; 64],
-    codes: &mut [u64],
-    flags: &mut [u64],
-    balances: &mut [u64],
-    sublimits: &mut [u64],
-    sheet: &mut [u64],
-)
-    requires lengths { Lengths codes.old flags.old balances.old sublimits.old }
-    requires sheet_len { length sheet.old ≡ sheet_length }
-    ensures { Columns row
-        codes.new flags.new balances.new sublimits.new sheet.new }
-{
-    let mut i = 0;
-    while i < Account::ROW {
-        codes[i] = row[i].code;
-        flags[i] = row[i].flags;
-        balances[i] = row[i].balance;
-        sublimits[i] = row[i].sublimit;
-        sheet[i] = row[i].waiting;
-        i += 1;
-    }
 }
 
 // A call of the engine, clearing apart.
@@ -107,7 +72,7 @@ pub fn call(
         quick, clock, action, input, desk, row, batches, references, bins, out, tries,
     );
     let after = left.row;
-    part(after, codes, flags, balances, sublimits, sheet);
+    call_records::load(&after, codes, flags, balances, sublimits, sheet);
     let told = left.told;
     told
 }
@@ -138,7 +103,7 @@ pub fn clear(
     let row = row_of(codes, flags, balances, sublimits, sheet);
     let left = crate::clear_row(desk, row, batches, references, bins);
     let after = left.row;
-    part(after, codes, flags, balances, sublimits, sheet);
+    call_records::load(&after, codes, flags, balances, sublimits, sheet);
     let start = left.start;
     start
 }

@@ -1,4 +1,6 @@
 -- Laws of opening and of the closing book.
+use Rattle.std.specs.Result.{result_unwrap_or}
+use Rattle.std.specs.Prelude.{Option, Some, None, Result, Ok, Err}
 use Prim.Native.Nat.{ℕ, zero, suc, ◌+◌, ◌*◌, ◌-◌, ◌≤◌, ◌<◌}
 use mathlib.Core.Path.{◌≡◌, refl, sym, ap, ◌∙◌}
 use mathlib.Core.Bool.{Bool, true, false, not, cond}
@@ -6,28 +8,18 @@ use mathlib.Core.List.{List, [], ◌∷◌}
 use native.Mathlib.Omega.{arith}
 use native.Mathlib.Numerals.{add-one}
 use borrow.Author.Tests.{le-leb, not-true, not-false}
-use lib.Dec.{ltb}
 use lib.ListN.{length, get_or, set, take, drop, replicate, length-replicate}
 use lib.Seq.{sets, sets-eq, take-suc-set, take-suc, take_all}
 use Rattle.chars.specs.declared.Refusal.{Refusal}
 use Rattle.chars.specs.declared.Refusal.TheVariants.{WrongMoment}
 use Rattle.dates.specs.Dates.{day_of}
-use Rattle.dates.specs.declared.Day.{Day as Date}
-use Rattle.dates.specs.declared.Day.TheVariants.{Number, Untrue}
 use Rattle.book_read.specs.declared.Book.{Book}
-use Rattle.book_read.specs.declared.Answer.{Answer as Check}
-use Rattle.book_read.specs.declared.Answer.TheVariants.{Sound, Fault}
-use Rattle.book_read.specs.declared.Reading.{Reading}
-use Rattle.book_read.specs.declared.Reading.TheVariants.{Held, Unread}
 use Rattle.book_read.specs.Book.{book_check}
-use Rattle.book_read.specs.Accounts.{Stream, Rows, rows_of, streams_in, banks_in, stream_row, column, filled as filled_rows, book_in, room_for, With, on_answer, read_book}
+use Rattle.book_read.specs.Accounts.{Stream, Rows, rows_of, streams_in, banks_in, stream_row, filled as filled_rows, book_in, room_for, With, on_answer, read_book}
 use Rattle.book_read.proofs.Filling.{each_length}
 use Rattle.book_write.specs.Closing.{Made, book_bytes, blocks_for, holding_columns, holding_rows, streams_of, banks_of, write_book}
-use Rattle.book_write.specs.declared.Writing.{Writing}
-use Rattle.book_write.specs.declared.Writing.TheVariants.{Written, Unwritten}
-use Rattle.model.specs.declared.Phase.TheVariants.{Open, Closed}
-use Rattle.model.specs.declared.Answer.{Answer}
-use Rattle.model.specs.declared.Answer.TheVariants.{Done, Refused}
+use Rattle.model.specs.Answers.{Answer}
+use Rattle.model.specs.declared.Phase.TheVariants.{Open}
 use Rattle.model.specs.Days.{is_later, on_date, opening_answer}
 use Rattle.model.proofs.Reading.{readers}
 use Rattle.tables.specs.declared.Desk.{Desk}
@@ -35,14 +27,6 @@ use Rattle.tables.specs.Words.{filled}
 use Rattle.tables.specs.Rows.{streams_on}
 use Rattle.tables.specs.Moment.{day_on}
 use Rattle.call_day.specs.Opening.{Columns, columns, Full, book_desk, book_columns, opened_on, banks_on}
-
--- ---- a later day
-
-pub later_open : (d : Desk) (day : ℕ) → d.phase ≡ Open → ltb d.date day ≡ is_later (day_on d) day
-later_open d day e = rw e
-
-pub later_closed : (d : Desk) (day : ℕ) → d.phase ≡ Closed → ltb d.date day ≡ is_later (day_on d) day
-later_closed d day e = rw e
 
 -- ---- a column that is replaced
 
@@ -58,10 +42,10 @@ all_replaced e f g h = rw (e, f, g, h)
 
 -- ---- the closing book
 
-pub day_number_lem : (x : Date) (date k : ℕ) → x ≡ day_of date → x ≡ Number k → k ≡ on_date (day_of date)
+pub day_number_lem : (x : Option ℕ) (date k : ℕ) → x ≡ day_of date → x ≡ Some k → k ≡ on_date (day_of date)
 day_number_lem x date k e f = rw (sym e, f)
 
-pub day_untrue : (x : Date) (date : ℕ) → x ≡ day_of date → x ≡ Untrue → 0 ≡ on_date (day_of date)
+pub day_untrue : (x : Option ℕ) (date : ℕ) → x ≡ day_of date → x ≡ None → 0 ≡ on_date (day_of date)
 day_untrue x date e f = rw (sym e, f)
 
 module _ (out : List ℕ) (d : Desk) (codes flags balances sublimits : List ℕ) (date day : ℕ) (n₁ : 1 ≤ d.n) (n₂ : d.n ≤ 8) (b₁ : 1 ≤ d.banks) (b₂ : d.banks ≤ 64)
@@ -87,22 +71,19 @@ module _ (out : List ℕ) (d : Desk) (codes flags balances sublimits : List ℕ)
         le-leb d.banks (length sublimits) (omega (arith, f.sublimits)),
       )
 
-  made : write_book out book rows ≡ record { out = sets out 0 (book_bytes (on_date (day_of date)) (streams_on d) (banks_on d (columns codes flags balances sublimits))); answer = Written (512 * blocks_for d.banks) }
+  made : write_book out book rows ≡ record { out = sets out 0 (book_bytes (on_date (day_of date)) (streams_on d) (banks_on d (columns codes flags balances sublimits))); answer = Ok (512 * blocks_for d.banks) }
   unfolding write_book streams_of banks_of
   made = rw (holds, le-leb (512 * blocks_for d.banks) (length out) room, g)
 
-  module _ (o : List ℕ) (a : Writing) (is : record { out = o; answer = a } ≡ write_book out book rows) where
+  module _ (o : List ℕ) (a : Result ℕ Refusal) (is : record { out = o; answer = a } ≡ write_book out book rows) where
     pub book_bytes_lem : o ≡ sets out 0 (book_bytes (on_date (day_of date)) (streams_on d) (banks_on d (columns codes flags balances sublimits)))
     book_bytes_lem = ap (λ (x : Made). x.out) (is ∙ made)
 
-    answered : a ≡ Written (512 * blocks_for d.banks)
+    answered : a ≡ Ok (512 * blocks_for d.banks)
     answered = ap (λ (x : Made). x.answer) (is ∙ made)
 
-    pub book_length : (n : ℕ) → a ≡ Written n → n ≡ 512 * blocks_for d.banks
-    book_length n e = let h : Written n ≡ Written (512 * blocks_for d.banks) = sym e ∙ answered in cc
-
-    pub book_never : (r : Refusal) → a ≡ Unwritten r → 0 ≡ 512 * blocks_for d.banks
-    book_never r e = let h : Unwritten r ≡ Written (512 * blocks_for d.banks) = sym e ∙ answered in let z : ◌≡◌ {A = ℕ} 0 1 = cc in absurd (omega arith)
+    pub book_length : (n : ℕ) → n ≡ result_unwrap_or a 0 → n ≡ 512 * blocks_for d.banks
+    book_length n e = e ∙ rw answered
 
 -- ---- an opening
 
@@ -124,59 +105,59 @@ zero_filled n l h =
 abbrev rows_zero : Rows
 rows_zero = rows_of (replicate 16 0) (replicate 64 0) (replicate 64 0) (replicate 64 0) (replicate 64 0)
 
-abbrev read_as : Check → List ℕ → With Reading
-read_as k book = on_answer k (record { rows = filled_rows book rows_zero; answer = Held (book_in book) }) (λ r. record { rows = rows_zero; answer = Unread r })
+abbrev read_as : Answer → List ℕ → With (Result Book Refusal)
+read_as k book = on_answer k (record { rows = filled_rows book rows_zero; answer = Ok (book_in book) }) (λ r. record { rows = rows_zero; answer = Err r })
 
 module _ (book : List ℕ) where
   read_zero : read_book book rows_zero ≡ read_as (book_check book) book
   unfolding read_book room_for
   read_zero = refl
 
-  module _ (d : Desk) (clock : ℕ) (x : Columns) (streams codes flags balances sublimits : List ℕ) (a : Reading)
+  module _ (d : Desk) (clock : ℕ) (x : Columns) (streams codes flags balances sublimits : List ℕ) (a : Result Book Refusal)
       (is : record { rows = rows_of streams codes flags balances sublimits; answer = a } ≡ read_book book rows_zero) where
     abbrev Opens : Answer → Desk → Columns → Type 0
     Opens r e y = record { answer = r; desk = e; columns = y } ≡ opened_on (opening_answer (day_on d) book) d clock book x
 
-    so : (k : Check) → book_check book ≡ k → record { rows = rows_of streams codes flags balances sublimits; answer = a } ≡ read_as k book
+    so : (k : Answer) → book_check book ≡ k → record { rows = rows_of streams codes flags balances sublimits; answer = a } ≡ read_as k book
     so k e = is ∙ read_zero ∙ rw e
 
-    refused_by : (k : Check) → book_check book ≡ k → (f : Refusal) → a ≡ Unread f → Opens (Refused f) d x
+    refused_by : (k : Answer) → book_check book ≡ k → (f : Refusal) → a ≡ Err f → Opens (Err f) d x
     unfolding opening_answer
-    refused_by Sound e f h =
-        let g : a ≡ Held (book_in book) = ap (λ (z : With Reading). z.answer) (so Sound e) in
+    refused_by (Ok tt) e f h =
+        let g : a ≡ Ok (book_in book) = ap (λ (z : With (Result Book Refusal)). z.answer) (so (Ok tt) e) in
         let z : ◌≡◌ {A = ℕ} 0 1 = cc in
         absurd (omega arith)
-    refused_by (Fault r) e f h =
-        let g : a ≡ Unread r = ap (λ (z : With Reading). z.answer) (so (Fault r) e) in
+    refused_by (Err r) e f h =
+        let g : a ≡ Err r = ap (λ (z : With (Result Book Refusal)). z.answer) (so (Err r) e) in
         let j : r ≡ f = cc in
         rw (e, j)
 
-    pub open_refused : (f : Refusal) → a ≡ Unread f → Opens (Refused f) d x
+    pub open_refused : (f : Refusal) → a ≡ Err f → Opens (Err f) d x
     open_refused f h = refused_by (book_check book) refl f h
 
-    module _ (held : Book) (h : a ≡ Held held) where
-      sound_by : (k : Check) → book_check book ≡ k → book_check book ≡ Sound
-      sound_by Sound e = e
-      sound_by (Fault r) e =
-          let g : a ≡ Unread r = ap (λ (z : With Reading). z.answer) (so (Fault r) e) in
+    module _ (held : Book) (h : a ≡ Ok held) where
+      sound_by : (k : Answer) → book_check book ≡ k → book_check book ≡ Ok tt
+      sound_by (Ok tt) e = e
+      sound_by (Err r) e =
+          let g : a ≡ Err r = ap (λ (z : With (Result Book Refusal)). z.answer) (so (Err r) e) in
           let z : ◌≡◌ {A = ℕ} 0 1 = cc in
           absurd (omega arith)
 
-      sound : book_check book ≡ Sound
+      sound : book_check book ≡ Ok tt
       sound = sound_by (book_check book) refl
 
       read_rows : rows_of streams codes flags balances sublimits ≡ filled_rows book rows_zero
-      read_rows = ap (λ (z : With Reading). z.rows) (so Sound sound)
+      read_rows = ap (λ (z : With (Result Book Refusal)). z.rows) (so (Ok tt) sound)
 
       is_book : held ≡ book_in book
-      is_book = let g : a ≡ Held (book_in book) = ap (λ (z : With Reading). z.answer) (so Sound sound) in cc
+      is_book = let g : a ≡ Ok (book_in book) = ap (λ (z : With (Result Book Refusal)). z.answer) (so (Ok tt) sound) in cc
 
       module _ (t : Bool) (l : t ≡ is_later (day_on d) held.day) where
-        answer_is : opening_answer (day_on d) book ≡ cond t Done (Refused WrongMoment)
+        answer_is : opening_answer (day_on d) book ≡ cond t (Ok tt) (Err WrongMoment)
         unfolding opening_answer book_in
         answer_is = rw (sound, l, is_book)
 
-        pub open_early : not t ≡ true → Opens (Refused WrongMoment) d x
+        pub open_early : not t ≡ true → Opens (Err WrongMoment) d x
         open_early n = rw (answer_is, not-true t n)
 
         streams_are : streams ≡ filled 16 (stream_row (streams_in book))
@@ -194,5 +175,5 @@ module _ (book : List ℕ) where
         columns_are = ap (λ (z : Rows). columns z.codes z.flags z.balances z.sublimits) read_rows
 
         pub open_done : not t ≡ false → (c f b m : List ℕ) → columns c f b m ≡ columns codes flags balances sublimits
-            → Opens Done (record { phase = Open; date = held.day; clock = clock; texts = 0; banks = held.banks; streams = streams; n = held.streams }) (columns c f b m)
+            → Opens (Ok tt) (record { phase = Open; date = held.day; clock = clock; texts = 0; banks = held.banks; streams = streams; n = held.streams }) (columns c f b m)
         open_done n c f b m e = rw (answer_is, not-false t n, desk_is, e, columns_are)

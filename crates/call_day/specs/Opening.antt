@@ -1,12 +1,11 @@
 -- What an opening leaves in the desk and in the four columns of the accounts.
-use Rattle.std.specs.Prelude.{ℕ, ◌≡◌, List, length}
+use Rattle.std.specs.Prelude.{ℕ, ◌≡◌, List, length, Ok, Err}
 use Rattle.book_read.specs.Accounts.{Bank, day_in, streams_in, banks_in, stream_row}
 use Rattle.book_read.specs.Book.{each}
 use Rattle.book_read.specs.declared.Field.TheVariants.{Code, Flags, Balance, Sublimit}
 use Rattle.book_write.specs.Closing.{bank_of}
+use Rattle.model.specs.Answers.{Answer}
 use Rattle.model.specs.declared.Phase.TheVariants.{Open}
-use Rattle.model.specs.declared.Answer.{Answer}
-use Rattle.model.specs.declared.Answer.TheVariants.{Done, Refused}
 use Rattle.model.specs.Days.{column_of}
 use Rattle.tables.specs.declared.Desk.{Desk}
 use Rattle.tables.specs.Words.{filled}
@@ -49,8 +48,8 @@ book_columns book =
 
 -- C17: "An opening replaces accounts, streams and date .., sets the texts to 0 and the clock as given"; a refusal changes nothing
 abbrev pub opened_on : Answer → Desk → (clock : ℕ) (book : List ℕ) → Columns → Begins
-opened_on Done d clock book x = record { answer = Done; desk = book_desk clock book; columns = book_columns book }
-opened_on (Refused r) d clock book x = record { answer = Refused r; desk = d; columns = x }
+opened_on (Ok tt) d clock book x = record { answer = Ok tt; desk = book_desk clock book; columns = book_columns book }
+opened_on (Err r) d clock book x = record { answer = Err r; desk = d; columns = x }
 
 -- the banks that the columns hold
 abbrev pub banks_on : Desk → Columns → List Bank

@@ -10,17 +10,15 @@ ghost use Rattle.tables.specs.Rows.{streams_on};
 ghost use Rattle.tables.specs.Moment.{day_on};
 ghost use Rattle.call_day.specs.Opening.{Columns, columns, Full, opened_on, banks_on};
 
-use book_read::{Book, Reading};
-use book_write::Writing;
+use book_read::Book;
 use chars::Refusal;
-use dates::Day;
-use model::{Answer, Phase};
+use model::Phase;
 use tables::Desk;
 
 // What an opening answers, and the desk that it leaves.
 #[derive(Clone, Copy)]
 pub struct Begun {
-    pub answer: Answer,
+    pub answer: Result<(), Refusal>,
     pub desk: Desk,
 }
 
@@ -28,24 +26,7 @@ pub struct Begun {
 fn is_later(desk: Desk, day: u64) -> bool
     ensures { result ≡ is_later (day_on desk) day }
 {
-    let phase = desk.phase;
-    match phase {
-        Phase::Fresh => true,
-        Phase::Open => desk.date < day,
-        Phase::Closed => desk.date < day,
-    }
-}
-
-// A column is replaced whole.
-fn replace(column: &mut [u64], by: &[u64])
-    requires { length column.old ≡ length by.now }
-    ensures { column.new ≡ by.now }
-{
-    let mut i = 0;
-    while i < column.len() {
-        column[i] = by[i];
-        i += 1;
-    }
+    matches!(desk.phase, Phase::Fresh) || desk.date < day
 }
 
 // All four columns are replaced.
@@ -63,10 +44,10 @@ fn take_over(
     requires full_2 { Full (columns bank.now flag.now balance.now sublimit.now) }
     ensures { columns codes.new flags.new balances.new sublimits.new ≡ columns bank.now flag.now balance.now sublimit.now }
 {
-    replace(codes, bank);
-    replace(flags, flag);
-    replace(balances, balance);
-    replace(sublimits, sublimit);
+    codes.copy_from_slice(bank);
+    flags.copy_from_slice(flag);
+    balances.copy_from_slice(balance);
+    sublimits.copy_from_slice(sublimit);
 }
 
 // "An opening": 11 to 15, then the date; else accounts, streams and date are the book's, the clock is set anew, and no text is written yet.
@@ -96,14 +77,14 @@ pub fn open_day(
         &mut sublimit,
     );
     match reading {
-        Reading::Unread(f) => Begun {
-            answer: Answer::Refused(f),
+        Err(f) => Begun {
+            answer: Err(f),
             desk,
         },
-        Reading::Held(held) => {
+        Ok(held) => {
             if !is_later(desk, held.day) {
                 return Begun {
-                    answer: Answer::Refused(Refusal::WrongMoment),
+                    answer: Err(Refusal::WrongMoment),
                     desk,
                 };
             }
@@ -111,7 +92,7 @@ pub fn open_day(
                 codes, flags, balances, sublimits, &bank, &flag, &balance, &sublimit,
             );
             Begun {
-                answer: Answer::Done,
+                answer: Ok(()),
                 desk: Desk {
                     phase: Phase::Open,
                     date: held.day,
@@ -130,10 +111,7 @@ pub fn open_day(
 fn day_for(date: u64) -> u64
     ensures { result ≡ on_date (day_of date) }
 {
-    match dates::day_of(date) {
-        Day::Number(k) => k,
-        Day::Untrue => 0,
-    }
+    dates::day_of(date).unwrap_or(0)
 }
 
 // "A closing book carries the date given": its length; the buffer has room for it.
@@ -158,9 +136,5 @@ pub fn give_book(
         streams: desk.n,
         banks: desk.banks,
     };
-    let written = book_write::write(out, book, &streams, codes, flags, balances, sublimits);
-    match written {
-        Writing::Written(n) => n,
-        Writing::Unwritten(_) => 0,
-    }
+    book_write::write(out, book, &streams, codes, flags, balances, sublimits).unwrap_or(0)
 }

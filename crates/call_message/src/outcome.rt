@@ -12,14 +12,14 @@ ghost use Rattle.call_message.specs.outcome.Acting.{acted_with};
 ghost use Rattle.call_message.specs.outcome.Doing.{state_on, InRows, Actable, Apt};
 
 use call_plan::plan::Plan;
-use model::Answer;
+use chars::Refusal;
 use request_read::whole::Reading;
 use tables::Desk;
 
 // What an action has left: its answer, how many wait, the place reached in the buffer and the texts of the day.
 #[derive(Clone, Copy)]
 pub struct Acted {
-    pub answer: Answer,
+    pub answer: Result<(), Refusal>,
     pub queued: usize,
     pub pending: usize,
     pub at: usize,
@@ -48,7 +48,7 @@ pub fn perform(
     let head = r.head;
     match plan {
         Plan::Untouched(f) => Acted {
-            answer: Answer::Refused(f),
+            answer: Err(f),
             queued: nq,
             pending: nw,
             at: 0,

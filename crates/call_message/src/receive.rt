@@ -61,16 +61,12 @@ pub fn receive(
     ensures { (n : Accounts) → Received (message (state_on desk codes.now flags.now (seen batches.old queue.old nq pending.old nw) n (known_in references.old bins.old)) sender (request_at text.now)) memory.old out.old desk.texts result.answer batches.new queue.new result.queued pending.new result.pending memory.new out.new result.at result.texts references.new bins.new }
 {
     let r = request_read::whole::read_request(text);
-    let outcome = r.outcome;
     let head = r.head;
     let plan = call_plan::plan::choose(
-        desk, sender, outcome, head, batches, queue, nq, pending, nw, references, bins,
+        desk, sender, r.outcome, head, batches, queue, nq, pending, nw, references, bins,
     );
-    let by = head.reference;
-    let address = head.address;
-    let named = address.bin;
-    let reference = by.code;
-    let bin = named.code;
+    let reference = head.reference.code;
+    let bin = head.address.bin.code;
     note_plan(plan, reference, bin, desk.date, references, bins);
     crate::outcome::perform(
         plan, desk, codes, flags, r, batches, queue, nq, pending, nw, memory, out,

@@ -6,6 +6,7 @@ use mathlib.Core.List.{List, [], ◌∷◌, ◌++◌, append_assoc, append-nil}
 use native.Mathlib.Omega.{arith}
 use native.Mathlib.Numerals.{add-one}
 use borrow.Author.Tests.{ne_eqb}
+use borrow.Rule.Slice.PartMut.{put_mid}
 use lib.Dec.{eqb}
 use lib.ListN.{length, get_or, set, take, drop, replicate, length-append, length-drop, length-replicate, replicate-append-replicate}
 use lib.Seq.{sets, sets-eq, set-get_or, take_at, drop_at, drop-drop, drop-cons, length-take-le}
@@ -22,8 +23,6 @@ use Rattle.call_orders.specs.Heads.{headed, bare_row, Neat, NeatTable}
 use Rattle.call_orders.specs.Stages.{places_in}
 use Rattle.call_orders.proofs.StageLaws.{map_set, neat_set}
 use Rattle.call_orders.specs.Arriving.{Roomy, message_of, row_with, new_row}
-use Rattle.call_orders.proofs.OrderLaws.{cut}
-use Rattle.call_orders.proofs.JoinLaws.{none_left}
 use Rattle.call_orders.proofs.Storing.{neat_head}
 
 -- ---- a neat row is its words
@@ -138,17 +137,11 @@ module _ (phase rank memory : ℕ) (x : Batch) (m : Message) where
 
 -- ---- words that are copied
 
-module _ (l w : List ℕ) (at n i : ℕ) {x : List ℕ} (inv : x ≡ sets l (at + i) (drop i (take n w))) where
-  pub copy_turn : i < n → n ≤ length w → x ≡ sets (set l (at + i) (get_or w i 0)) (at + (i + 1)) (drop (i + 1) (take n w))
-  copy_turn h k =
-      let e : at + (i + 1) ≡ suc (at + i) = omega arith in
-      inv ∙ rw (cut w n i h k, e)
-
-  pub copy_end : n ≤ i → n ≤ length w → l ≡ x
-  copy_end h k = sym (inv ∙ rw (none_left w n i k h))
-
-pub copy_start : (l w : List ℕ) (at n : ℕ) → sets l at (take n w) ≡ sets l (at + 0) (drop 0 (take n w))
-copy_start l w at n = let e : at + 0 ≡ at = omega arith in rw e
+pub copied : (row words : List ℕ) (at n : ℕ) → at + n ≤ length row → length words ≡ n → put_mid at (at + n - at) row words ≡ sets row at words
+copied row words at n h e =
+    let k : at + n - at ≡ length words = omega arith in
+    let d : drop (at + length words) row ≡ drop (length words) (drop at row) = sym (drop-drop (length words) at row) in
+    rw k (sym (sets-eq words row at (omega arith) ∙ rw d (append_assoc (take at row) words (drop (length words) (drop at row)))))
 
 -- ---- payments as words
 

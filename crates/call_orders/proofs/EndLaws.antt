@@ -10,7 +10,7 @@ use lib.Seq.{set_out}
 use Rattle.queue.specs.Tests.{passed_of}
 use Rattle.queue.specs.Memory.{forgotten}
 use Rattle.queue.proofs.MemoryLaws.{by_bool}
-use Rattle.model.specs.State.{Place, free, Batches}
+use Rattle.model.specs.State.{Place, free}
 use Rattle.model.specs.Ending.{emptied}
 use Rattle.tables.specs.Rows.{place_in, batch_rows}
 use Rattle.call_orders.specs.Heads.{NeatTable}

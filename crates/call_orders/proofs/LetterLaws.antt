@@ -30,19 +30,22 @@ module _ (b x k l : ℕ) where
   pub letters_old : (l ≡ 0 → ⊥) → (k ≡ b → ⊥) → l ≡ letters_with b x k l
   letters_old n e = rw (ne_eqb l 0 n, ne_eqb k b e)
 
-module _ (b x : ℕ) (row : List ℕ) (at left : ℕ) {y : List ℕ} (inv : y ≡ reletter_from b x row at left) where
-  pub reletter_turn : (v : ℕ) → 0 < left → v ≡ letters_with b x (get_or row at 0) (get_or row (at + 2) 0) → y ≡ reletter_from b x (set row (at + 2) v) (at + 3) (left - 1)
-  unfolding reletter_from
-  reletter_turn v h e =
-      let k : left ≡ suc (left - 1) = omega arith in
-      let g : y ≡ reletter_from b x row at (suc (left - 1)) = inv ∙ ap (λ (n : ℕ). reletter_from b x row at n) k in
-      g ∙ rw e
+module _ (b x n : ℕ) where
+  pub reletter_start : (row : List ℕ) → reletter_from b x row 49 n ≡ reletter_from b x row (49 + 3 * 0) (n - 0)
+  reletter_start row = let e : n - 0 ≡ n = omega arith in rw e
 
-  pub reletter_end : left ≤ 0 → row ≡ y
-  unfolding reletter_from
-  reletter_end h =
-      let k : left ≡ 0 = omega arith in
-      sym (inv ∙ ap (λ (n : ℕ). reletter_from b x row at n) k)
+  module _ (row : List ℕ) (i : ℕ) {y : List ℕ} (inv : y ≡ reletter_from b x row (49 + 3 * i) (n - i)) where
+    pub reletter_turn : (v : ℕ) → i < n → v ≡ letters_with b x (get_or row (49 + 3 * i) 0) (get_or row (49 + 3 * i + 2) 0)
+        → y ≡ reletter_from b x (set row (49 + 3 * i + 2) v) (49 + 3 * (i + 1)) (n - (i + 1))
+    unfolding reletter_from
+    reletter_turn v h e =
+        let k : n - i ≡ suc (n - (i + 1)) = omega arith in
+        let f : 49 + 3 * (i + 1) ≡ 49 + 3 * i + 3 = omega arith in
+        inv ∙ rw (k, e, f)
+
+    pub reletter_end : n ≤ i → row ≡ y
+    unfolding reletter_from
+    reletter_end h = let k : n - i ≡ 0 = omega arith in sym (inv ∙ rw k)
 
 -- ---- the model
 

@@ -1,5 +1,5 @@
 -- What a stage of a call finds and leaves: the table, and the rows of the queue and of the pending beside it.
-use Rattle.std.specs.Prelude.{ℕ, ◌+◌, ◌≤◌, ◌≡◌, Bool, cond, List, [], ◌∷◌, ◌++◌, map, length, get_or, take}
+use Rattle.std.specs.Prelude.{ℕ, ◌≤◌, ◌≡◌, Bool, cond, List, [], ◌∷◌, ◌++◌, map, length, get_or, take}
 use Rattle.clock.specs.Clock.{has_begun}
 use Rattle.model.specs.State.{Place, free, Batches}
 use Rattle.queue.specs.Memory.{forgotten}

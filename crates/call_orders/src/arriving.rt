@@ -12,11 +12,7 @@ fn copy(row: &mut [u64], at: usize, words: &[u64], n: usize)
     requires { (at + n ≤ length row.old) × (n ≤ length words.now) }
     ensures { row.new ≡ sets row.old at (take n words.now) }
 {
-    let mut i = 0;
-    while i < n {
-        row[at + i] = words[i];
-        i += 1;
-    }
+    row[at..at + n].copy_from_slice(&words[..n]);
 }
 
 // The payments are n triples of words: bank, cents, letters.

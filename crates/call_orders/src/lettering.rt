@@ -22,11 +22,8 @@ pub fn reletter(row: &mut [u64], n: usize, bank: u64, letter: u64)
     requires { (49 + 3 * n ≤ length row.old) × (letter < 256) }
     ensures { row.new ≡ reletter_from bank letter row.old 49 n }
 {
-    let mut at = 49;
-    let mut left = n;
-    while left > 0 {
+    for i in 0..n {
+        let at = 49 + 3 * i;
         row[at + 2] = letters_with(bank, letter, row[at], row[at + 2]);
-        at += 3;
-        left -= 1;
     }
 }

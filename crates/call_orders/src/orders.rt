@@ -4,21 +4,17 @@ ghost use Rattle.model.specs.State.{seek};
 ghost use Rattle.model.specs.Joining.{keep};
 ghost use Rattle.tables.specs.Seeking.{found_by};
 
-use tables::Sought;
-
 // Where a place stands in an order.
-pub fn position(order: &[u64], n: usize, place: u64) -> Sought
+pub fn position(order: &[u64], n: usize, place: u64) -> Option<usize>
     requires { n ≤ length order.now }
     ensures { found_by result ≡ seek (eqb place) (take n order.now) }
 {
-    let mut i = 0;
-    while i < n {
+    for i in 0..n {
         if order[i] == place {
-            return Sought::Here(i);
+            return Some(i);
         }
-        i += 1;
     }
-    Sought::Nowhere
+    None
 }
 
 // A place goes to the tail.
@@ -42,13 +38,11 @@ pub fn remove(order: &mut [u64], n: usize, place: u64) -> usize
     requires { n ≤ length order.old }
     ensures { (take result order.new ≡ keep (λ q. not (eqb q place)) (take n order.old)) × (result ≤ n) }
 {
-    let mut i = 0;
     let mut k = 0;
-    while i < n {
+    for i in 0..n {
         let q = order[i];
         order[k] = q;
         k = kept(k, q != place);
-        i += 1;
     }
     k
 }

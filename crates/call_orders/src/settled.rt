@@ -33,9 +33,7 @@ pub fn end_passed(batches: &mut [u64], memory: &mut [u64], tries: &[u64], n: usi
     requires { NeatTable batches.old × (n ≤ length tries.now) }
     ensures { Emptied (passed_of (take n tries.now)) batches.old memory.old batches.new memory.new }
 {
-    let mut i = 0;
-    while i < n {
-        end_try(batches, memory, tries[i]);
-        i += 1;
+    for tried in &tries[..n] {
+        end_try(batches, memory, *tried);
     }
 }

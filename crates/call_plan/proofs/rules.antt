@@ -1,4 +1,5 @@
 pub mod PlaceLaws
+pub mod Asked
 pub mod LineLaws
 pub mod MessageLaws
 pub mod Meets

@@ -2,17 +2,19 @@
 pub mod finding;
 
 ghost use Rattle.std.specs.Prelude.{◌≡◌, ℕ, ◌≤◌, ◌<◌, length};
+ghost use Rattle.model.specs.State.{at};
 ghost use Rattle.model.specs.Messages.{is_broken_part};
 ghost use Rattle.tables.specs.Rows.{entries_in, streams_on};
 ghost use Rattle.tables.specs.Seeking.{found_by};
 ghost use Rattle.call_orders.specs.Stages.{seen, places_in};
 ghost use Rattle.call_plan.specs.plan.Plans.{rejects_on, known_on, new_on, noted_on, settlement_on, recall_on, broken_on, sent_on, Lookable, plan_on};
 
+use crate::entries::Looked;
 use crate::rules::places;
 use chars::Refusal;
 use codes::Code;
 use request_read::whole::{Head, Outcome, Reached};
-use tables::{Desk, Sought};
+use tables::Desk;
 use text_fields::Break;
 
 // What becomes of a message. The numbers are places: of a batch, of its stream, and the free ones that its reference and its BIN take.
@@ -34,52 +36,42 @@ pub enum Plan {
     Recalls(usize, usize),
 }
 
-// The place of a stream whose administrator is the sender, or why there is none.
-#[derive(Clone, Copy)]
-pub enum Sent {
-    In(usize),
-    Not(Refusal),
-}
-
 // A 131 that is refused and not noted, by the batch that its BIN is assembling.
-fn on_refused(assembling: Sought, refusal: Refusal) -> Plan
+fn on_refused(assembling: Option<usize>, refusal: Refusal) -> Plan
     ensures { result ≡ rejects_on (found_by assembling) refusal }
 {
     match assembling {
-        Sought::Here(p) => Plan::Rejects(p, refusal),
-        Sought::Nowhere => Plan::Untouched(refusal),
+        Some(p) => Plan::Rejects(p, refusal),
+        None => Plan::Untouched(refusal),
     }
 }
 
 // "a remembered BIN that is not being assembled 87, this message alone"
-fn on_known(assembling: Sought, stream: usize, reference: usize) -> Plan
+fn on_known(assembling: Option<usize>, stream: usize, reference: usize) -> Plan
     ensures { result ≡ known_on (found_by assembling) stream reference }
 {
     match assembling {
-        Sought::Here(p) => Plan::Comes(p, stream, reference),
-        Sought::Nowhere => Plan::Alone(reference),
+        Some(p) => Plan::Comes(p, stream, reference),
+        None => Plan::Alone(reference),
     }
 }
 
-// "04 .. if a 131's BIN is not remembered and there is no free batch or BIN place"
-fn on_new(place: Sought, bin: Sought, stream: usize, reference: usize) -> Plan
-    ensures { result ≡ new_on (found_by place) (found_by bin) stream reference }
+// "04 .. if a 131's BIN is not remembered and there is no free batch .. place"
+fn on_new(place: Option<usize>, stream: usize, reference: usize, bin: usize) -> Plan
+    ensures { result ≡ new_on (found_by place) (at bin) stream reference }
 {
-    let Sought::Here(p) = place else {
-        return Plan::Untouched(Refusal::NoRoom);
-    };
-    let Sought::Here(b) = bin else {
-        return Plan::Untouched(Refusal::NoRoom);
-    };
-    Plan::Begins(p, stream, reference, b)
+    match place {
+        Some(p) => Plan::Begins(p, stream, reference, bin),
+        None => Plan::Untouched(Refusal::NoRoom),
+    }
 }
 
-// A 131 whose reference can be noted.
+// A 131 whose reference can be noted: "04 .. if a 131's BIN is not remembered and there is no free .. BIN place"
 fn on_noted(
     batches: &[u64],
     bins: &[u64],
     today: u64,
-    assembling: Sought,
+    assembling: Option<usize>,
     stream: usize,
     reference: usize,
     bin: Code,
@@ -88,12 +80,14 @@ fn on_noted(
     ensures { result ≡ noted_on today (places_in batches.now) (entries_in 512 bins.now) (found_by assembling) stream reference bin }
 {
     let l = crate::entries::look(bins, 512, today, bin);
-    if l.used {
-        return on_known(assembling, stream, reference);
+    match l {
+        Looked::Used => on_known(assembling, stream, reference),
+        Looked::Full => Plan::Untouched(Refusal::NoRoom),
+        Looked::Free(b) => {
+            let place = tables::places::lowest_free(batches);
+            on_new(place, stream, reference, b)
+        }
     }
-    let free = l.free;
-    let place = tables::places::lowest_free(batches);
-    on_new(place, free, stream, reference)
 }
 
 // Steps 3 to 5 of a 131.
@@ -115,14 +109,12 @@ fn settlement_plan(
 {
     let assembling = finding::assembling(batches, queue, nq, pending, nw, bin);
     let l = crate::entries::look(references, 2048, today, reference);
-    if l.used {
-        return on_refused(assembling, Refusal::UsedReference);
-    }
-    let free = l.free;
-    match free {
-        Sought::Here(q) => on_noted(batches, bins, today, assembling, stream, q, bin),
-        Sought::Nowhere => Plan::Untouched(Refusal::NoRoom),
-    }
+    let q = match l {
+        Looked::Used => return on_refused(assembling, Refusal::UsedReference),
+        Looked::Full => return Plan::Untouched(Refusal::NoRoom),
+        Looked::Free(q) => q,
+    };
+    on_noted(batches, bins, today, assembling, stream, q, bin)
 }
 
 // Steps 3 and 4 of a 133: "A recall acts on a pending or queued batch".
@@ -141,56 +133,42 @@ fn recall_plan(
     ensures { result ≡ recall_on today (seen batches.now queue.now nq pending.now nw) (entries_in 2048 references.now) reference bin }
 {
     let l = crate::entries::look(references, 2048, today, reference);
-    if l.used {
-        return Plan::Untouched(Refusal::UsedReference);
-    }
-    let free = l.free;
-    let Sought::Here(q) = free else {
-        return Plan::Untouched(Refusal::NoRoom);
-    };
-    let waiting = finding::waiting(batches, queue, nq, pending, nw, bin);
-    match waiting {
-        Sought::Here(p) => Plan::Recalls(p, q),
-        Sought::Nowhere => Plan::RecallsNone(q),
+    match l {
+        Looked::Used => Plan::Untouched(Refusal::UsedReference),
+        Looked::Full => Plan::Untouched(Refusal::NoRoom),
+        Looked::Free(q) => {
+            let waiting = finding::waiting(batches, queue, nq, pending, nw, bin);
+            match waiting {
+                Some(p) => Plan::Recalls(p, q),
+                None => Plan::RecallsNone(q),
+            }
+        }
     }
 }
 
-// "Stream not in the book 87; sender not that stream's administrator 73."
-fn sender_stream(desk: Desk, sender: u64, code: u64) -> Sent
+// Kept: the bound of `desk.n` is asked of `choose`, which is named in docs/CONTRACTS.md, so of what it calls too.
+// The place of a stream whose administrator is the sender: "Stream not in the book 87; sender not that stream's administrator 73."
+fn sender_stream(desk: Desk, sender: u64, code: u64) -> Result<usize, Refusal>
     requires { desk.n ≤ 8 }
     ensures { result ≡ sent_on (streams_on desk) sender code }
 {
     let streams = desk.streams;
-    let found = places::stream_place(streams, desk.n, code);
-    match found {
-        Sought::Here(i) => {
-            if sender == streams[2 * i + 1] {
-                return Sent::In(i);
-            }
-            Sent::Not(Refusal::WrongSender)
-        }
-        Sought::Nowhere => Sent::Not(Refusal::Malformed),
+    let i = places::stream_place(streams, desk.n, code).ok_or(Refusal::Malformed)?;
+    if sender != streams[2 * i + 1] {
+        return Err(Refusal::WrongSender);
     }
+    Ok(i)
 }
 
 // "where step 1 fails in a 131 after 22A and 119 were read well", and no field is missing.
 fn is_broken_part(head: Head, b: Break) -> bool
     ensures { result ≡ is_broken_part head b }
 {
-    let subtype = head.subtype;
-    if subtype.number != 131 {
-        return false;
-    }
-    let address = head.address;
-    let reached = address.reached;
-    match reached {
-        Reached::Nothing => false,
-        Reached::Stream => false,
-        Reached::Bin => !b.missing,
-    }
+    head.subtype.number == 131 && matches!(head.address.reached, Reached::Bin) && !b.missing
 }
 
 // Step 1: "the stream is known, the sender is its administrator and that BIN is being assembled, the batch ends with the same code".
+#[tactic(auto, unfolding(crate::specs::plan::Plans::broken_on))]
 fn broken_plan(
     desk: Desk,
     sender: u64,
@@ -211,14 +189,11 @@ fn broken_plan(
         return Plan::Untouched(refusal);
     }
     let address = head.address;
-    let stream = address.stream;
-    let named = address.bin;
-    let assembling = finding::assembling(batches, queue, nq, pending, nw, named.code);
-    let from = sender_stream(desk, sender, stream.number);
-    match from {
-        Sent::In(_) => on_refused(assembling, refusal),
-        Sent::Not(_) => Plan::Untouched(refusal),
+    let assembling = finding::assembling(batches, queue, nq, pending, nw, address.bin.code);
+    if sender_stream(desk, sender, address.stream.number).is_err() {
+        return Plan::Untouched(refusal);
     }
+    on_refused(assembling, refusal)
 }
 
 // Steps 1 to 5 of a message, by its outcome and head.
@@ -239,33 +214,24 @@ pub fn choose(
     requires lookable { Lookable batches.now queue.now nq pending.now nw references.now bins.now }
     ensures { result ≡ plan_on desk.date (streams_on desk) sender outcome head (seen batches.now queue.now nq pending.now nw) (entries_in 2048 references.now) (entries_in 512 bins.now) }
 {
-    let address = head.address;
-    let stream = address.stream;
-    let named = address.bin;
-    let bin = named.code;
-    let by = head.reference;
-    let reference = by.code;
+    let stream = head.address.stream.number;
+    let bin = head.address.bin.code;
+    let reference = head.reference.code;
     match outcome {
         Outcome::Refused(b) => {
             broken_plan(desk, sender, head, b, batches, queue, nq, pending, nw)
         }
-        Outcome::Settlement => {
-            let from = sender_stream(desk, sender, stream.number);
-            match from {
-                Sent::In(i) => settlement_plan(
-                    batches, queue, nq, pending, nw, references, bins, desk.date, i, reference, bin,
-                ),
-                Sent::Not(f) => Plan::Untouched(f),
-            }
-        }
-        Outcome::Recall => {
-            let from = sender_stream(desk, sender, stream.number);
-            match from {
-                Sent::In(_) => recall_plan(
-                    batches, queue, nq, pending, nw, references, desk.date, reference, bin,
-                ),
-                Sent::Not(f) => Plan::Untouched(f),
-            }
-        }
+        Outcome::Settlement => match sender_stream(desk, sender, stream) {
+            Ok(i) => settlement_plan(
+                batches, queue, nq, pending, nw, references, bins, desk.date, i, reference, bin,
+            ),
+            Err(f) => Plan::Untouched(f),
+        },
+        Outcome::Recall => match sender_stream(desk, sender, stream) {
+            Ok(_) => recall_plan(
+                batches, queue, nq, pending, nw, references, desk.date, reference, bin,
+            ),
+            Err(f) => Plan::Untouched(f),
+        },
     }
 }

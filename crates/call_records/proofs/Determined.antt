@@ -1,10 +1,10 @@
 -- What a call on a row of records leaves can be worked out from its promise, and any two outcomes that the promise allows are equal.
+use Rattle.std.specs.Prelude.{Err}
 use mathlib.Core.Path.{◌≡◌, refl, sym, ap, ◌∙◌}
 use Prim.Native.Nat.{ℕ}
 use mathlib.Core.List.{List, [], ◌∷◌}
 use lib.ListN.{length}
 use Rattle.chars.specs.declared.Refusal.TheVariants.{BrokenTables}
-use Rattle.model.specs.declared.Answer.TheVariants.{Refused}
 use Rattle.tables.specs.declared.Desk.{Desk}
 use Rattle.tables.specs.Rows.{Tables}
 use Rattle.tables.specs.Lent.{Lent, Asked, Left, Called, call_lent, Wiped, Cleared, clear_lent}
@@ -36,7 +36,7 @@ determined x a y z c d = sym (seen_back y) ∙ ap (λ (u : Left). outcome_of u) 
 pub short_row : (d : Desk) (row : List Account) (batches references bins out tries : List ℕ) (a : Asked) (y : Outcome) → (length row ≡ 64 → ⊥)
     → Called (lent_as d (tables_in row batches references bins) out tries) a (seen_as y)
     → y ≡ record {
-      told = record { answer = Refused BrokenTables; written = 0; tried = 0; desk = d };
+      told = record { answer = Err BrokenTables; written = 0; tried = 0; desk = d };
       row = row;
       batches = batches;
       references = references;
@@ -58,5 +58,5 @@ pub clearing_determined : (d : Desk) (t : Tables) (y z : Beginning) → Cleared 
 clearing_determined d t y z c e = sym (wiped_back y) ∙ ap (λ (u : Wiped). beginning_of u) (rules.cleared_determined d t (wiped_as y) (wiped_as z) c e) ∙ wiped_back z
 
 pub clearing_short : (d : Desk) (row : List Account) (batches references bins : List ℕ) (y : Beginning) → (length row ≡ 64 → ⊥) → Cleared d (tables_in row batches references bins) (wiped_as y)
-    → y ≡ record { start = record { answer = Refused BrokenTables; desk = d }; row = row; batches = batches; references = references; bins = bins }
+    → y ≡ record { start = record { answer = Err BrokenTables; desk = d }; row = row; batches = batches; references = references; bins = bins }
 clearing_short d row batches references bins y h c = clearing_determined d (tables_in row batches references bins) y _ c (short_start d row batches references bins _ h refl)

@@ -1,8 +1,8 @@
 -- "The banks' accounts are lent as a row of records": the columns that the rules speak of are its fields.
-use Rattle.std.specs.Prelude.{ℕ, ◌≡◌, ◌&&◌, cond, List, [], ◌∷◌, map, leb, length, get_or, drop}
+use Rattle.settle.specs.declared.Bank.{Bank}
+use Rattle.chars.specs.declared.Refusal.{Refusal}
+use Rattle.std.specs.Prelude.{ℕ, ◌≡◌, ◌&&◌, cond, List, [], ◌∷◌, map, leb, length, get_or, drop, Result, Ok, Err}
 use Rattle.chars.specs.declared.Refusal.TheVariants.{OutOfRange}
-use Rattle.settle.specs.declared.BankOr.{BankOr}
-use Rattle.settle.specs.declared.BankOr.TheVariants.{Is, Not}
 use Rattle.settle.specs.Types.{bank_or}
 use Rattle.tables.specs.Rows.{Tables}
 use Rattle.tables.specs.Moment.{lent_on}
@@ -11,18 +11,16 @@ use Rattle.call.specs.declared.step.Told.{Told}
 use Rattle.call.specs.step.Stepping.{left_as}
 use Rattle.tables_clear.specs.declared.Start.{Start}
 use Rattle.call_records.specs.declared.Account.{Account}
-use Rattle.call_records.specs.declared.AccountOr.{AccountOr}
-use Rattle.call_records.specs.declared.AccountOr.TheVariants.{Held, Beyond}
 
 -- ---- one account: 14 where a value is out of range
 
-abbrev pub held_by : (code flags : ℕ) → BankOr → AccountOr
-held_by code flags (Is bank) = Held (record { code = code; flags = flags; balance = bank.balance; sublimit = bank.sublimit; waiting = 0 })
-held_by code flags (Not refusal) = Beyond refusal
+abbrev pub held_by : (code flags : ℕ) → Result Bank Refusal → Result Account Refusal
+held_by code flags (Ok bank) = Ok (record { code = code; flags = flags; balance = bank.balance; sublimit = bank.sublimit; waiting = 0 })
+held_by code flags (Err refusal) = Err refusal
 
 -- a code of four characters, a suspension and eight stream bits
-abbrev pub account_or : (code flags balance sublimit : ℕ) → AccountOr
-account_or code flags balance sublimit = cond (leb code 4294967295 && leb flags 511) (held_by code flags (bank_or balance sublimit)) (Beyond OutOfRange)
+abbrev pub account_or : (code flags balance sublimit : ℕ) → Result Account Refusal
+account_or code flags balance sublimit = cond (leb code 4294967295 && leb flags 511) (held_by code flags (bank_or balance sublimit)) (Err OutOfRange)
 
 -- ---- the columns of a row
 

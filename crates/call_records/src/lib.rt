@@ -1,17 +1,15 @@
 // The calls on accounts that are lent as a row of records.
 #![tactic(auto)]
 
-ghost use Rattle.std.specs.Prelude.{◌≡◌, ℕ, length};
+ghost use Rattle.std.specs.Prelude.{◌≡◌, ℕ, length, Err};
 ghost use Rattle.chars.specs.declared.Refusal.TheVariants.{BrokenTables};
-ghost use Rattle.model.specs.declared.Answer.TheVariants.{Refused};
 ghost use Rattle.tables.specs.Lent.{Called, Cleared};
 ghost use Rattle.call.specs.step.Stepping.{lent_as, left_as};
 ghost use Rattle.call_records.specs.Records.{account_or, tables_in, Columns, Long};
 
 use call::step::Told;
 use chars::Refusal;
-use model::{Action, Answer};
-use settle::BankOr;
+use model::Action;
 use tables::Desk;
 use tables_clear::Start;
 
@@ -26,12 +24,6 @@ pub struct Account {
     pub waiting: u64,
 }
 
-#[derive(Clone, Copy)]
-pub enum AccountOr {
-    Held(Account),
-    Beyond(Refusal),
-}
-
 impl Account {
     // The records of a row.
     pub const ROW: usize = 64;
@@ -41,31 +33,29 @@ impl Account {
     pub const LAST_FLAGS: u64 = 511;
 
     // An account against which nothing waits.
-    pub fn new(code: u64, flags: u64, balance: u64, sublimit: u64) -> AccountOr
+    pub fn new(code: u64, flags: u64, balance: u64, sublimit: u64) -> Result<Account, Refusal>
         ensures { result ≡ account_or code flags balance sublimit }
     {
         if Account::LAST_CODE < code {
-            return AccountOr::Beyond(Refusal::OutOfRange);
+            return Err(Refusal::OutOfRange);
         }
         if Account::LAST_FLAGS < flags {
-            return AccountOr::Beyond(Refusal::OutOfRange);
+            return Err(Refusal::OutOfRange);
         }
-        let money = settle::Bank::new(balance, sublimit);
-        match money {
-            BankOr::Is(bank) => AccountOr::Held(Account {
-                code,
-                flags,
-                balance: bank.balance,
-                sublimit: bank.sublimit,
-                waiting: 0,
-            }),
-            BankOr::Not(refusal) => AccountOr::Beyond(refusal),
-        }
+        let bank = settle::Bank::new(balance, sublimit)?;
+        let account = Account {
+            code,
+            flags,
+            balance: bank.balance,
+            sublimit: bank.sublimit,
+            waiting: 0,
+        };
+        Ok(account)
     }
 }
 
 // The records, read into five columns.
-fn load(
+pub fn load(
     row: &[Account],
     codes: &mut [u64],
     flags: &mut [u64],
@@ -77,19 +67,17 @@ fn load(
     ensures { Columns row.now
         codes.new flags.new balances.new sublimits.new sheet.new }
 {
-    let mut i = 0;
-    while i < Account::ROW {
+    for i in 0..Account::ROW {
         codes[i] = row[i].code;
         flags[i] = row[i].flags;
         balances[i] = row[i].balance;
         sublimits[i] = row[i].sublimit;
         sheet[i] = row[i].waiting;
-        i += 1;
     }
 }
 
 // The columns, stored back into the records.
-fn save(
+pub fn save(
     row: &mut [Account],
     codes: &[u64],
     flags: &[u64],
@@ -101,23 +89,21 @@ fn save(
     ensures { Columns row.new
         codes.now flags.now balances.now sublimits.now sheet.now }
 {
-    let mut i = 0;
-    while i < Account::ROW {
+    for i in 0..Account::ROW {
         row[i].code = codes[i];
         row[i].flags = flags[i];
         row[i].balance = balances[i];
         row[i].sublimit = sublimits[i];
         row[i].waiting = sheet[i];
-        i += 1;
     }
 }
 
 // 06 for a row of another length, with nothing changed.
 fn no_call(desk: Desk) -> Told
-    ensures { result ≡ record { answer = Refused BrokenTables; written = 0; tried = 0; desk = desk } }
+    ensures { result ≡ record { answer = Err BrokenTables; written = 0; tried = 0; desk = desk } }
 {
     Told {
-        answer: Answer::Refused(Refusal::BrokenTables),
+        answer: Err(Refusal::BrokenTables),
         written: 0,
         tried: 0,
         desk,
@@ -125,10 +111,10 @@ fn no_call(desk: Desk) -> Told
 }
 
 fn no_start(desk: Desk) -> Start
-    ensures { result ≡ record { answer = Refused BrokenTables; desk = desk } }
+    ensures { result ≡ record { answer = Err BrokenTables; desk = desk } }
 {
     Start {
-        answer: Answer::Refused(Refusal::BrokenTables),
+        answer: Err(Refusal::BrokenTables),
         desk,
     }
 }

@@ -1,4 +1,5 @@
 -- Laws of the functions: one text, the messages of a row, the tries, the remembered BINs.
+use Rattle.std.specs.Prelude.{Option, Some, None}
 use Prim.Native.Nat.{ℕ, zero, suc, ◌+◌, ◌-◌, ◌*◌, ◌/◌, ◌%◌, ◌≤◌, ◌<◌}
 use mathlib.Core.Path.{◌≡◌, refl, sym, ap, subst, ◌∙◌}
 use mathlib.Core.Bool.{Bool, true, false, not, cond, false≢true}
@@ -21,12 +22,10 @@ use Rattle.response_write.specs.declared.Outcome.TheVariants.{Settled, Rejected}
 use Rattle.response_write.specs.declared.Answer.{Answer}
 use Rattle.queue.specs.Tests.{passed_of}
 use Rattle.queue.proofs.MemoryLaws.{by_bool}
-use Rattle.model.specs.State.{at, on_found, has_bin, Place, free, live, Entry, place_at, place_messages, place_bin, batch_of}
+use Rattle.model.specs.State.{on_found, has_bin, Place, free, live, Entry, place_at, place_messages, place_bin, batch_of}
 use Rattle.model.specs.Replies.{Reply, settlement, recall, replies_to, text_of, texts_from}
 use Rattle.model.specs.Ending.{settled_replies, close_replies}
 use Rattle.model.proofs.Seeking.{seek_answers, by_found}
-use Rattle.tables.specs.declared.Sought.{Sought}
-use Rattle.tables.specs.declared.Sought.TheVariants.{Here, Nowhere}
 use Rattle.tables.specs.Seeking.{found_by}
 use Rattle.tables.specs.Rows.{rows, word, code_at, messages_in, batch_in, place_in, batch_rows, entry_in, entries_in}
 use Rattle.tables.proofs.RowLaws.{row_at, rows_cut, rows_end}
@@ -113,38 +112,33 @@ module _ (row : List ℕ) (bin : Code) (o : Outcome) where
   row_replies i j zero = refl
   row_replies i j (suc n) = ap (λ (l : List Reply). settlement (code_at row (9 + 4 * i)) bin o ∷ l) (row_replies (i + 1) (j + 3 * word row (12 + 4 * i)) n)
 
-  from_cut : (n left : ℕ) → 0 < left → left ≤ n
-      → replies_from row bin o (n - left) left ≡ (settlement (code_at row (9 + 4 * (n - left))) bin o ∷ []) ++ replies_from row bin o (n - (left - 1)) (left - 1)
+  from_cut : (n i : ℕ) → i < n
+      → replies_from row bin o i (n - i) ≡ (settlement (code_at row (9 + 4 * i)) bin o ∷ []) ++ replies_from row bin o (i + 1) (n - (i + 1))
   unfolding replies_from
-  from_cut n zero h k = absurd (omega arith)
-  from_cut n (suc left) h k =
-      let e : suc left - 1 ≡ left = omega arith in
-      let f : n - suc left + 1 ≡ n - left = omega arith in
-      rw (e, f)
+  from_cut n i h = let e : n - i ≡ suc (n - (i + 1)) = omega arith in rw e
 
 module _ (row : List ℕ) (n : ℕ) (bin : Code) (o : Outcome) (out₀ : List ℕ) (from₀ n₀ : ℕ) where
-  -- so many messages are left
-  abbrev pub Telling : List ℕ → (from texts left : ℕ) → Type 0
-  Telling out from texts left = Onward out₀ from₀ n₀ (replies_from row bin o 0 n) out from texts (replies_from row bin o (n - left) left)
+  -- message i is next
+  abbrev pub Telling : List ℕ → (from texts i : ℕ) → Type 0
+  Telling out from texts i = Onward out₀ from₀ n₀ (replies_from row bin o 0 n) out from texts (replies_from row bin o i (n - i))
 
-  pub telling_start : Room out₀ from₀ n₀ (replies_from row bin o 0 n) → Telling out₀ from₀ n₀ n
-  telling_start r = let e : n - n ≡ 0 = omega arith in rw e (onward_start r)
+  pub telling_start : Room out₀ from₀ n₀ (replies_from row bin o 0 n) → Telling out₀ from₀ n₀ 0
+  telling_start r = let e : n - 0 ≡ n = omega arith in rw e (onward_start r)
 
-  module _ (out : List ℕ) (from texts left : ℕ) (h : Telling out from texts left) where
-    module _ (some : 0 < left) (few : left ≤ n) where
-      pub telling_room : Room out from texts (settlement (code_at row (9 + 4 * (n - left))) bin o ∷ [])
-      telling_room =
-          onward_room (settlement (code_at row (9 + 4 * (n - left))) bin o ∷ []) (replies_from row bin o (n - (left - 1)) (left - 1)) _ (from_cut row bin o n left some few) h
+  module _ (out : List ℕ) (from texts i : ℕ) (h : Telling out from texts i) where
+    module _ (more : i < n) where
+      pub telling_room : Room out from texts (settlement (code_at row (9 + 4 * i)) bin o ∷ [])
+      telling_room = onward_room (settlement (code_at row (9 + 4 * i)) bin o ∷ []) (replies_from row bin o (i + 1) (n - (i + 1))) _ (from_cut row bin o n i more) h
 
-      pub telling_turn : {out' : List ℕ} {from' texts' : ℕ} → Wrote out from texts (settlement (code_at row (9 + 4 * (n - left))) bin o ∷ []) out' from' texts' → Telling out' from' texts' (left - 1)
-      telling_turn w =
-          onward_turn (settlement (code_at row (9 + 4 * (n - left))) bin o ∷ []) (replies_from row bin o (n - (left - 1)) (left - 1)) _ (from_cut row bin o n left some few) h w
+      pub telling_turn : {out' : List ℕ} {from' texts' : ℕ} → Wrote out from texts (settlement (code_at row (9 + 4 * i)) bin o ∷ []) out' from' texts'
+          → Telling out' from' texts' (i + 1)
+      telling_turn w = onward_turn (settlement (code_at row (9 + 4 * i)) bin o ∷ []) (replies_from row bin o (i + 1) (n - (i + 1))) _ (from_cut row bin o n i more) h w
 
-    pub telling_done : left ≤ 0 → Wrote out₀ from₀ n₀ (replies_from row bin o 0 n) out from texts
+    pub telling_done : n ≤ i → Wrote out₀ from₀ n₀ (replies_from row bin o 0 n) out from texts
     unfolding replies_from
     telling_done k =
-        let e : left ≡ 0 = omega arith in
-        onward_done (subst (λ (m : ℕ). Onward out₀ from₀ n₀ (replies_from row bin o 0 n) out from texts (replies_from row bin o (n - m) m)) e h)
+        let e : n - i ≡ 0 = omega arith in
+        onward_done (subst (λ (m : ℕ). Onward out₀ from₀ n₀ (replies_from row bin o 0 n) out from texts (replies_from row bin o i m)) e h)
 
 -- ---- a row
 
@@ -303,20 +297,6 @@ module _ (t : List ℕ) (today : ℕ) where
   ended_cut : (e : Entry) (es : List Entry) → ended (e ∷ es) ≡ ended (e ∷ []) ++ ended es
   unfolding close_replies
   ended_cut e es = ap (λ (l : List Reply). l ++ ended es) (sym (append-nil (ended_by e)))
-
-  module _ (bin : Code) (day : ℕ) {r : Bool} (is : r ≡ is_remembered day today) where
-    pub arrived_forgotten : not r ≡ true → 32 ≡ arrived_at today (batches_on t) (record { code = bin; day = day })
-    unfolding arrived_at
-    arrived_forgotten e = rw (sym is ∙ not-true r e)
-
-    module _ (e : not r ≡ false) {s : Sought} (so : found_by s ≡ batch_of (batches_on t) bin) where
-      pub arrived_here : {p : ℕ} → s ≡ Here p → p ≡ arrived_at today (batches_on t) (record { code = bin; day = day })
-      unfolding arrived_at
-      arrived_here f = rw (sym is ∙ not-false r e, sym so, f)
-
-      pub arrived_nowhere : s ≡ Nowhere → 32 ≡ arrived_at today (batches_on t) (record { code = bin; day = day })
-      unfolding arrived_at
-      arrived_nowhere f = rw (sym is ∙ not-false r e, sym so, f)
 
   -- the batch of the BIN is the batch at its place
   none_there : (o : Outcome) → replies_at t 32 o ≡ []

@@ -14,7 +14,6 @@ use chars::Refusal;
 use codes::Code;
 use response_write::{Answer, Outcome, Recall, Settlement};
 use settle::Batch;
-use tables::Sought;
 
 // The place reached so far, and the texts written today.
 #[derive(Clone, Copy)]
@@ -116,15 +115,13 @@ fn answer_messages(
     ensures { Wrote out.old at texts (replies_from row.now bin outcome 0 n) out.new result.at result.texts }
 {
     let mut reached = Progress { at, texts };
-    let mut left = n;
-    while left > 0 {
-        let k = Batch::MESSAGE + Batch::MESSAGE_WIDTH * (n - left);
+    for i in 0..n {
+        let k = Batch::MESSAGE + Batch::MESSAGE_WIDTH * i;
         let reference = Code {
             high: row[k],
             low: row[k + 1],
         };
         reached = answer_message(reference, bin, outcome, reached.texts, out, reached.at);
-        left -= 1;
     }
     reached
 }
@@ -205,8 +202,7 @@ pub fn answer_settled(
     ensures { Wrote out.old at texts (settled_replies (day_at date clock) (batches_on batches.now) (passed_of (take n tries.now))) out.new result.at result.texts }
 {
     let mut reached = Progress { at, texts };
-    let mut i = 0;
-    while i < n {
+    for i in 0..n {
         reached = answer_try(
             batches,
             tries[i],
@@ -216,12 +212,12 @@ pub fn answer_settled(
             out,
             reached.at,
         );
-        i += 1;
     }
     reached
 }
 
 // The place of the live batch of a BIN that is remembered; 32 where there is none.
+#[tactic(auto, unfolding(crate::specs::Writing::arrived_at))]
 fn arrived(batches: &[u64], bin: Code, day: u64, today: u64) -> usize
     requires { length batches.now ≡ 11168 }
     ensures { result ≡ arrived_at today (batches_on batches.now) (record { code = bin; day = day }) }
@@ -229,11 +225,7 @@ fn arrived(batches: &[u64], bin: Code, day: u64, today: u64) -> usize
     if !dates::remembered(day, today) {
         return Batch::LIVE;
     }
-    let found = tables::places::batch_of(batches, bin);
-    match found {
-        Sought::Here(place) => place,
-        Sought::Nowhere => Batch::LIVE,
-    }
+    tables::places::batch_of(batches, bin).unwrap_or(Batch::LIVE)
 }
 
 // "ends each live batch with 86 by arrival of its first message": arrival is the order of the remembered BINs.
@@ -251,8 +243,7 @@ pub fn answer_close(
 {
     let outcome = Outcome::Rejected(Refusal::Unsettled.number());
     let mut reached = Progress { at, texts };
-    let mut i = 0;
-    while i < BINS {
+    for i in 0..BINS {
         let a = i * BIN_WIDTH;
         let bin = Code {
             high: bins[a],
@@ -260,7 +251,6 @@ pub fn answer_close(
         };
         let place = arrived(batches, bin, bins[a + 2], today);
         reached = answer_batch(batches, place, outcome, reached.texts, out, reached.at);
-        i += 1;
     }
     reached
 }

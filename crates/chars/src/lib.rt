@@ -9,31 +9,21 @@ ghost use Rattle.chars.specs.Refusals.{number_of};
 pub fn is_digit(b: u8) -> bool
     ensures { result ≡ is_digit b }
 {
-    match b {
-        b'0'..=b'9' => true,
-        _ => false,
-    }
+    b.is_ascii_digit()
 }
 
 // A-Z
 pub fn is_letter(b: u8) -> bool
     ensures { result ≡ is_letter b }
 {
-    match b {
-        b'A'..=b'Z' => true,
-        _ => false,
-    }
+    b.is_ascii_uppercase()
 }
 
 // A-Z 0-9
 pub fn is_code(b: u8) -> bool
     ensures { result ≡ is_code b }
 {
-    match b {
-        b'A'..=b'Z' => true,
-        b'0'..=b'9' => true,
-        _ => false,
-    }
+    b.is_ascii_uppercase() || b.is_ascii_digit()
 }
 
 // The number that a digit stands for; 0 for a byte that is none.
@@ -41,9 +31,10 @@ pub fn digit_value(b: u8) -> u64
     ensures value { result ≡ digit_value b }
     ensures small { result < 10 }
 {
-    match b {
-        b'0'..=b'9' => (b - 48) as u64,
-        _ => 0,
+    if b.is_ascii_digit() {
+        u64::from(b - 48)
+    } else {
+        0
     }
 }
 

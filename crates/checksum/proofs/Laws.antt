@@ -1,19 +1,17 @@
 -- A word of a text, and the wrapping sum against the sum modulo 2^32.
-use Rattle.std.proofs.Common.{◌≡◌, ℕ, zero, suc, ◌+◌, ◌-◌, ◌*◌, ◌%◌, ◌^◌, ◌<◌, ◌≤◌, List, length, get_or, drop, sym, ap, ◌∙◌, add-zero, add_assoc, mod-eq_of_lt, arith, get_or-drop, drop-drop, le-leb}
+use Rattle.std.proofs.Common.{◌≡◌, ℕ, zero, suc, ◌+◌, ◌-◌, ◌*◌, ◌%◌, ◌^◌, ◌<◌, ◌≤◌, List, length, drop, sym, ap, ◌∙◌, add-zero, zero-add, add_assoc, mod-eq_of_lt, arith, drop-drop, le-leb}
 use native.Mathlib.Nat.{mod-add-mod}
 use borrow.Author.Tests.{lt-leb}
 use Rattle.checksum.specs.Sum.{word_of, sum_words, block_sum}
-
-pub word_is : (s : List ℕ) (at : ℕ) {a b c d : ℕ} → a ≡ get_or s at 0 → b ≡ get_or s (at + 1) 0 → c ≡ get_or s (at + 2) 0 → d ≡ get_or s (at + 3) 0
-    → a + b * 256 + c * 65536 + d * 16777216 ≡ word_of (drop at s)
-unfolding word_of
-word_is s at p q r t = simp (p, q, r, t, get_or-drop, add-zero)
 
 -- where the loop stands: the sum so far and the words that are left
 pub record Going (s : List ℕ) (at sum left j : ℕ) : Type 0 where
   pub inside : j + 4 * left ≤ length s
   pub fits : sum < 2 ^ 32
   pub same : (sum + sum_words left (drop j s)) % 2 ^ 32 ≡ sum_words 127 (drop at s) % 2 ^ 32
+
+pub going_start : (s : List ℕ) (at : ℕ) → at + 508 ≤ length s → Going s at 0 127 (at + 0)
+going_start s at h = record { inside = omega arith; fits = omega arith; same = simp (add-zero, zero-add) }
 
 sum_down : (left : ℕ) (s : List ℕ) (j : ℕ) → 0 < left → sum_words left (drop j s) ≡ word_of (drop j s) + sum_words (left - 1) (drop (j + 4) s)
 unfolding sum_words

@@ -5,30 +5,6 @@ ghost use Rattle.std.specs.Prelude.{◌≡◌, ◌+◌, ◌≤◌, ◌<◌, eqb}
 ghost use Rattle.dates.specs.Dates.{sum};
 ghost use Rattle.cli_book.specs.Account.{cents_at, title_at, date_at, administrator_at, stream_at, streams_at, named_at, bit_on, bits_at, AtMostOne, standing_at, money_at, bank_at, banks_at, total_at, end_at, unread, rows_at, book_account};
 
-use dates::Day;
-use text_scan::{At, Fixed};
-
-// A number, and the place past it.
-#[derive(Clone, Copy)]
-pub enum Given {
-    Value(u64, usize),
-    Ungiven,
-}
-
-// A stream's code, its administrator, and the place past its line.
-#[derive(Clone, Copy)]
-pub enum StreamLine {
-    Served(u64, u64, usize),
-    Unserved,
-}
-
-// Balance, sub-limit, and the place past them.
-#[derive(Clone, Copy)]
-pub enum Money {
-    Both(u64, u64, usize),
-    Neither,
-}
-
 // The bits of the streams that were named, and the place past their names.
 #[derive(Clone, Copy)]
 pub struct Bits {
@@ -44,13 +20,6 @@ pub struct Entry {
     pub sublimit: u64,
 }
 
-// A bank, and the place past its line.
-#[derive(Clone, Copy)]
-pub enum BankLine {
-    Held(Entry, usize),
-    Unheld,
-}
-
 // What a line is to say.
 #[derive(Clone, Copy)]
 pub enum Wanted {
@@ -61,13 +30,6 @@ pub enum Wanted {
     BankOrTotal,
     Sum,
     Nothing,
-}
-
-// The account is read to its end, or to the line at a place that does not say what was wanted.
-#[derive(Clone, Copy)]
-pub enum Stop {
-    AtEnd,
-    AtLine(usize, Wanted),
 }
 
 // Codes and administrators of the first n streams, and the place past their lines.
@@ -89,87 +51,71 @@ pub struct Banks {
     pub at: usize,
 }
 
-// The rows are as far as the account was read; those of an account that is not read to its end hold nothing.
+// The rows are as far as the account was read: to its end, or to the line at a place that does not say what was wanted. Those of
+// an account that is not read to its end hold nothing.
 #[derive(Clone, Copy)]
 pub struct BookAccount {
     pub day: u64,
     pub streams: Streams,
     pub banks: Banks,
-    pub stop: Stop,
+    pub stop: Result<(), (usize, Wanted)>,
 }
 
 // Cents, with no needless zero before them: no number of more than 18 digits is one.
-fn read_cents(s: &[u8], at: usize) -> Given
+#[tactic(auto, unfolding(crate::specs::Account::cents_at))]
+fn read_cents(s: &[u8], at: usize) -> Option<(u64, usize)>
     ensures { result ≡ cents_at s.now at }
 {
     let cents = text_scan::digits(s, at, 18);
     if !cli_request::is_plain(s, at, cents.end) {
-        return Given::Ungiven;
+        return None;
     }
-    Given::Value(cents.value, cents.end)
+    Some((cents.value, cents.end))
 }
 
 // The first line.
-fn read_title(s: &[u8], at: usize) -> At
+#[tactic(auto, unfolding(crate::specs::Account::title_at))]
+fn read_title(s: &[u8], at: usize) -> Option<usize>
     ensures { result ≡ title_at s.now at }
 {
-    let At::Next(a) = text_scan::lit(s, at, b"accepted book") else {
-        return At::No;
-    };
+    let a = text_scan::lit(s, at, b"accepted book")?;
     cli_request::line_over(s, a)
 }
 
 // The line of a true date: its day number.
-fn read_date(s: &[u8], at: usize) -> Given
+#[tactic(auto, unfolding(crate::specs::Account::date_at))]
+fn read_date(s: &[u8], at: usize) -> Option<(u64, usize)>
     ensures { result ≡ date_at s.now at }
 {
-    let At::Next(a) = text_scan::lit(s, at, b"date ") else {
-        return Given::Ungiven;
-    };
-    let Fixed::Value(v, b) = text_scan::number(s, a, 6) else {
-        return Given::Ungiven;
-    };
-    let Day::Number(k) = dates::day_of(v) else {
-        return Given::Ungiven;
-    };
-    let At::Next(c) = cli_request::line_over(s, b) else {
-        return Given::Ungiven;
-    };
-    Given::Value(k, c)
+    let a = text_scan::lit(s, at, b"date ")?;
+    let (v, b) = text_scan::number(s, a, 6)?;
+    let k = dates::day_of(v)?;
+    let c = cli_request::line_over(s, b)?;
+    Some((k, c))
 }
 
 // An administrator is a byte of the book.
-fn read_administrator(s: &[u8], at: usize) -> Given
+#[tactic(auto, unfolding(crate::specs::Account::administrator_at))]
+fn read_administrator(s: &[u8], at: usize) -> Option<(u64, usize)>
     ensures { result ≡ administrator_at s.now at }
 {
-    let Given::Value(v, e) = read_cents(s, at) else {
-        return Given::Ungiven;
-    };
+    let (v, e) = read_cents(s, at)?;
     if 255 < v {
-        return Given::Ungiven;
+        return None;
     }
-    Given::Value(v, e)
+    Some((v, e))
 }
 
-fn read_stream(s: &[u8], at: usize) -> StreamLine
+#[tactic(auto, unfolding(crate::specs::Account::stream_at))]
+fn read_stream(s: &[u8], at: usize) -> Option<(u64, u64, usize)>
     ensures { result ≡ stream_at s.now at }
 {
-    let At::Next(a) = text_scan::lit(s, at, b"stream ") else {
-        return StreamLine::Unserved;
-    };
-    let At::Next(b) = text_scan::code(s, a, 4) else {
-        return StreamLine::Unserved;
-    };
-    let At::Next(c) = text_scan::lit(s, b, b" ") else {
-        return StreamLine::Unserved;
-    };
-    let Given::Value(v, d) = read_administrator(s, c) else {
-        return StreamLine::Unserved;
-    };
-    let At::Next(e) = cli_request::line_over(s, d) else {
-        return StreamLine::Unserved;
-    };
-    StreamLine::Served(codes::short_code(s, a), v, e)
+    let a = text_scan::lit(s, at, b"stream ")?;
+    let b = text_scan::code(s, a, 4)?;
+    let c = text_scan::lit(s, b, b" ")?;
+    let (v, d) = read_administrator(s, c)?;
+    let e = cli_request::line_over(s, d)?;
+    Some((codes::short_code(s, a), v, e))
 }
 
 // Up to eight lines of streams.
@@ -177,52 +123,52 @@ fn read_streams(s: &[u8], at: usize) -> Streams
     ensures { result ≡ streams_at s.now at }
 {
     let mut row = [0u64; 16];
-    let mut n = 0;
     let mut here = at;
-    while n < 8 {
+    for n in 0..8 {
         match read_stream(s, here) {
-            StreamLine::Unserved => {
+            None => {
                 return Streams { row, n, at: here };
             }
-            StreamLine::Served(code, administrator, next) => {
+            Some((code, administrator, next)) => {
                 row[2 * n] = code;
                 row[2 * n + 1] = administrator;
-                n += 1;
                 here = next;
             }
         }
     }
-    Streams { row, n, at: here }
+    Streams {
+        row,
+        n: 8,
+        at: here,
+    }
 }
 
 // A space and this code.
-fn read_named(s: &[u8], at: usize, code: u64) -> At
+#[tactic(auto, unfolding(crate::specs::Account::named_at))]
+fn read_named(s: &[u8], at: usize, code: u64) -> Option<usize>
     ensures { result ≡ named_at s.now at code }
 {
-    let At::Next(a) = text_scan::lit(s, at, b" ") else {
-        return At::No;
-    };
-    let At::Next(b) = text_scan::code(s, a, 4) else {
-        return At::No;
-    };
+    let a = text_scan::lit(s, at, b" ")?;
+    let b = text_scan::code(s, a, 4)?;
     if codes::short_code(s, a) != code {
-        return At::No;
+        return None;
     }
-    At::Next(b)
+    Some(b)
 }
 
 // A stream's bit more where it is named next.
+#[tactic(auto, unfolding(crate::specs::Account::bit_on))]
 fn add_bit(s: &[u8], b: Bits, code: u64, bit: u64) -> Bits
     requires { b.bits + bit < 512 }
     ensures value { result ≡ bit_on s.now b code bit }
     ensures small { result.bits ≤ b.bits + bit }
 {
     match read_named(s, b.at, code) {
-        At::Next(e) => Bits {
+        Some(e) => Bits {
             bits: b.bits + bit,
             at: e,
         },
-        At::No => b,
+        None => b,
     }
 }
 
@@ -233,72 +179,55 @@ fn read_bits(s: &[u8], at: usize, row: [u64; 16]) -> Bits
 {
     let mut found = Bits { bits: 0, at };
     let mut bit: u64 = 1;
-    let mut i = 0;
-    while i < 8 {
+    for i in 0..8 {
         found = add_bit(s, found, row[2 * i], bit);
         bit = 2 * bit;
-        i += 1;
     }
     found
 }
 
 // 0 for an active bank, 1 for one that is suspended.
-fn read_standing(s: &[u8], at: usize) -> Given
+#[tactic(auto, unfolding(crate::specs::Account::standing_at))]
+fn read_standing(s: &[u8], at: usize) -> Option<(u64, usize)>
     ensures value { result ≡ standing_at s.now at }
     ensures small { AtMostOne result }
 {
-    if let At::Next(a) = text_scan::lit(s, at, b" active ") {
-        return Given::Value(0, a);
+    if let Some(a) = text_scan::lit(s, at, b" active ") {
+        return Some((0, a));
     }
-    if let At::Next(a) = text_scan::lit(s, at, b" suspended ") {
-        return Given::Value(1, a);
+    if let Some(a) = text_scan::lit(s, at, b" suspended ") {
+        return Some((1, a));
     }
-    Given::Ungiven
+    None
 }
 
-fn read_money(s: &[u8], at: usize) -> Money
+#[tactic(auto, unfolding(crate::specs::Account::money_at))]
+fn read_money(s: &[u8], at: usize) -> Option<(u64, u64, usize)>
     ensures { result ≡ money_at s.now at }
 {
-    let Given::Value(balance, a) = read_cents(s, at) else {
-        return Money::Neither;
-    };
-    let At::Next(b) = text_scan::lit(s, a, b" ") else {
-        return Money::Neither;
-    };
-    let Given::Value(sublimit, c) = read_cents(s, b) else {
-        return Money::Neither;
-    };
-    Money::Both(balance, sublimit, c)
+    let (balance, a) = read_cents(s, at)?;
+    let b = text_scan::lit(s, a, b" ")?;
+    let (sublimit, c) = read_cents(s, b)?;
+    Some((balance, sublimit, c))
 }
 
-fn read_bank(s: &[u8], at: usize, row: [u64; 16]) -> BankLine
+#[tactic(auto, unfolding(crate::specs::Account::bank_at))]
+fn read_bank(s: &[u8], at: usize, row: [u64; 16]) -> Option<(Entry, usize)>
     ensures { result ≡ bank_at s.now at row }
 {
-    let At::Next(a) = text_scan::lit(s, at, b"bank ") else {
-        return BankLine::Unheld;
-    };
-    let At::Next(b) = text_scan::code(s, a, 4) else {
-        return BankLine::Unheld;
-    };
-    let Given::Value(standing, c) = read_standing(s, b) else {
-        return BankLine::Unheld;
-    };
-    let Money::Both(balance, sublimit, d) = read_money(s, c) else {
-        return BankLine::Unheld;
-    };
+    let a = text_scan::lit(s, at, b"bank ")?;
+    let b = text_scan::code(s, a, 4)?;
+    let (standing, c) = read_standing(s, b)?;
+    let (balance, sublimit, d) = read_money(s, c)?;
     let found = read_bits(s, d, row);
-    let At::Next(e) = cli_request::line_over(s, found.at) else {
-        return BankLine::Unheld;
+    let e = cli_request::line_over(s, found.at)?;
+    let entry = Entry {
+        code: codes::short_code(s, a),
+        flags: standing + 2 * found.bits,
+        balance,
+        sublimit,
     };
-    BankLine::Held(
-        Entry {
-            code: codes::short_code(s, a),
-            flags: standing + 2 * found.bits,
-            balance,
-            sublimit,
-        },
-        e,
-    )
+    Some((entry, e))
 }
 
 // Up to 64 lines of banks.
@@ -309,11 +238,10 @@ fn read_banks(s: &[u8], at: usize, row: [u64; 16]) -> Banks
     let mut flags = [0u64; 64];
     let mut balances = [0u64; 64];
     let mut sublimits = [0u64; 64];
-    let mut n = 0;
     let mut here = at;
-    while n < 64 {
+    for n in 0..64 {
         match read_bank(s, here, row) {
-            BankLine::Unheld => {
+            None => {
                 return Banks {
                     codes,
                     flags,
@@ -323,12 +251,11 @@ fn read_banks(s: &[u8], at: usize, row: [u64; 16]) -> Banks
                     at: here,
                 };
             }
-            BankLine::Held(b, next) => {
+            Some((b, next)) => {
                 codes[n] = b.code;
                 flags[n] = b.flags;
                 balances[n] = b.balance;
                 sublimits[n] = b.sublimit;
-                n += 1;
                 here = next;
             }
         }
@@ -338,25 +265,20 @@ fn read_banks(s: &[u8], at: usize, row: [u64; 16]) -> Banks
         flags,
         balances,
         sublimits,
-        n,
+        n: 64,
         at: here,
     }
 }
 
 // The line of the total.
-fn read_total(s: &[u8], at: usize) -> Given
+#[tactic(auto, unfolding(crate::specs::Account::total_at))]
+fn read_total(s: &[u8], at: usize) -> Option<(u64, usize)>
     ensures { result ≡ total_at s.now at }
 {
-    let At::Next(a) = text_scan::lit(s, at, b"total ") else {
-        return Given::Ungiven;
-    };
-    let Given::Value(v, b) = read_cents(s, a) else {
-        return Given::Ungiven;
-    };
-    let At::Next(c) = cli_request::line_over(s, b) else {
-        return Given::Ungiven;
-    };
-    Given::Value(v, c)
+    let a = text_scan::lit(s, at, b"total ")?;
+    let (v, b) = read_cents(s, a)?;
+    let c = cli_request::line_over(s, b)?;
+    Some((v, c))
 }
 
 // Whether a number is the sum of the balances; each is taken off it, so that no sum can be too large.
@@ -364,33 +286,31 @@ fn is_sum(balances: [u64; 64], total: u64) -> bool
     ensures { result ≡ eqb total (sum balances) }
 {
     let mut rest = total;
-    let mut i = 0;
-    while i < 64 {
-        if rest < balances[i] {
+    for balance in balances {
+        if rest < balance {
             return false;
         }
-        rest -= balances[i];
-        i += 1;
+        rest -= balance;
     }
     rest == 0
 }
 
-// What follows the banks: the total, and nothing behind it.
-fn read_end(s: &[u8], at: usize, balances: [u64; 64]) -> Stop
+// What follows the banks: the total, and nothing behind it; or the line that does not say so, and what was wanted there.
+#[tactic(auto, unfolding(crate::specs::Account::end_at))]
+fn read_end(s: &[u8], at: usize, balances: [u64; 64]) -> Result<(), (usize, Wanted)>
     ensures { result ≡ end_at s.now at balances }
 {
-    let Given::Value(total, a) = read_total(s, at) else {
-        return Stop::AtLine(at, Wanted::BankOrTotal);
-    };
+    let (total, a) = read_total(s, at).ok_or((at, Wanted::BankOrTotal))?;
     if !is_sum(balances, total) {
-        return Stop::AtLine(at, Wanted::Sum);
+        return Err((at, Wanted::Sum));
     }
     if a < s.len() {
-        return Stop::AtLine(a, Wanted::Nothing);
+        return Err((a, Wanted::Nothing));
     }
-    Stop::AtEnd
+    Ok(())
 }
 
+#[tactic(auto, unfolding(crate::specs::Account::unread))]
 fn unread(at: usize, wanted: Wanted) -> BookAccount
     ensures { result ≡ unread at wanted }
 {
@@ -410,11 +330,12 @@ fn unread(at: usize, wanted: Wanted) -> BookAccount
             n: 0,
             at: 0,
         },
-        stop: Stop::AtLine(at, wanted),
+        stop: Err((at, wanted)),
     }
 }
 
 // What follows the date.
+#[tactic(auto, unfolding(crate::specs::Account::rows_at))]
 fn read_rows(s: &[u8], at: usize, day: u64) -> BookAccount
     ensures { result ≡ rows_at s.now at day }
 {
@@ -438,14 +359,15 @@ fn read_rows(s: &[u8], at: usize, day: u64) -> BookAccount
 }
 
 // The day and the rows that an account of a book tells.
+#[tactic(auto, unfolding(crate::specs::Account::book_account))]
 pub fn read_account(s: &[u8]) -> BookAccount
     ensures { result ≡ book_account s.now }
 {
     let first = cli_request::first_line(s);
-    let At::Next(a) = read_title(s, first) else {
+    let Some(a) = read_title(s, first) else {
         return unread(first, Wanted::Title);
     };
-    let Given::Value(day, b) = read_date(s, a) else {
+    let Some((day, b)) = read_date(s, a) else {
         return unread(a, Wanted::Date);
     };
     read_rows(s, b, day)

@@ -3,122 +3,116 @@
 
 use cli_files::Console;
 use cli_print::Row;
+use std::fmt;
+use std::fmt::Write;
 use text_explain::{Fault, Tag, Tags, Told};
-use text_scan::At;
 
 // So much of a line is shown.
 const SHOWN: usize = 40;
 
-fn show_tag<'a>(row: Row<'a>, t: Tag) -> Row<'a> {
-    let text = t.text();
-    row.first(&text, t.size())
-}
+// A tag, as it is told.
+#[derive(Clone, Copy)]
+struct Name(Tag);
 
-fn show_expected<'a>(row: Row<'a>, tags: Tags) -> Row<'a> {
-    match tags {
-        Tags::Ending => row.text(b"the end of the text expected"),
-        Tags::One(t) => show_tag(row, t).text(b" expected"),
-        Tags::Two(t, u) => show_tag(show_tag(row, t).text(b" or "), u).text(b" expected"),
-    }
-}
-
-// How a line breaks the text.
-fn show_fault<'a>(row: Row<'a>, fault: Fault) -> Row<'a> {
-    match fault {
-        Fault::Missing(tags) => show_expected(row, tags),
-        Fault::Wrong(t) => show_tag(row, t).text(b" has a wrong value"),
-        Fault::Unknown => row.text(b":12: has another sub type"),
-        Fault::AfterCredit => row.text(b":113: may not stand after CR"),
+impl fmt::Display for Name {
+    fn fmt<W: fmt::Write>(&self, f: &mut fmt::Formatter<W>) -> fmt::Result {
+        let text = self.0.text();
+        for &b in text.iter().take(self.0.size()) {
+            f.write_char(char::from(b))?;
+        }
+        Ok(())
     }
 }
 
-fn hex_digit(n: u8) -> u8 {
-    if n < 10 {
-        return b'0' + n;
+// How a line breaks the text, in words.
+#[derive(Clone, Copy)]
+pub struct Words(pub Fault);
+
+impl fmt::Display for Words {
+    fn fmt<W: fmt::Write>(&self, f: &mut fmt::Formatter<W>) -> fmt::Result {
+        match self.0 {
+            Fault::Missing(Tags::Ending) => f.write_str("the end of the text expected"),
+            Fault::Missing(Tags::One(t)) => write!(f, "{} expected", Name(t)),
+            Fault::Missing(Tags::Two(t, u)) => write!(f, "{} or {} expected", Name(t), Name(u)),
+            Fault::Wrong(t) => write!(f, "{} has a wrong value", Name(t)),
+            Fault::Unknown => f.write_str(":12: has another sub type"),
+            Fault::AfterCredit => f.write_str(":113: may not stand after CR"),
+        }
     }
-    if n < 16 { b'a' + (n - 10) } else { b'?' }
 }
 
-// What is not printable ASCII shows, and so do a quote and a backslash.
-fn show_byte<'a>(row: Row<'a>, b: u8) -> Row<'a> {
-    if b == b'\r' {
-        return row.text(b"\\r");
+// A byte of a line: what is not printable ASCII shows, and so do a quote and a backslash.
+#[derive(Clone, Copy)]
+struct Shown(u8);
+
+impl fmt::Display for Shown {
+    fn fmt<W: fmt::Write>(&self, f: &mut fmt::Formatter<W>) -> fmt::Result {
+        match self.0 {
+            b'\r' => f.write_str("\\r"),
+            b'\n' => f.write_str("\\n"),
+            b'"' => f.write_str("\\\""),
+            b'\\' => f.write_str("\\\\"),
+            b' '..=b'~' => f.write_char(char::from(self.0)),
+            b => write!(f, "\\x{b:02x}"),
+        }
     }
-    if b == b'\n' {
-        return row.text(b"\\n");
-    }
-    if b < b' ' || b'~' < b {
-        return row.text(&[b'\\', b'x', hex_digit(b / 16), hex_digit(b % 16)]);
-    }
-    if b == b'"' || b == b'\\' {
-        return row.text(b"\\").text(&[b]);
-    }
-    row.text(&[b])
 }
 
-fn show_bytes<'a>(before: Row<'a>, line: &[u8]) -> Row<'a> {
-    let mut row = before;
-    let mut i = 0;
-    while i < line.len() {
-        row = show_byte(row, line[i]);
-        i += 1;
-    }
-    row
-}
-
-// In quotes, two dots behind a line that is longer than what is shown.
-fn quote<'a>(row: Row<'a>, line: &[u8]) -> Row<'a> {
+// What is shown of a line.
+fn start_of(line: &[u8]) -> &[u8] {
     if SHOWN < line.len() {
-        return show_bytes(row.text(b"\""), &line[..SHOWN]).text(b"\"..");
-    }
-    show_bytes(row.text(b"\""), line).text(b"\"")
-}
-
-// Up to the line's CR LF, or to the end of the text.
-fn line_end(s: &[u8], at: usize) -> usize {
-    match text_scan::line_end(s, at, s.len()) {
-        At::Next(e) => e,
-        At::No => s.len(),
+        &line[..SHOWN]
+    } else {
+        line
     }
 }
 
-fn quote_line<'a>(row: Row<'a>, s: &[u8], at: usize) -> Row<'a> {
-    let end = line_end(s, at);
-    if end < at {
-        return row;
+// A line in quotes, two dots behind one that is longer than what is shown.
+#[derive(Clone, Copy)]
+struct Quoted<'a>(&'a [u8]);
+
+impl fmt::Display for Quoted<'_> {
+    fn fmt<W: fmt::Write>(&self, f: &mut fmt::Formatter<W>) -> fmt::Result {
+        let start = start_of(self.0);
+        f.write_str("\"")?;
+        for &b in start {
+            write!(f, "{}", Shown(b))?;
+        }
+        f.write_str(if start.len() < self.0.len() {
+            "\".."
+        } else {
+            "\""
+        })
     }
-    if s.len() < end {
-        return row;
-    }
-    quote(row, &s[at..end])
 }
 
-fn show_instead<'a>(row: Row<'a>, s: &[u8], at: usize) -> Row<'a> {
-    if at < s.len() {
-        return quote_line(row.text(b", not "), s, at);
+// The line from a place on, up to its CR LF or to the end of the text.
+fn put_line(row: &mut Row<'_>, s: &[u8], at: usize) {
+    let end = text_scan::line_end(s, at, s.len()).unwrap_or(s.len());
+    if let Some(line) = s.get(at..end) {
+        row.put(Quoted(line));
     }
-    row.text(b", and the text ends")
 }
 
-fn show_within<'a>(row: Row<'a>, s: &[u8], at: usize) -> Row<'a> {
-    quote_line(row.text(b", in "), s, at)
-}
-
-fn show_line<'a>(row: Row<'a>, s: &[u8], at: usize, fault: Fault) -> Row<'a> {
+// What stands where the text breaks.
+fn put_standing(row: &mut Row<'_>, s: &[u8], at: usize, fault: Fault) {
     match fault {
-        Fault::Missing(_) => show_instead(row, s, at),
-        Fault::Wrong(_) => show_within(row, s, at),
-        Fault::Unknown => show_within(row, s, at),
-        Fault::AfterCredit => show_within(row, s, at),
+        Fault::Missing(_) if s.len() <= at => row.put(", and the text ends"),
+        Fault::Missing(_) => {
+            row.put(", not ");
+            put_line(row, s, at);
+        }
+        _ => {
+            row.put(", in ");
+            put_line(row, s, at);
+        }
     }
 }
 
 // A break on a line: where, why, and what stands there.
 pub fn show_break(console: &Console, s: &[u8], at: usize, told: Told) {
-    let fault = told.fault;
-    let place = cli_print::begin(console)
-        .field(b"at byte ", at as u64)
-        .field(b", line ", told.line as u64)
-        .text(b": ");
-    show_line(show_fault(place, fault), s, at, fault).print_line();
+    let mut row = cli_print::begin(console);
+    row.put(format_args!("at byte {at}, line {}: {}", told.line, Words(told.fault)));
+    put_standing(&mut row, s, at, told.fault);
+    row.print_line();
 }

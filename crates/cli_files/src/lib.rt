@@ -2,19 +2,19 @@
 #![tactic(auto)]
 
 pub mod lines;
+pub mod numbers;
 pub mod paths;
 pub mod whole;
 
-ghost use Rattle.std.specs.Prelude.{◌≤◌, IfOk, length};
-ghost use Rattle.cli_files.specs.Files.{Within};
+ghost use Rattle.std.specs.Prelude.{◌≡◌, ◌≤◌, true, IfOk, IfSome, length};
+ghost use Rattle.std.specs.Io.KnownBytes.{Consumes};
 
 use std::cell::Cell;
 use std::env::{Env, FillError};
-use std::fmt::Write;
+use std::fmt::{Display, Write};
 use std::fs::{Files, OpenOptions};
-use std::io::{Error, Input, Print, Read, Stderr, Stdout};
+use std::io::{Error, ErrorKind, Input, Print, Read, Stderr, Stdout};
 use std::{fmt, fs, io};
-use text_scan::At;
 
 // Numbers of the system's errors.
 pub(crate) const ENOENT: i32 = 2;
@@ -26,14 +26,6 @@ pub(crate) const EINVAL: i32 = 22;
 pub(crate) const ENAMETOOLONG: i32 = 36;
 
 pub(crate) const EILSEQ: i32 = 84;
-
-// How many bytes of a file stand at the buffer's beginning; or that it could not be read, and has been
-// told so on standard error.
-#[derive(Clone, Copy)]
-pub enum Got {
-    Bytes(usize),
-    Unread,
-}
 
 // A line of a script and a column, both from 1 on. Line 0 is no place.
 #[derive(Clone, Copy)]
@@ -100,26 +92,17 @@ pub fn say(console: &Console, text: &[u8]) {
     let _ = console.errors.write_all(text);
 }
 
-// A number on standard error.
-pub fn say_number(console: &Console, v: u64) {
-    let _ = console.errors.print(v);
-}
-
-// Whether a word is just this one.
-fn is_word(word: &[u8], name: &[u8]) -> bool {
-    if let At::Next(e) = text_scan::lit(word, 0, name) {
-        e == word.len()
-    } else {
-        false
-    }
+// What is told on standard error.
+pub fn tell(console: &Console, what: impl Display + Drop) {
+    let _ = console.errors.print(what);
 }
 
 // Whether an argument of the program is this word, which has at most 16 bytes.
 pub fn is_argument(rt: &impl Env, i: usize, name: &[u8]) -> bool {
     let mut word = [0u8; 16];
     match rt.arg(i, &mut word) {
-        Ok(n) => is_word(&word[..n], name),
-        Err(_) => is_word(b"", name),
+        Ok(n) => &word[..n] == name,
+        Err(_) => name.is_empty(),
     }
 }
 
@@ -191,11 +174,7 @@ pub fn tell_place(console: &Console, script: &[u8], place: Place) {
         return;
     }
     say(console, script);
-    say(console, b":");
-    say_number(console, place.line);
-    say(console, b":");
-    say_number(console, place.column);
-    say(console, b": ");
+    tell(console, format_args!(":{}:{}: ", place.line, place.column));
 }
 
 // An error's words without the number of the system's.
@@ -266,6 +245,7 @@ pub fn read_full(from: &mut impl Read, buf: &mut [u8]) -> usize
     ensures { result ≤ length buf.old }
 {
     let mut done = 0;
+    // Kept: the place moves by what was read.
     while done < buf.len() {
         match from.read(&mut buf[done..]) {
             Ok(n) => {
@@ -278,6 +258,17 @@ pub fn read_full(from: &mut impl Read, buf: &mut [u8]) -> usize
         }
     }
     done
+}
+
+// Whether the input had as many bytes more as the buffer, which holds them then. Of a shorter rest the buffer holds what there was.
+pub fn take_all<R: Read>(from: &mut R, buf: &mut [u8]) -> io::Result<bool>
+    ensures { IfOk result (λ whole. whole ≡ true → Consumes (R.remaining from.old) (R.remaining from.new) buf.new) }
+{
+    match from.read_exact(buf) {
+        Ok(()) => Ok(true),
+        Err(why) if why.kind() == ErrorKind::UnexpectedEof => Ok(false),
+        Err(why) => Err(why),
+    }
 }
 
 // Reads on after the first n bytes, and answers how many there are then.
@@ -298,15 +289,15 @@ fn read_open(
     path: &[u8],
     from: &mut impl Read,
     buf: &mut [u8],
-) -> Got
-    ensures { Within (length buf.old) result }
+) -> Option<usize>
+    ensures { IfSome result (λ n. n ≤ length buf.old) }
 {
     match from.read(buf) {
         Err(why) => {
             unreadable_at(console, script, place, path, &why);
-            Got::Unread
+            None
         }
-        Ok(first) => Got::Bytes(read_on(from, buf, first)),
+        Ok(first) => Some(read_on(from, buf, first)),
     }
 }
 
@@ -315,7 +306,8 @@ pub fn open_read<R: Files>(rt: &R, path: &[u8]) -> io::Result<R::File> {
     fs::open(rt, paths::text_of(path)?)
 }
 
-// As much of a file as the buffer holds. The place is where a script names the file.
+// As much of a file as the buffer holds, and how many bytes that is. None: it could not be read, which has been told on standard error. The place is
+// where a script names the file.
 pub fn read_at(
     rt: &impl Files,
     console: &Console,
@@ -323,13 +315,13 @@ pub fn read_at(
     place: Place,
     path: &[u8],
     buf: &mut [u8],
-) -> Got
-    ensures { Within (length buf.old) result }
+) -> Option<usize>
+    ensures { IfSome result (λ n. n ≤ length buf.old) }
 {
     match open_read(rt, path) {
         Err(why) => {
             unreadable_at(console, script, place, path, &why);
-            Got::Unread
+            None
         }
         Ok(mut file) => read_open(console, script, place, path, &mut file, buf),
     }
@@ -337,16 +329,17 @@ pub fn read_at(
 
 // Whether a path is the dash that stands for standard input.
 pub fn is_dash(path: &[u8]) -> bool {
-    if path.len() == 1 {
-        path[0] == b'-'
-    } else {
-        false
-    }
+    path == b"-".as_slice()
 }
 
 // As much of a file that is named where a program is called: a dash is standard input.
-pub fn read_named<R: Files + Input>(rt: &R, console: &Console, path: &[u8], buf: &mut [u8]) -> Got
-    ensures { Within (length buf.old) result }
+pub fn read_named<R: Files + Input>(
+    rt: &R,
+    console: &Console,
+    path: &[u8],
+    buf: &mut [u8],
+) -> Option<usize>
+    ensures { IfSome result (λ n. n ≤ length buf.old) }
 {
     let nowhere = Place { line: 0, column: 0 };
     if is_dash(path) {

@@ -9,30 +9,11 @@ pub struct Ahead {
     pub end: usize,
 }
 
-// What is kept of a line: so many bytes, and whether it has more.
+// What is kept of a line: so many bytes, and whether it has more than the buffer.
 #[derive(Clone, Copy)]
-struct Kept {
-    n: usize,
-    is_long: bool,
-}
-
-// A line of n bytes, if the script has one more; or the beginning of a line that is longer than the buffer.
-#[derive(Clone, Copy)]
-pub struct Taken {
-    pub ahead: Ahead,
+pub struct Kept {
     pub n: usize,
-    pub is_there: bool,
     pub is_long: bool,
-}
-
-fn byte(row: &[u8], i: usize) -> u8 {
-    if i < row.len() { row[i] } else { 0 }
-}
-
-fn put_byte(row: &mut [u8], i: usize, b: u8) {
-    if i < row.len() {
-        row[i] = b;
-    }
 }
 
 pub fn nothing_ahead() -> Ahead {
@@ -59,65 +40,62 @@ fn read_ahead(
     }
 }
 
-// A byte that does not fit is left out.
-fn keep(line: &mut [u8], kept: Kept, b: u8) -> Kept {
-    let n = kept.n;
-    if n < line.len() {
-        put_byte(line, n, b);
-        return Kept {
-            n: n + 1,
-            is_long: false,
-        };
+// The next byte of the script, if it has one more.
+fn next_byte(
+    console: &Console,
+    name: &[u8],
+    from: &mut impl Read,
+    buf: &mut [u8],
+    ahead: &mut Ahead,
+) -> Option<u8> {
+    *ahead = read_ahead(console, name, from, buf, *ahead);
+    if ahead.end <= ahead.at {
+        return None;
     }
-    Kept { n, is_long: true }
+    let b = *buf.get(ahead.at)?;
+    ahead.at += 1;
+    Some(b)
 }
 
-// The next line, without its line feed, at the beginning of a buffer. The script is named where it cannot be read.
+// A byte that does not fit is left out.
+fn keep(line: &mut [u8], kept: Kept, b: u8) -> Kept {
+    match line.get_mut(kept.n) {
+        Some(place) => {
+            *place = b;
+            Kept {
+                n: kept.n + 1,
+                is_long: false,
+            }
+        }
+        None => Kept {
+            n: kept.n,
+            is_long: true,
+        },
+    }
+}
+
+// The next line, if the script has one more, without its line feed, at the beginning of a buffer. The script is named where it cannot be read.
 pub fn take(
     console: &Console,
     name: &[u8],
     from: &mut impl Read,
     buf: &mut [u8],
     line: &mut [u8],
-    before: Ahead,
-) -> Taken {
-    let mut ahead = before;
-    let mut kept = Kept {
-        n: 0,
-        is_long: false,
-    };
-    let mut turns = u64::MAX;
-    let mut is_there = false;
-    while 0 < turns {
-        ahead = read_ahead(console, name, from, buf, ahead);
-        let at = ahead.at;
-        let end = ahead.end;
-        if end <= at {
-            return Taken {
-                ahead,
-                n: kept.n,
-                is_there,
-                is_long: kept.is_long,
-            };
-        }
-        let b = byte(buf, at);
-        ahead = Ahead { at: at + 1, end };
-        is_there = true;
+    ahead: &mut Ahead,
+) -> Option<Kept> {
+    let mut taken = None;
+    for _ in 0..u64::MAX {
+        let Some(b) = next_byte(console, name, from, buf, ahead) else {
+            return taken;
+        };
+        let kept = taken.unwrap_or(Kept {
+            n: 0,
+            is_long: false,
+        });
         if b == b'\n' {
-            return Taken {
-                ahead,
-                n: kept.n,
-                is_there,
-                is_long: kept.is_long,
-            };
+            return Some(kept);
         }
-        kept = keep(line, kept, b);
-        turns -= 1;
+        taken = Some(keep(line, kept, b));
     }
-    Taken {
-        ahead,
-        n: kept.n,
-        is_there,
-        is_long: kept.is_long,
-    }
+    taken
 }

@@ -1,4 +1,7 @@
 // A file that is written whole or not at all.
+ghost use Rattle.std.specs.Prelude.{◌≤◌};
+
+use crate::paths::PATH_MAX;
 use crate::{Console, Place, paths};
 use std::fs::{File, Files, OpenFile, OpenOptions};
 use std::io::Write;
@@ -10,22 +13,18 @@ fn letter(b: u8) -> u8 {
 }
 
 // Six letters by chance, so that no other file beside this one has the name.
-fn put_letters(rt: &impl RandomSource, name: &mut [u8; 4096], at: usize) -> usize {
+fn put_letters(rt: &impl RandomSource, name: &mut [u8; PATH_MAX], at: usize) -> usize
+    ensures { result ≤ PATH_MAX }
+{
     let mut b = [0u8; 6];
     let _ = rt.fill_bytes(&mut b);
-    let letters = [
-        letter(b[0]),
-        letter(b[1]),
-        letter(b[2]),
-        letter(b[3]),
-        letter(b[4]),
-        letter(b[5]),
-    ];
-    paths::put(name, at, &letters)
+    paths::put(name, at, &b.map(letter))
 }
 
 // The name of the new file beside an old one.
-fn name_new(rt: &impl RandomSource, path: &[u8], name: &mut [u8; 4096]) -> usize {
+fn name_new(rt: &impl RandomSource, path: &[u8], name: &mut [u8; PATH_MAX]) -> usize
+    ensures { result ≤ PATH_MAX }
+{
     let n = paths::put(name, 0, path);
     let e = paths::put(name, n, b".new-");
     put_letters(rt, name, e)
@@ -66,21 +65,6 @@ fn overwrite(rt: &impl Files, path: &[u8], bytes: &[u8]) -> io::Result<()> {
     file.write_all(bytes)
 }
 
-fn write_over(
-    rt: &impl Files,
-    console: &Console,
-    script: &[u8],
-    place: Place,
-    path: &[u8],
-    bytes: &[u8],
-) -> bool {
-    if let Err(why) = overwrite(rt, path, bytes) {
-        crate::unwritable_at(console, script, place, path, &why);
-        return false;
-    }
-    true
-}
-
 // A file of a name that no other has.
 fn create<R: Files>(rt: &R, path: &[u8]) -> io::Result<R::File> {
     OpenOptions::new()
@@ -106,64 +90,16 @@ fn remove(rt: &impl Files, path: &[u8]) {
 }
 
 // The old file stands until the new one is complete.
-fn replace(
-    rt: &impl Files,
-    console: &Console,
-    script: &[u8],
-    place: Place,
-    path: &[u8],
-    new: &[u8],
-    bytes: &[u8],
-) -> bool {
-    let file = match create(rt, new) {
-        Ok(file) => file,
-        Err(why) => {
-            crate::unwritable_at(console, script, place, path, &why);
-            return false;
-        }
-    };
-    if let Err(why) = store(file, bytes) {
-        crate::unwritable_at(console, script, place, path, &why);
+fn replace<R: Files + RandomSource>(rt: &R, path: &[u8], bytes: &[u8]) -> io::Result<()> {
+    let mut name = [0u8; PATH_MAX];
+    let n = name_new(rt, path, &mut name);
+    let new = &name[..n];
+    let file = create(rt, new)?;
+    let done = store(file, bytes).and_then(|()| rename(rt, new, path));
+    if done.is_err() {
         remove(rt, new);
-        return false;
     }
-    if let Err(why) = rename(rt, new, path) {
-        crate::unwritable_at(console, script, place, path, &why);
-        remove(rt, new);
-        return false;
-    }
-    true
-}
-
-// The name of the new file has n bytes.
-fn replace_named(
-    rt: &impl Files,
-    console: &Console,
-    script: &[u8],
-    place: Place,
-    path: &[u8],
-    new: &[u8],
-    n: usize,
-    bytes: &[u8],
-) -> bool {
-    if n <= new.len() {
-        replace(rt, console, script, place, path, &new[..n], bytes)
-    } else {
-        false
-    }
-}
-
-fn replace_beside<R: Files + RandomSource>(
-    rt: &R,
-    console: &Console,
-    script: &[u8],
-    place: Place,
-    path: &[u8],
-    new: &mut [u8; 4096],
-    bytes: &[u8],
-) -> bool {
-    let n = name_new(rt, path, new);
-    replace_named(rt, console, script, place, path, new, n, bytes)
+    done
 }
 
 // Writes a file: to a new one beside it, which then takes its name. Where that fails, the reason is told.
@@ -175,9 +111,13 @@ pub fn write<R: Files + RandomSource>(
     path: &[u8],
     bytes: &[u8],
 ) -> bool {
-    if is_in_place(rt, path) {
-        return write_over(rt, console, script, place, path, bytes);
+    let done = if is_in_place(rt, path) {
+        overwrite(rt, path, bytes)
+    } else {
+        replace(rt, path, bytes)
+    };
+    if let Err(why) = &done {
+        crate::unwritable_at(console, script, place, path, why);
     }
-    let mut new = [0u8; 4096];
-    replace_beside(rt, console, script, place, path, &mut new, bytes)
+    done.is_ok()
 }

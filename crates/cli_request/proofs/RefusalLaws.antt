@@ -1,11 +1,10 @@
 -- The line of an account: one law for each return.
-use Prim.Native.Nat.{ℕ, zero, suc, ◌+◌, ◌*◌, ◌-◌, ◌≤◌, ◌<◌}
-use mathlib.Core.Path.{◌≡◌, refl, sym, ◌∙◌}
+use Prim.Native.Nat.{ℕ, zero, suc, ◌+◌, ◌*◌, ◌-◌, ◌≤◌, ◌<◌, min}
+use mathlib.Core.Path.{◌≡◌, refl}
 use mathlib.Core.List.{List}
 use native.Mathlib.Omega.{arith}
 use lib.ListN.{get_or}
 use borrow.Author.Tests.{lt-ltb, le-ltb, le-leb, lt-leb, eq-eqb, ne_eqb}
-use Rattle.request_read.specs.declared.terms.Activation.{Activation}
 use Rattle.request_read.specs.declared.terms.Activation.TheVariants.{AtOnce, Minute}
 use Rattle.request_write.specs.Orders.{no_payable}
 use Rattle.request_write.specs.declared.Order.{Order}
@@ -26,10 +25,6 @@ room_left : (k : ℕ) → k < 10 → 10 - k ≡ suc (10 - (k + 1))
 room_left k h = omega arith
 
 module _ {ps : List Payable} {n from line k end : ℕ} (g : Finding ps n from line k end) where
-  pub finding_none : k < 10 → n ≤ k → (k ≡ payment_of ps n from line) × (k ≤ 10)
-  unfolding payment_from
-  finding_none h e = (simp (room_left k h, le-leb _ _ e) at g.same, omega arith)
-
   pub finding_there : {s : ℕ} → k < 10 → k < n → s ≡ lines_of (get_or ps k no_payable).side → line < end + s → (k ≡ payment_of ps n from line) × (k ≤ 10)
   unfolding payment_from
   finding_there h e p q = (simp (room_left k h, lt-leb _ _ e, ← p, lt-ltb _ _ q) at g.same, omega arith)
@@ -38,13 +33,14 @@ module _ {ps : List Payable} {n from line k end : ℕ} (g : Finding ps n from li
   unfolding payment_from
   finding_on h e p f q = record { inside = omega arith; small = omega (arith, g.small); same = simp (room_left k h, lt-leb _ _ e, ← p, le-ltb _ _ q) at g.same }
 
-full : (k : ℕ) → k ≤ 10 → 10 ≤ k → 10 - k ≡ 0
-full k h g = omega arith
-
 module _ {ps : List Payable} {n from line k end : ℕ} (g : Finding ps n from line k end) where
-  pub finding_done : 10 ≤ k → (k ≡ payment_of ps n from line) × (k ≤ 10)
+  pub finding_done : {m : ℕ} → m ≡ min n 10 → k ≡ m → m ≡ payment_of ps n from line
   unfolding payment_from
-  finding_done h = (simp (full k g.inside h) at g.same, g.inside)
+  finding_done m h = rw (← h) (go (10 - k) refl)
+    where
+      go : (r : ℕ) → 10 - k ≡ r → k ≡ payment_of ps n from line
+      go zero e = rw e at g.same
+      go (suc r) e = let few : n ≤ k = omega arith in simp (le-leb _ _ few) at (rw e at g.same)
 
 module _ (o : Order) (line : ℕ) where
   pub line_in_head : line < 8 → get_or heads line 0 ≡ account_line o line

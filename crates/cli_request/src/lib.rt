@@ -5,65 +5,21 @@
 pub mod refusals;
 pub mod several;
 
-ghost use Rattle.std.specs.Prelude.{◌≡◌, ◌≤◌, get_or};
+ghost use Rattle.std.specs.Prelude.{◌≡◌, ◌≤◌, get_or, count_by, eqb, length};
 ghost use Rattle.codes.specs.Codes.{short_at};
-ghost use Rattle.cli_request.specs.Account.{line_over, kind_at, line_at, numbers_at, name_at, activation_of, activation_at, is_plain, sum_at, is_shown, are_shown, unshown, spaced, letters_at, credit_at, debit_at, payment_at, payments_at, head_at, terms_at, line_after, first_line, asked, headed, unread, body_at, message_at, account_in, feed, line_of};
+ghost use Rattle.cli_request.specs.Account.{line_over, kind_at, line_at, numbers_at, name_at, activation_of, activation_at, is_plain, sum_at, is_shown, are_shown, unshown, spaced, letters_at, credit_at, debit_at, payment_at, payments_at, head_at, terms_at, line_after, first_line, asked, headed, unread, body_at, message_at, account_in, line_of};
 
-use clock::Minute;
 use codes::Code;
 use request_read::terms::Activation;
 use request_write::{Order, Payable, Side};
-use text_scan::{At, Fixed};
 
-// How a value is spelled.
+// How a value is spelled. Kept an enum of kinds: `Four` is no absence of digits.
 #[derive(Clone, Copy)]
 pub enum Spelling {
     // Just so many digits.
     Digits(usize),
     // Four of A-Z 0-9.
     Four,
-}
-
-// A number, and the place past it.
-#[derive(Clone, Copy)]
-pub enum Told {
-    Number(u64, usize),
-    Untold,
-}
-
-// A number, a count, and the place past their line.
-#[derive(Clone, Copy)]
-pub enum Paired {
-    Numbers(u64, u64, usize),
-    Unpaired,
-}
-
-// A name, and the place past its line.
-#[derive(Clone, Copy)]
-pub enum ToldName {
-    Name(Code, usize),
-    Unnamed,
-}
-
-// An activation, and the place past its line.
-#[derive(Clone, Copy)]
-pub enum Timed {
-    From(Activation, usize),
-    Untimed,
-}
-
-// Cents, a bank, and the place past them.
-#[derive(Clone, Copy)]
-pub enum Sum {
-    Owed(u64, u64, usize),
-    NotOwed,
-}
-
-// A payment, and the place past its line.
-#[derive(Clone, Copy)]
-pub enum ToldPayment {
-    One(Payable, usize),
-    Unpaid,
 }
 
 // What a line is to say.
@@ -80,25 +36,12 @@ pub enum Expected {
     Nothing,
 }
 
-// The account is read to its end, or to the line at a place that does not say what was expected.
-#[derive(Clone, Copy)]
-pub enum Extent {
-    Whole,
-    Unread(usize, Expected),
-}
-
 #[derive(Clone, Copy)]
 pub struct ToldHead {
     pub subtype: u64,
     pub reference: Code,
     pub stream: u64,
     pub bin: Code,
-}
-
-#[derive(Clone, Copy)]
-pub enum Heading {
-    Headed(ToldHead, usize),
-    Unheaded(usize, Expected),
 }
 
 #[derive(Clone, Copy)]
@@ -109,131 +52,102 @@ pub struct ToldTerms {
     pub activation: Activation,
 }
 
-#[derive(Clone, Copy)]
-pub enum Termed {
-    Stated(ToldTerms, usize),
-    Unstated(usize, Expected),
-}
-
-// The first n lines are payments, where no more than ten are told.
+// The first n lines are payments, where no more than ten are told. The account is read to its end, or to the line at a place
+// that does not say what was expected.
 #[derive(Clone, Copy)]
 pub struct ToldPayments {
     pub payments: [Payable; 10],
     pub n: usize,
-    pub ending: Extent,
+    pub ending: Result<(), (usize, Expected)>,
 }
 
-// The order is as far as the account was read.
+// The order is as far as the account was read: to its end, or to the line at a place that does not say what was expected.
 #[derive(Clone, Copy)]
 pub struct Account {
     pub order: Order,
-    pub ending: Extent,
+    pub ending: Result<(), (usize, Expected)>,
 }
 
 // A line ends with a line feed, a CR before it or not, or with the account.
-pub fn line_over(s: &[u8], at: usize) -> At
+#[tactic(auto, unfolding(crate::specs::Account::line_over))]
+pub fn line_over(s: &[u8], at: usize) -> Option<usize>
     ensures { result ≡ line_over s.now at }
 {
     if s.len() <= at {
-        return At::Next(at);
+        return Some(at);
     }
     if s[at] == b'\n' {
-        return At::Next(at + 1);
+        return Some(at + 1);
     }
     text_scan::lit(s, at, b"\r\n")
 }
 
-fn read_kind(s: &[u8], at: usize, kind: Spelling) -> Told
+// A number, and the place past it.
+#[tactic(auto, unfolding(crate::specs::Account::kind_at))]
+fn read_kind(s: &[u8], at: usize, kind: Spelling) -> Option<(u64, usize)>
     ensures { result ≡ kind_at s.now at kind }
 {
     match kind {
-        Spelling::Digits(k) => {
-            let Fixed::Value(v, e) = text_scan::number(s, at, k) else {
-                return Told::Untold;
-            };
-            Told::Number(v, e)
-        }
+        Spelling::Digits(k) => { text_scan::number(s, at, k) }
         Spelling::Four => {
-            let At::Next(e) = text_scan::code(s, at, 4) else {
-                return Told::Untold;
-            };
-            Told::Number(codes::short_code(s, at), e)
+            let e = text_scan::code(s, at, 4)?;
+            Some((codes::short_code(s, at), e))
         }
     }
 }
 
 // A line: its name, its value and its end.
-fn read_line(s: &[u8], at: usize, name: &[u8], kind: Spelling) -> Told
+#[tactic(auto, unfolding(crate::specs::Account::line_at))]
+fn read_line(s: &[u8], at: usize, name: &[u8], kind: Spelling) -> Option<(u64, usize)>
     ensures { result ≡ line_at s.now at name.now kind }
 {
-    let At::Next(a) = text_scan::lit(s, at, name) else {
-        return Told::Untold;
-    };
-    let Told::Number(v, b) = read_kind(s, a, kind) else {
-        return Told::Untold;
-    };
-    let At::Next(c) = line_over(s, b) else {
-        return Told::Untold;
-    };
-    Told::Number(v, c)
+    let a = text_scan::lit(s, at, name)?;
+    let (v, b) = read_kind(s, a, kind)?;
+    let c = line_over(s, b)?;
+    Some((v, c))
 }
 
 // The line of a message's number and count, two digits each.
-fn read_numbers(s: &[u8], at: usize) -> Paired
+#[tactic(auto, unfolding(crate::specs::Account::numbers_at))]
+fn read_numbers(s: &[u8], at: usize) -> Option<(u64, u64, usize)>
     ensures { result ≡ numbers_at s.now at }
 {
-    let At::Next(a) = text_scan::lit(s, at, b"message ") else {
-        return Paired::Unpaired;
-    };
-    let Fixed::Value(n, b) = text_scan::number(s, a, 2) else {
-        return Paired::Unpaired;
-    };
-    let At::Next(c) = text_scan::lit(s, b, b"/") else {
-        return Paired::Unpaired;
-    };
-    let Told::Number(m, d) = read_line(s, c, b"", Spelling::Digits(2)) else {
-        return Paired::Unpaired;
-    };
-    Paired::Numbers(n, m, d)
+    let a = text_scan::lit(s, at, b"message ")?;
+    let (n, b) = text_scan::number(s, a, 2)?;
+    let c = text_scan::lit(s, b, b"/")?;
+    let (m, d) = read_line(s, c, b"", Spelling::Digits(2))?;
+    Some((n, m, d))
 }
 
 // A line of a name of A-Z 0-9.
-fn read_name(s: &[u8], at: usize, name: &[u8], most: usize) -> ToldName
+#[tactic(auto, using(crate::proofs::Laws::codes_past), unfolding(crate::specs::Account::name_at))]
+fn read_name(s: &[u8], at: usize, name: &[u8], most: usize) -> Option<(Code, usize)>
     ensures { result ≡ name_at s.now at name.now most }
 {
-    let At::Next(a) = text_scan::lit(s, at, name) else {
-        return ToldName::Unnamed;
-    };
+    let a = text_scan::lit(s, at, name)?;
     let b = text_scan::codes(s, a, most);
-    let At::Next(c) = line_over(s, b) else {
-        return ToldName::Unnamed;
-    };
-    ToldName::Name(codes::long_code(s, a, b - a), c)
+    let c = line_over(s, b)?;
+    Some((codes::long_code(s, a, b - a), c))
 }
 
 // Of HHMM that is no time, a minute that no text can hold.
+#[tactic(auto, unfolding(crate::specs::Account::activation_of))]
 fn activation_of(hhmm: u64) -> Activation
     ensures { result ≡ activation_of hhmm }
 {
-    match clock::minute_of(hhmm) {
-        Minute::Number(m) => Activation::Minute(m),
-        Minute::Untrue => Activation::Minute(1_440),
-    }
+    Activation::Minute(clock::minute_of(hhmm).unwrap_or(1_440))
 }
 
-fn read_activation(s: &[u8], at: usize) -> Timed
+#[tactic(auto, unfolding(crate::specs::Account::activation_at))]
+fn read_activation(s: &[u8], at: usize) -> Option<(Activation, usize)>
     ensures { result ≡ activation_at s.now at }
 {
-    if let At::Next(a) = text_scan::lit(s, at, b"activation none") {
-        let At::Next(b) = line_over(s, a) else {
-            return Timed::Untimed;
-        };
-        return Timed::From(Activation::AtOnce, b);
+    if let Some(a) = text_scan::lit(s, at, b"activation none") {
+        let b = line_over(s, a)?;
+        return Some((Activation::AtOnce, b));
     }
-    let Told::Number(v, c) = read_line(s, at, b"activation ", Spelling::Digits(4)) else {
-        return Timed::Untimed;
-    };
-    Timed::From(activation_of(v), c)
+    let (v, c) = read_line(s, at, b"activation ", Spelling::Digits(4))?;
+    Some((activation_of(v), c))
 }
 
 // 0 past the end.
@@ -244,60 +158,43 @@ fn byte(s: &[u8], at: usize) -> u8
 }
 
 // Some digits, and no needless zero before them.
+#[tactic(auto, unfolding(crate::specs::Account::is_plain))]
 pub fn is_plain(s: &[u8], at: usize, end: usize) -> bool
     ensures { result ≡ is_plain s.now at end }
 {
-    if end <= at {
-        return false;
-    }
-    if byte(s, at) == b'0' {
-        return end == at + 1;
-    }
-    true
+    at < end && (byte(s, at) != b'0' || end == at + 1)
 }
 
 // Cents, a space and a bank.
-fn read_sum(s: &[u8], at: usize) -> Sum
+#[tactic(auto, unfolding(crate::specs::Account::sum_at))]
+fn read_sum(s: &[u8], at: usize) -> Option<(u64, u64, usize)>
     ensures { result ≡ sum_at s.now at }
 {
     let cents = text_scan::digits(s, at, 18);
     if !is_plain(s, at, cents.end) {
-        return Sum::NotOwed;
+        return None;
     }
-    let At::Next(b) = text_scan::lit(s, cents.end, b" ") else {
-        return Sum::NotOwed;
-    };
-    let At::Next(c) = text_scan::code(s, b, 4) else {
-        return Sum::NotOwed;
-    };
-    Sum::Owed(cents.value, codes::short_code(s, b), c)
+    let b = text_scan::lit(s, cents.end, b" ")?;
+    let c = text_scan::code(s, b, 4)?;
+    Some((cents.value, codes::short_code(s, b), c))
 }
 
+#[tactic(auto, unfolding(crate::specs::Account::is_shown))]
 fn is_shown(b: u8) -> bool
     ensures { result ≡ is_shown b }
 {
-    if b == b'-' {
-        return true;
-    }
-    chars::is_letter(b)
+    b == b'-' || chars::is_letter(b)
 }
 
+#[tactic(auto, unfolding(crate::specs::Account::are_shown))]
 fn are_shown(b: [u8; 4]) -> bool
     ensures { result ≡ are_shown b }
 {
-    if !is_shown(b[0]) {
-        return false;
-    }
-    if !is_shown(b[1]) {
-        return false;
-    }
-    if !is_shown(b[2]) {
-        return false;
-    }
-    is_shown(b[3])
+    is_shown(b[0]) && is_shown(b[1]) && is_shown(b[2]) && is_shown(b[3])
 }
 
 // A dash stands for a space.
+#[tactic(auto, unfolding(crate::specs::Account::unshown))]
 fn unshown(b: u8) -> u8
     ensures { result ≡ unshown b }
 {
@@ -305,6 +202,7 @@ fn unshown(b: u8) -> u8
 }
 
 // The number of four letters.
+#[tactic(auto, unfolding(crate::specs::Account::spaced))]
 fn spaced(b: [u8; 4]) -> u64
     ensures { result ≡ short_at (spaced b) 0 }
 {
@@ -313,76 +211,53 @@ fn spaced(b: [u8; 4]) -> u64
 }
 
 // Four letters.
-fn read_letters(s: &[u8], at: usize) -> Told
+#[tactic(auto, unfolding(crate::specs::Account::letters_at))]
+fn read_letters(s: &[u8], at: usize) -> Option<(u64, usize)>
     ensures { result ≡ letters_at s.now at }
 {
-    if s.len() < 4 {
-        return Told::Untold;
-    }
-    if s.len() - 4 < at {
-        return Told::Untold;
+    if s.len() < 4 || s.len() - 4 < at {
+        return None;
     }
     let b = [s[at], s[at + 1], s[at + 2], s[at + 3]];
     if !are_shown(b) {
-        return Told::Untold;
+        return None;
     }
-    Told::Number(spaced(b), at + 4)
+    Some((spaced(b), at + 4))
 }
 
-fn read_credit(s: &[u8], at: usize) -> ToldPayment
+#[tactic(auto, unfolding(crate::specs::Account::credit_at))]
+fn read_credit(s: &[u8], at: usize) -> Option<(Payable, usize)>
     ensures { result ≡ credit_at s.now at }
 {
-    let Sum::Owed(cents, bank, a) = read_sum(s, at) else {
-        return ToldPayment::Unpaid;
-    };
-    let At::Next(b) = line_over(s, a) else {
-        return ToldPayment::Unpaid;
-    };
-    ToldPayment::One(
-        Payable {
-            side: Side::Credit,
-            cents,
-            bank,
-        },
-        b,
-    )
+    let (cents, bank, a) = read_sum(s, at)?;
+    let b = line_over(s, a)?;
+    let side = Side::Credit;
+    Some((Payable { side, cents, bank }, b))
 }
 
-fn read_debit(s: &[u8], at: usize) -> ToldPayment
+#[tactic(auto, unfolding(crate::specs::Account::debit_at))]
+fn read_debit(s: &[u8], at: usize) -> Option<(Payable, usize)>
     ensures { result ≡ debit_at s.now at }
 {
-    let Sum::Owed(cents, bank, a) = read_sum(s, at) else {
-        return ToldPayment::Unpaid;
-    };
-    let At::Next(b) = text_scan::lit(s, a, b" ") else {
-        return ToldPayment::Unpaid;
-    };
-    let Told::Number(letters, c) = read_letters(s, b) else {
-        return ToldPayment::Unpaid;
-    };
-    let At::Next(d) = line_over(s, c) else {
-        return ToldPayment::Unpaid;
-    };
-    ToldPayment::One(
-        Payable {
-            side: Side::Debit(letters),
-            cents,
-            bank,
-        },
-        d,
-    )
+    let (cents, bank, a) = read_sum(s, at)?;
+    let b = text_scan::lit(s, a, b" ")?;
+    let (letters, c) = read_letters(s, b)?;
+    let d = line_over(s, c)?;
+    let side = Side::Debit(letters);
+    Some((Payable { side, cents, bank }, d))
 }
 
-fn read_payment(s: &[u8], at: usize) -> ToldPayment
+#[tactic(auto, unfolding(crate::specs::Account::payment_at))]
+fn read_payment(s: &[u8], at: usize) -> Option<(Payable, usize)>
     ensures { result ≡ payment_at s.now at }
 {
-    if let At::Next(a) = text_scan::lit(s, at, b"payment CR ") {
+    if let Some(a) = text_scan::lit(s, at, b"payment CR ") {
         return read_credit(s, a);
     }
-    if let At::Next(a) = text_scan::lit(s, at, b"payment DR ") {
+    if let Some(a) = text_scan::lit(s, at, b"payment DR ") {
         return read_debit(s, a);
     }
-    ToldPayment::Unpaid
+    None
 }
 
 // An eleventh payment is counted and not kept: no text can hold it.
@@ -395,27 +270,25 @@ fn read_payments(s: &[u8], at: usize) -> ToldPayments
         bank: 0,
     };
     let mut payments = [none; 10];
-    let mut n = 0;
     let mut here = at;
-    while n < 10 {
+    for n in 0..10 {
         if s.len() <= here {
             return ToldPayments {
                 payments,
                 n,
-                ending: Extent::Whole,
+                ending: Ok(()),
             };
         }
         match read_payment(s, here) {
-            ToldPayment::Unpaid => {
+            None => {
                 return ToldPayments {
                     payments,
                     n,
-                    ending: Extent::Unread(here, Expected::Payment),
+                    ending: Err((here, Expected::Payment)),
                 };
             }
-            ToldPayment::One(p, next) => {
+            Some((p, next)) => {
                 payments[n] = p;
-                n += 1;
                 here = next;
             }
         }
@@ -423,124 +296,111 @@ fn read_payments(s: &[u8], at: usize) -> ToldPayments
     if s.len() <= here {
         return ToldPayments {
             payments,
-            n,
-            ending: Extent::Whole,
+            n: 10,
+            ending: Ok(()),
         };
     }
-    let ToldPayment::One(_, _) = read_payment(s, here) else {
-        return ToldPayments {
+    match read_payment(s, here) {
+        None => ToldPayments {
             payments,
-            n,
-            ending: Extent::Unread(here, Expected::Payment),
-        };
-    };
-    ToldPayments {
-        payments,
-        n: 11,
-        ending: Extent::Whole,
+            n: 10,
+            ending: Err((here, Expected::Payment)),
+        },
+        Some(_) => ToldPayments {
+            payments,
+            n: 11,
+            ending: Ok(()),
+        },
     }
 }
 
-fn read_head(s: &[u8], at: usize) -> Heading
+// The head, and the place past it; or the place of the line that does not say what was expected, and what that was.
+#[tactic(auto, unfolding(crate::specs::Account::head_at))]
+fn read_head(s: &[u8], at: usize) -> Result<(ToldHead, usize), (usize, Expected)>
     ensures { result ≡ head_at s.now at }
 {
-    let Told::Number(subtype, a) = read_line(s, at, b"accepted ", Spelling::Digits(3)) else {
-        return Heading::Unheaded(at, Expected::SubType);
+    let (subtype, a) = read_line(s, at, b"accepted ", Spelling::Digits(3)).ok_or((
+        at,
+        Expected::SubType,
+    ))?;
+    let (reference, b) = read_name(s, a, b"reference ", 16).ok_or((a, Expected::Reference))?;
+    let (stream, c) = read_line(s, b, b"stream ", Spelling::Four).ok_or((b, Expected::Stream))?;
+    let (bin, d) = read_name(s, c, b"bin ", 8).ok_or((c, Expected::Bin))?;
+    let head = ToldHead {
+        subtype,
+        reference,
+        stream,
+        bin,
     };
-    let ToldName::Name(reference, b) = read_name(s, a, b"reference ", 16) else {
-        return Heading::Unheaded(a, Expected::Reference);
-    };
-    let Told::Number(stream, c) = read_line(s, b, b"stream ", Spelling::Four) else {
-        return Heading::Unheaded(b, Expected::Stream);
-    };
-    let ToldName::Name(bin, d) = read_name(s, c, b"bin ", 8) else {
-        return Heading::Unheaded(c, Expected::Bin);
-    };
-    Heading::Headed(
-        ToldHead {
-            subtype,
-            reference,
-            stream,
-            bin,
-        },
-        d,
-    )
+    Ok((head, d))
 }
 
-fn read_terms(s: &[u8], at: usize) -> Termed
+// The terms of a 131, and the place past them; or what was expected, likewise.
+#[tactic(auto, unfolding(crate::specs::Account::terms_at))]
+fn read_terms(s: &[u8], at: usize) -> Result<(ToldTerms, usize), (usize, Expected)>
     ensures { result ≡ terms_at s.now at }
 {
-    let Paired::Numbers(number, count, a) = read_numbers(s, at) else {
-        return Termed::Unstated(at, Expected::Message);
+    let (number, count, a) = read_numbers(s, at).ok_or((at, Expected::Message))?;
+    let (date, b) = read_line(s, a, b"date ", Spelling::Digits(6)).ok_or((a, Expected::Date))?;
+    let (activation, c) = read_activation(s, b).ok_or((b, Expected::Activation))?;
+    let terms = ToldTerms {
+        number,
+        count,
+        date,
+        activation,
     };
-    let Told::Number(date, b) = read_line(s, a, b"date ", Spelling::Digits(6)) else {
-        return Termed::Unstated(a, Expected::Date);
-    };
-    let Timed::From(activation, c) = read_activation(s, b) else {
-        return Termed::Unstated(b, Expected::Activation);
-    };
-    Termed::Stated(
-        ToldTerms {
-            number,
-            count,
-            date,
-            activation,
-        },
-        c,
-    )
+    Ok((terms, c))
 }
 
 // Where the next line begins.
 fn line_after(s: &[u8], at: usize) -> usize
     ensures { result ≡ line_after s.now at }
 {
-    let mut i = at;
-    while i < s.len() {
+    for i in at..s.len() {
         if s[i] == b'\n' {
             return i + 1;
         }
-        i += 1;
     }
-    i
+    at.max(s.len())
 }
 
 // A line that names the file may come first.
+#[tactic(auto, unfolding(crate::specs::Account::first_line))]
 pub fn first_line(s: &[u8]) -> usize
     ensures { result ≡ first_line s.now }
 {
-    let At::Next(a) = text_scan::lit(s, 0, b"file ") else {
-        return 0;
-    };
-    line_after(s, a)
+    match text_scan::lit(s, 0, b"file ") {
+        Some(a) => line_after(s, a),
+        None => 0,
+    }
 }
 
+#[tactic(auto, unfolding(crate::specs::Account::asked))]
 fn asked(h: ToldHead, t: ToldTerms, p: ToldPayments) -> Account
     ensures { result ≡ asked h t p }
 {
-    let reference = h.reference;
-    let bin = h.bin;
-    let activation = t.activation;
     let payments = p.payments;
-    let ending = p.ending;
+    let order = Order {
+        subtype: h.subtype,
+        reference: h.reference,
+        stream: h.stream,
+        bin: h.bin,
+        number: t.number,
+        count: t.count,
+        date: t.date,
+        activation: t.activation,
+        payments,
+        n: p.n,
+    };
     Account {
-        order: Order {
-            subtype: h.subtype,
-            reference,
-            stream: h.stream,
-            bin,
-            number: t.number,
-            count: t.count,
-            date: t.date,
-            activation,
-            payments,
-            n: p.n,
-        },
-        ending,
+        order,
+        ending: p.ending,
     }
 }
 
 // The head alone.
-fn headed(h: ToldHead, ending: Extent) -> Account
+#[tactic(auto, unfolding(crate::specs::Account::headed))]
+fn headed(h: ToldHead, ending: Result<(), (usize, Expected)>) -> Account
     ensures { result ≡ headed h ending }
 {
     let none = Payable {
@@ -565,6 +425,7 @@ fn headed(h: ToldHead, ending: Extent) -> Account
     )
 }
 
+#[tactic(auto, unfolding(crate::specs::Account::unread))]
 fn unread(at: usize, expected: Expected) -> Account
     ensures { result ≡ unread at expected }
 {
@@ -575,65 +436,56 @@ fn unread(at: usize, expected: Expected) -> Account
         stream: 0,
         bin: none,
     };
-    headed(head, Extent::Unread(at, expected))
+    headed(head, Err((at, expected)))
 }
 
 // What follows the head of a 131.
+#[tactic(auto, unfolding(crate::specs::Account::message_at))]
 fn read_message(s: &[u8], at: usize, head: ToldHead) -> Account
     ensures { result ≡ message_at s.now at head }
 {
     match read_terms(s, at) {
-        Termed::Unstated(here, expected) => headed(head, Extent::Unread(here, expected)),
-        Termed::Stated(terms, next) => asked(head, terms, read_payments(s, next)),
+        Err(unread) => headed(head, Err(unread)),
+        Ok((terms, next)) => asked(head, terms, read_payments(s, next)),
     }
 }
 
 // A recall ends after its head; what follows another sub type is not read, since the writer refuses it.
+#[tactic(auto, unfolding(crate::specs::Account::body_at))]
 fn read_body(s: &[u8], at: usize, head: ToldHead) -> Account
     ensures { result ≡ body_at s.now at head }
 {
     if head.subtype == 131 {
         return read_message(s, at, head);
     }
-    if head.subtype != 133 {
-        return headed(head, Extent::Whole);
+    if head.subtype == 133 && at < s.len() {
+        return headed(head, Err((at, Expected::Nothing)));
     }
-    if at < s.len() {
-        return headed(head, Extent::Unread(at, Expected::Nothing));
-    }
-    headed(head, Extent::Whole)
+    headed(head, Ok(()))
 }
 
 // The order that an account asks for.
+#[tactic(auto, unfolding(crate::specs::Account::account_in))]
 pub fn read_account(s: &[u8]) -> Account
     ensures { result ≡ account_in s.now }
 {
     match read_head(s, first_line(s)) {
-        Heading::Unheaded(at, expected) => unread(at, expected),
-        Heading::Headed(head, at) => read_body(s, at, head),
+        Err((at, expected)) => unread(at, expected),
+        Ok((head, at)) => read_body(s, at, head),
     }
 }
 
-// How many lines a byte ends.
-fn feeds(b: u8) -> usize
-    ensures value { result ≡ feed b }
-    ensures small { result ≤ 1 }
+// How many lines end.
+fn feeds(s: &[u8]) -> usize
+    ensures value { result ≡ count_by (λ b. eqb b 10) s.now }
+    ensures small { result ≤ length s.now }
 {
-    if b == b'\n' { 1 } else { 0 }
+    s.iter().filter(|b| **b == b'\n').count()
 }
 
 // The number of the line at a place, from 1.
 pub fn line_of(s: &[u8], at: usize) -> usize
     ensures { result ≡ line_of s.now at }
 {
-    let mut i = 0;
-    let mut line = 1;
-    while i < s.len() {
-        if at <= i {
-            return line;
-        }
-        line += feeds(s[i]);
-        i += 1;
-    }
-    line
+    1 + feeds(&s[..at.min(s.len())])
 }

@@ -22,21 +22,15 @@ fn payment_of(payments: [Payable; 10], n: usize, from: usize, line: usize) -> us
     ensures value { result ≡ payment_of payments n from line }
     ensures small { result ≤ 10 }
 {
-    let mut k = 0;
+    let most = n.min(10);
     let mut end = from;
-    while k < 10 {
-        if n <= k {
-            return k;
-        }
-        let p = payments[k];
-        let side = p.side;
-        end += lines_of(side);
+    for k in 0..most {
+        end += lines_of(payments[k].side);
         if line < end {
             return k;
         }
-        k += 1;
     }
-    k
+    most
 }
 
 // Counted from the account's first line, which names the sub type; line 1 of a text is that of 20.
@@ -48,8 +42,7 @@ pub fn account_line(o: Order, line: usize) -> usize
         return heads[line];
     }
     let payments = o.payments;
-    let activation = o.activation;
-    match activation {
+    match o.activation {
         Activation::AtOnce => 8 + payment_of(payments, o.n, 8, line),
         Activation::Minute(_) => {
             if line == 8 {

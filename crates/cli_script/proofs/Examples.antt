@@ -6,7 +6,7 @@ use Rattle.chars.specs.Words.{bytes}
 use Rattle.chars.specs.Chars.{is_digit, digit_value}
 use Rattle.codes.specs.Codes.{short_at, pack_on}
 use Rattle.text_scan.specs.Scan.{lit_at, begins, digits_at, digits, number_at as digits_of}
-use Rattle.cli_script.specs.Lines.{greatest, no_date, line_in, is_blank, start_from, word_start, word_end, end_from, is_end, word_at, is_word, is_long, with_digit, number_from, number_at}
+use Rattle.cli_script.specs.Lines.{greatest, no_date, line_in, is_blank, until, word_start, word_end, is_end, word_at, is_word, is_long, with_digit, number_from, number_at}
 use Rattle.cli_script.specs.Lines.{seconds_of, pair_at, time_at, clock_at, bank_at, date_at, ended, open_at, sublimit_at, tick_at, close_at, closing_at, next_call, first_call}
 use Rattle.cli_script.specs.declared.Line.{Line}
 use Rattle.cli_script.specs.declared.Line.TheVariants.{Skip, Clear, Open, SubLimit, Tick, Closing, NotACall}
@@ -51,5 +51,5 @@ asked =
     Closing 5 no_date 17 ∷ Closing 5 270204 17 ∷ Skip ∷ Skip ∷ Skip ∷ Clear ∷ Clear ∷ NotACall 5 LineEnd ∷ []
 
 pub lines_asked : map line_in texts ≡ asked
-unfolding line_in is_blank start_from word_start word_end end_from is_end word_at is_word is_long with_digit number_from number_at seconds_of pair_at time_at clock_at bank_at date_at ended open_at sublimit_at tick_at close_at closing_at next_call first_call lit_at begins digits_of digits_at digits is_digit digit_value short_at pack_on
+unfolding line_in is_blank until word_start word_end is_end word_at is_word is_long with_digit number_from number_at seconds_of pair_at time_at clock_at bank_at date_at ended open_at sublimit_at tick_at close_at closing_at next_call first_call lit_at begins digits_of digits_at digits is_digit digit_value short_at pack_on
 lines_asked = refl

@@ -1,13 +1,12 @@
 // One line of a script: the call that it asks for, or where it is none and what was expected there.
 #![tactic(auto)]
 
-ghost use Rattle.std.specs.Prelude.{◌≡◌, get_or, drop};
-ghost use Rattle.cli_script.specs.Lines.{is_blank, word_start, word_end, is_end, word_at, is_word, is_long, with_digit, number_from, number_at};
+ghost use Rattle.std.specs.Prelude.{◌≡◌, ◌<◌, ℕ, Bool, cond, get_or, drop, Some, None};
+ghost use Rattle.cli_script.specs.Lines.{on_word, is_blank, until, word_start, word_end, is_end, word_at, is_word, is_long, with_digit, number_from, number_at};
 ghost use Rattle.cli_script.specs.Lines.{seconds_of, pair_at, time_at, clock_at, bank_at, letter_at, date_at, bin_at, ended, open_at, message_at, sublimit_at};
 ghost use Rattle.cli_script.specs.Lines.{status_at, tick_at, close_at, closing_at, first_call, next_call, line_in};
 
 use codes::Code;
-use text_scan::{At, Fixed};
 
 // What a line asks for. A file's name is a word: it begins at a place.
 #[derive(Clone, Copy)]
@@ -47,245 +46,185 @@ pub enum Wanted {
     LineEnd,
 }
 
-// A word: where it begins, and the place past it.
-#[derive(Clone, Copy)]
-pub enum Part {
-    Word(usize, usize),
-    NoWord,
-}
-
-// A number, and the place past its word.
-#[derive(Clone, Copy)]
-pub enum Told {
-    Number(u64, usize),
-    Untold,
-}
-
-// A BIN, and the place past its word.
-#[derive(Clone, Copy)]
-pub enum Named {
-    Bin(Code, usize),
-    Unnamed,
-}
-
-#[derive(Clone, Copy)]
-pub enum Sum {
-    Value(u64),
-    Over,
-}
-
-const MOST: u64 = 18_446_744_073_709_551_615;
-
 // A number that is no date.
 const NO_DATE: u64 = 1_000_000;
 
 // A CR before the line feed is a blank, too.
+#[tactic(auto, unfolding(crate::specs::Lines::is_blank))]
 fn is_blank(b: u8) -> bool
     ensures { result ≡ is_blank b }
 {
-    match b {
-        b'\t' => true,
-        b'\r' => true,
-        b' ' => true,
-        _ => false,
+    b == b'\t' || b == b'\r' || b == b' '
+}
+
+// The next place from a place on whose byte passes a test, or the end of the line.
+fn next_that<F: Fn(u8) -> bool>(s: &[u8], at: usize, stops: F) -> usize
+    requires { F.IsAlwaysCallable stops }
+    ensures { (f : ℕ → Bool) → ((b : ℕ) (r : Bool) → b < 256 → F.post stops b r → r ≡ f b) → result ≡ until f at (drop at s.now) }
+{
+    for i in at..s.len() {
+        if stops(s[i]) {
+            return i;
+        }
     }
+    at.max(s.len())
 }
 
 // The next byte from a place on that is no blank, or the end of the line.
+#[tactic(auto, unfolding(crate::specs::Lines::word_start))]
 pub fn word_start(s: &[u8], at: usize) -> usize
     ensures { result ≡ word_start s.now at }
 {
-    let mut i = at;
-    while i < s.len() {
-        if !is_blank(s[i]) {
-            return i;
-        }
-        i += 1;
-    }
-    i
+    next_that(s, at, |b| !is_blank(b))
 }
 
 // Where the word at a place ends: at the next blank, or with the line.
+#[tactic(auto, unfolding(crate::specs::Lines::word_end))]
 pub fn word_end(s: &[u8], at: usize) -> usize
     ensures { result ≡ word_end s.now at }
 {
-    let mut i = at;
-    while i < s.len() {
-        if is_blank(s[i]) {
-            return i;
-        }
-        i += 1;
-    }
-    i
+    next_that(s, at, is_blank)
 }
 
 // No word begins at this place: the line ends, or a comment begins.
+#[tactic(auto, unfolding(crate::specs::Lines::is_end))]
 fn is_end(s: &[u8], at: usize) -> bool
     ensures { result ≡ is_end s.now at }
 {
-    if at < s.len() { s[at] == b'#' } else { true }
+    s.len() <= at || s[at] == b'#'
 }
 
-// The next word from a place on.
-fn word(s: &[u8], at: usize) -> Part
+// The next word from a place on: where it begins, and the place past it.
+#[tactic(auto, unfolding(crate::specs::Lines::word_at))]
+fn word(s: &[u8], at: usize) -> Option<(usize, usize)>
     ensures { result ≡ word_at s.now at }
 {
     let a = word_start(s, at);
     if is_end(s, a) {
-        return Part::NoWord;
+        return None;
     }
-    Part::Word(a, word_end(s, a))
+    Some((a, word_end(s, a)))
 }
 
 // Whether a word is this one.
+#[tactic(auto, unfolding(crate::specs::Lines::is_word))]
 fn is_word(s: &[u8], a: usize, e: usize, name: &[u8]) -> bool
     ensures { result ≡ is_word s.now a e name.now }
 {
-    let At::Next(x) = text_scan::lit(s, a, name) else {
-        return false;
-    };
-    x == e
+    text_scan::lit(s, a, name) == Some(e)
 }
 
 // Whether a word has just so many bytes.
+#[tactic(auto, unfolding(crate::specs::Lines::is_long))]
 fn is_long(a: usize, e: usize, n: usize) -> bool
     ensures { result ≡ is_long a e n }
 {
-    if e < a {
-        return 0 == n;
-    }
-    e - a == n
+    e.saturating_sub(a) == n
 }
 
 // A number with one more digit.
-fn with_digit(v: u64, b: u8) -> Sum
+#[tactic(auto, unfolding(crate::specs::Lines::with_digit))]
+fn with_digit(v: u64, b: u8) -> Option<u64>
     ensures { result ≡ with_digit v b }
 {
     if !chars::is_digit(b) {
-        return Sum::Over;
+        return None;
     }
-    let d = chars::digit_value(b);
-    if MOST / 10 < v {
-        return Sum::Over;
-    }
-    let tens = 10 * v;
-    if MOST - tens < d {
-        return Sum::Over;
-    }
-    Sum::Value(tens + d)
+    v.checked_mul(10)?.checked_add(chars::digit_value(b))
 }
 
-fn number_from(s: &[u8], at: usize) -> Told
+// The number whose digits stand from a place on, and the place past its word.
+fn number_from(s: &[u8], at: usize) -> Option<(u64, usize)>
     ensures { result ≡ number_from at 0 (drop at s.now) }
 {
-    let mut i = at;
     let mut v = 0;
-    while i < s.len() {
+    for i in at..s.len() {
         let b = s[i];
         if is_blank(b) {
-            return Told::Number(v, i);
+            return Some((v, i));
         }
-        let Sum::Value(w) = with_digit(v, b) else {
-            return Told::Untold;
-        };
-        v = w;
-        i += 1;
+        v = with_digit(v, b)?;
     }
-    Told::Number(v, i)
+    Some((v, at.max(s.len())))
 }
 
-fn read_number(s: &[u8], at: usize) -> Told
+#[tactic(auto, unfolding(crate::specs::Lines::number_at))]
+fn read_number(s: &[u8], at: usize) -> Option<(u64, usize)>
     ensures { result ≡ number_at s.now at }
 {
-    let Part::Word(a, _) = word(s, at) else {
-        return Told::Untold;
-    };
+    let (a, _) = word(s, at)?;
     number_from(s, a)
 }
 
 // Hours, minutes and seconds as seconds of the day; the word ends at a place.
-fn seconds_of(hours: u64, minutes: u64, seconds: u64, e: usize) -> Told
+#[tactic(auto, unfolding(crate::specs::Lines::seconds_of))]
+fn seconds_of(hours: u64, minutes: u64, seconds: u64, e: usize) -> Option<(u64, usize)>
     ensures { result ≡ seconds_of hours minutes seconds e }
 {
-    if 23 < hours {
-        return Told::Untold;
+    if 23 < hours || 59 < minutes || 59 < seconds {
+        return None;
     }
-    if 59 < minutes {
-        return Told::Untold;
-    }
-    if 59 < seconds {
-        return Told::Untold;
-    }
-    Told::Number(3600 * hours + 60 * minutes + seconds, e)
+    Some((3600 * hours + 60 * minutes + seconds, e))
 }
 
 // Two digits and a colon.
-fn read_pair(s: &[u8], at: usize) -> Told
+#[tactic(auto, unfolding(crate::specs::Lines::pair_at))]
+fn read_pair(s: &[u8], at: usize) -> Option<(u64, usize)>
     ensures { result ≡ pair_at s.now at }
 {
-    let Fixed::Value(value, b) = text_scan::number(s, at, 2) else {
-        return Told::Untold;
-    };
-    let At::Next(c) = text_scan::lit(s, b, b":") else {
-        return Told::Untold;
-    };
-    Told::Number(value, c)
+    let (value, b) = text_scan::number(s, at, 2)?;
+    let c = text_scan::lit(s, b, b":")?;
+    Some((value, c))
 }
 
 // A word HH:MM:SS.
-fn read_time(s: &[u8], a: usize, e: usize) -> Told
+#[tactic(auto, unfolding(crate::specs::Lines::time_at))]
+fn read_time(s: &[u8], a: usize, e: usize) -> Option<(u64, usize)>
     ensures { result ≡ time_at s.now a e }
 {
-    let Told::Number(hours, b) = read_pair(s, a) else {
-        return Told::Untold;
-    };
-    let Told::Number(minutes, c) = read_pair(s, b) else {
-        return Told::Untold;
-    };
-    let Fixed::Value(seconds, d) = text_scan::number(s, c, 2) else {
-        return Told::Untold;
-    };
-    if d == e {
-        return seconds_of(hours, minutes, seconds, e);
+    let (hours, b) = read_pair(s, a)?;
+    let (minutes, c) = read_pair(s, b)?;
+    let (seconds, d) = text_scan::number(s, c, 2)?;
+    if d != e {
+        return None;
     }
-    Told::Untold
+    seconds_of(hours, minutes, seconds, e)
 }
 
 // Seconds of the day, as a number or as HH:MM:SS.
-fn read_clock(s: &[u8], at: usize) -> Told
+#[tactic(auto, unfolding(crate::specs::Lines::clock_at))]
+fn read_clock(s: &[u8], at: usize) -> Option<(u64, usize)>
     ensures { result ≡ clock_at s.now at }
 {
-    let Part::Word(a, e) = word(s, at) else {
-        return Told::Untold;
-    };
-    if let Told::Number(clock, _) = read_time(s, a, e) {
-        return Told::Number(clock, e);
+    let (a, e) = word(s, at)?;
+    if let Some((clock, _)) = read_time(s, a, e) {
+        return Some((clock, e));
     }
     number_from(s, a)
 }
 
-fn read_bank(s: &[u8], at: usize) -> Told
-    ensures { result ≡ bank_at s.now at }
+// The next word from a place on, of just so many bytes.
+fn word_of(s: &[u8], at: usize, n: usize) -> Option<(usize, usize)>
+    ensures { result ≡ on_word (word_at s.now at) None (λ a e. cond (is_long a e n) (Some (a, e)) None) }
 {
-    let Part::Word(a, e) = word(s, at) else {
-        return Told::Untold;
-    };
-    if !is_long(a, e, 4) {
-        return Told::Untold;
-    }
-    Told::Number(codes::short_code(s, a), e)
+    let (a, e) = word(s, at)?;
+    if is_long(a, e, n) { Some((a, e)) } else { None }
 }
 
-fn read_bin(s: &[u8], at: usize) -> Named
+#[tactic(auto, unfolding(crate::specs::Lines::bank_at))]
+fn read_bank(s: &[u8], at: usize) -> Option<(u64, usize)>
+    ensures { result ≡ bank_at s.now at }
+{
+    let (a, e) = word_of(s, at, 4)?;
+    Some((codes::short_code(s, a), e))
+}
+
+#[tactic(auto, unfolding(crate::specs::Lines::bin_at))]
+fn read_bin(s: &[u8], at: usize) -> Option<(Code, usize)>
     ensures { result ≡ bin_at s.now at }
 {
-    let Part::Word(a, e) = word(s, at) else {
-        return Named::Unnamed;
-    };
-    if !is_long(a, e, 8) {
-        return Named::Unnamed;
-    }
-    Named::Bin(codes::long_code(s, a, 8), e)
+    let (a, e) = word_of(s, at, 8)?;
+    Some((codes::long_code(s, a, 8), e))
 }
 
 fn wide(b: u8) -> u64
@@ -301,35 +240,28 @@ fn byte(s: &[u8], at: usize) -> u64
     if at < s.len() { wide(s[at]) } else { 0 }
 }
 
-fn read_letter(s: &[u8], at: usize) -> Told
+#[tactic(auto, unfolding(crate::specs::Lines::letter_at))]
+fn read_letter(s: &[u8], at: usize) -> Option<(u64, usize)>
     ensures { result ≡ letter_at s.now at }
 {
-    let Part::Word(a, e) = word(s, at) else {
-        return Told::Untold;
-    };
-    if !is_long(a, e, 1) {
-        return Told::Untold;
-    }
-    Told::Number(byte(s, a), e)
+    let (a, e) = word_of(s, at, 1)?;
+    Some((byte(s, a), e))
 }
 
 // Six bytes that are no digits are no date.
-fn read_date(s: &[u8], at: usize) -> Told
+#[tactic(auto, unfolding(crate::specs::Lines::date_at))]
+fn read_date(s: &[u8], at: usize) -> Option<(u64, usize)>
     ensures { result ≡ date_at s.now at }
 {
-    let Part::Word(a, e) = word(s, at) else {
-        return Told::Untold;
-    };
-    if !is_long(a, e, 6) {
-        return Told::Untold;
+    let (a, e) = word_of(s, at, 6)?;
+    match text_scan::number(s, a, 6) {
+        Some((date, _)) => Some((date, e)),
+        None => Some((NO_DATE, e)),
     }
-    let Fixed::Value(date, _) = text_scan::number(s, a, 6) else {
-        return Told::Number(NO_DATE, e);
-    };
-    Told::Number(date, e)
 }
 
 // A line without a further word, or one that goes on and is no call.
+#[tactic(auto, unfolding(crate::specs::Lines::ended))]
 fn ended(s: &[u8], at: usize, line: Line) -> Line
     ensures { result ≡ ended s.now at line }
 {
@@ -339,99 +271,108 @@ fn ended(s: &[u8], at: usize, line: Line) -> Line
     Line::NotACall(at, Wanted::LineEnd)
 }
 
+#[tactic(auto, unfolding(crate::specs::Lines::open_at))]
 fn read_open(s: &[u8], at: usize) -> Line
     ensures { result ≡ open_at s.now at }
 {
-    let Told::Number(clock, a) = read_clock(s, at) else {
+    let Some((clock, a)) = read_clock(s, at) else {
         return Line::NotACall(at, Wanted::Clock);
     };
-    let Part::Word(file, e) = word(s, a) else {
+    let Some((file, e)) = word(s, a) else {
         return Line::NotACall(a, Wanted::FileName);
     };
     ended(s, e, Line::Open(clock, file))
 }
 
+#[tactic(auto, unfolding(crate::specs::Lines::message_at))]
+// Kept beside `read_sublimit` and `read_closing`: each names the words that its command has, in their order.
 fn read_message(s: &[u8], at: usize) -> Line
     ensures { result ≡ message_at s.now at }
 {
-    let Told::Number(clock, a) = read_clock(s, at) else {
+    let Some((clock, a)) = read_clock(s, at) else {
         return Line::NotACall(at, Wanted::Clock);
     };
-    let Told::Number(sender, b) = read_number(s, a) else {
+    let Some((sender, b)) = read_number(s, a) else {
         return Line::NotACall(a, Wanted::Sender);
     };
-    let Part::Word(file, e) = word(s, b) else {
+    let Some((file, e)) = word(s, b) else {
         return Line::NotACall(b, Wanted::FileName);
     };
     ended(s, e, Line::Message(clock, sender, file))
 }
 
+#[tactic(auto, unfolding(crate::specs::Lines::sublimit_at))]
 fn read_sublimit(s: &[u8], at: usize) -> Line
     ensures { result ≡ sublimit_at s.now at }
 {
-    let Told::Number(clock, a) = read_clock(s, at) else {
+    let Some((clock, a)) = read_clock(s, at) else {
         return Line::NotACall(at, Wanted::Clock);
     };
-    let Told::Number(bank, b) = read_bank(s, a) else {
+    let Some((bank, b)) = read_bank(s, a) else {
         return Line::NotACall(a, Wanted::Bank);
     };
-    let Told::Number(cents, e) = read_number(s, b) else {
+    let Some((cents, e)) = read_number(s, b) else {
         return Line::NotACall(b, Wanted::Cents);
     };
     ended(s, e, Line::SubLimit(clock, bank, cents))
 }
 
+#[tactic(auto, unfolding(crate::specs::Lines::status_at))]
 fn read_status(s: &[u8], at: usize) -> Line
     ensures { result ≡ status_at s.now at }
 {
-    let Told::Number(clock, a) = read_clock(s, at) else {
+    let Some((clock, a)) = read_clock(s, at) else {
         return Line::NotACall(at, Wanted::Clock);
     };
-    let Told::Number(bank, b) = read_bank(s, a) else {
+    let Some((bank, b)) = read_bank(s, a) else {
         return Line::NotACall(a, Wanted::Bank);
     };
-    let Named::Bin(bin, c) = read_bin(s, b) else {
+    let Some((bin, c)) = read_bin(s, b) else {
         return Line::NotACall(b, Wanted::BinCode);
     };
-    let Told::Number(letter, e) = read_letter(s, c) else {
+    let Some((letter, e)) = read_letter(s, c) else {
         return Line::NotACall(c, Wanted::Letter);
     };
     ended(s, e, Line::Status(clock, bank, bin, letter))
 }
 
+#[tactic(auto, unfolding(crate::specs::Lines::tick_at))]
 fn read_tick(s: &[u8], at: usize) -> Line
     ensures { result ≡ tick_at s.now at }
 {
-    let Told::Number(clock, e) = read_clock(s, at) else {
+    let Some((clock, e)) = read_clock(s, at) else {
         return Line::NotACall(at, Wanted::Clock);
     };
     ended(s, e, Line::Tick(clock))
 }
 
+#[tactic(auto, unfolding(crate::specs::Lines::close_at))]
 fn read_close(s: &[u8], at: usize) -> Line
     ensures { result ≡ close_at s.now at }
 {
-    let Told::Number(clock, e) = read_clock(s, at) else {
+    let Some((clock, e)) = read_clock(s, at) else {
         return Line::NotACall(at, Wanted::Clock);
     };
     ended(s, e, Line::Close(clock))
 }
 
+#[tactic(auto, unfolding(crate::specs::Lines::closing_at))]
 fn read_closing(s: &[u8], at: usize) -> Line
     ensures { result ≡ closing_at s.now at }
 {
-    let Told::Number(clock, a) = read_clock(s, at) else {
+    let Some((clock, a)) = read_clock(s, at) else {
         return Line::NotACall(at, Wanted::Clock);
     };
-    let Told::Number(date, b) = read_date(s, a) else {
+    let Some((date, b)) = read_date(s, a) else {
         return Line::NotACall(a, Wanted::Date);
     };
-    let Part::Word(file, e) = word(s, b) else {
+    let Some((file, e)) = word(s, b) else {
         return Line::NotACall(b, Wanted::FileName);
     };
     ended(s, e, Line::Closing(clock, date, file))
 }
 
+#[tactic(auto, unfolding(crate::specs::Lines::next_call))]
 fn next_call(s: &[u8], a: usize, e: usize) -> Line
     ensures { result ≡ next_call s.now a e }
 {
@@ -450,6 +391,7 @@ fn next_call(s: &[u8], a: usize, e: usize) -> Line
     Line::NotACall(a, Wanted::Command)
 }
 
+#[tactic(auto, unfolding(crate::specs::Lines::first_call))]
 fn first_call(s: &[u8], a: usize, e: usize) -> Line
     ensures { result ≡ first_call s.now a e }
 {
@@ -466,10 +408,11 @@ fn first_call(s: &[u8], a: usize, e: usize) -> Line
 }
 
 // What a line asks for. A line without a word is skipped.
+#[tactic(auto, unfolding(crate::specs::Lines::line_in))]
 pub fn read_line(s: &[u8]) -> Line
     ensures { result ≡ line_in s.now }
 {
-    let Part::Word(a, e) = word(s, 0) else {
+    let Some((a, e)) = word(s, 0) else {
         return Line::Skip;
     };
     if is_word(s, a, e, b"clear") {

@@ -4,45 +4,50 @@
 mod orders;
 
 use cli_files::Console;
+use cli_print::{EsaLetter, LongCode, ShortCode};
 use model::Phase;
+use orders::Stage;
 use queue_explain::{Debit, Held};
 use settle::{Bank, Batch};
+use std::fmt::Display;
 use tables::Desk;
 
 fn index(x: u64) -> usize {
     x as usize
 }
 
-fn show_moment(console: &Console, name: &[u8], desk: Desk) {
-    cli_print::text(console, b"day ");
-    cli_print::six_digits(console, dates::date_of(desk.date));
-    cli_print::text(console, name);
-    cli_print::field(console, b" clock ", desk.clock);
-    cli_print::field(console, b" texts ", desk.texts);
-    cli_print::end(console);
+fn show_moment(console: &Console, standing: &str, desk: Desk) {
+    let date = dates::date_of(desk.date);
+    cli_print::line(
+        console,
+        format_args!(
+            "day {date:06} {standing} clock {} texts {}",
+            desk.clock, desk.texts
+        ),
+    );
 }
 
 fn show_day(console: &Console, desk: Desk) {
-    let phase = desk.phase;
-    match phase {
-        Phase::Fresh => cli_print::text(console, b"day none\n"),
-        Phase::Open => show_moment(console, b" open", desk),
-        Phase::Closed => show_moment(console, b" closed", desk),
+    match desk.phase {
+        Phase::Fresh => cli_print::line(console, "day none"),
+        Phase::Open => show_moment(console, "open", desk),
+        Phase::Closed => show_moment(console, "closed", desk),
     }
 }
 
 fn show_bank(console: &Console, code: u64, flags: u64, balance: u64, sublimit: u64, waiting: u64) {
-    cli_print::text(console, b"bank ");
-    cli_print::code(console, code);
-    if flags % 2 == 1 {
-        cli_print::text(console, b" suspended");
+    let code = ShortCode(code);
+    let standing = if flags % 2 == 1 {
+        "suspended"
     } else {
-        cli_print::text(console, b" active");
-    }
-    cli_print::field(console, b" balance ", balance);
-    cli_print::field(console, b" sublimit ", sublimit);
-    cli_print::field(console, b" waiting ", waiting);
-    cli_print::end(console);
+        "active"
+    };
+    cli_print::line(
+        console,
+        format_args!(
+            "bank {code} {standing} balance {balance} sublimit {sublimit} waiting {waiting}"
+        ),
+    );
 }
 
 fn show_banks(
@@ -54,50 +59,38 @@ fn show_banks(
     sheet: &[u64],
     n: usize,
 ) {
-    let mut i = 0;
-    while i < Bank::MOST {
-        if i < n {
-            show_bank(
-                console,
-                orders::at(codes, i),
-                orders::at(flags, i),
-                orders::at(balances, i),
-                orders::at(sublimits, i),
-                orders::at(sheet, i),
-            );
-        }
-        i += 1;
+    for i in 0..n.min(Bank::MOST) {
+        show_bank(
+            console,
+            orders::at(codes, i),
+            orders::at(flags, i),
+            orders::at(balances, i),
+            orders::at(sublimits, i),
+            orders::at(sheet, i),
+        );
     }
 }
 
-fn show_bin(console: &Console, batches: &[u64], place: usize) {
-    if place < orders::NOWHERE {
-        cli_print::space(console);
-        cli_print::bin(console, orders::bin_of(batches, place));
-    }
-}
-
-// The BINs of a phase.
+// The BINs of a stage.
 fn show_order(
     console: &Console,
-    name: &[u8],
+    name: &str,
     batches: &[u64],
     bins: &[u64],
     date: u64,
-    phase: u64,
+    stage: Stage,
 ) {
-    cli_print::text(console, name);
-    let mut last = orders::next(batches, bins, date, phase, orders::NOWHERE);
-    let mut left = Batch::LIVE;
-    while 0 < left {
-        if orders::NOWHERE <= last {
+    let mut row = cli_print::begin(console);
+    row.put(name);
+    let mut last = None;
+    for _ in 0..Batch::LIVE {
+        last = orders::next(batches, bins, date, stage, last);
+        let Some(place) = last else {
             break;
-        }
-        show_bin(console, batches, last);
-        last = orders::next(batches, bins, date, phase, last);
-        left -= 1;
+        };
+        row.put(format_args!(" {}", LongCode(orders::bin_of(batches, place))));
     }
-    cli_print::end(console);
+    row.print_line();
 }
 
 pub fn show(
@@ -116,40 +109,20 @@ pub fn show(
     show_banks(
         console, codes, flags, balances, sublimits, sheet, desk.banks,
     );
-    show_order(console, b"queue", batches, bins, date, orders::QUEUED);
-    show_order(console, b"pending", batches, bins, date, orders::PENDING);
+    show_order(console, "queue", batches, bins, date, Stage::Queued);
+    show_order(console, "pending", batches, bins, date, Stage::Pending);
     show_order(
         console,
-        b"assembling",
+        "assembling",
         batches,
         bins,
         date,
-        orders::ASSEMBLING,
+        Stage::Assembling,
     );
 }
 
-// The debit that holds a batch, and the account that it is held at.
+// The debit that holds a batch, and the account that it is held at, with what is the matter.
 fn tell_debit(
-    console: &Console,
-    batches: &[u64],
-    place: usize,
-    debit: Debit,
-    code: u64,
-    balance: u64,
-    sublimit: u64,
-) {
-    cli_print::text(console, b"held");
-    show_bin(console, batches, place);
-    cli_print::space(console);
-    cli_print::code(console, code);
-    cli_print::space(console);
-    cli_print::letter(console, debit.letter);
-    cli_print::field(console, b" amount ", debit.cents);
-    cli_print::field(console, b" balance ", balance);
-    cli_print::field(console, b" sublimit ", sublimit);
-}
-
-fn tell_account(
     console: &Console,
     codes: &[u64],
     balances: &[u64],
@@ -157,16 +130,20 @@ fn tell_account(
     batches: &[u64],
     place: usize,
     debit: Debit,
+    matter: impl Display + Drop,
 ) {
     let bank = index(debit.bank);
-    tell_debit(
+    let bin = LongCode(orders::bin_of(batches, place));
+    let code = ShortCode(orders::at(codes, bank));
+    let letter = EsaLetter(debit.letter);
+    let cents = debit.cents;
+    let balance = orders::at(balances, bank);
+    let sublimit = orders::at(sublimits, bank);
+    cli_print::line(
         console,
-        batches,
-        place,
-        debit,
-        orders::at(codes, bank),
-        orders::at(balances, bank),
-        orders::at(sublimits, bank),
+        format_args!(
+            "held {bin} {code} {letter} amount {cents} balance {balance} sublimit {sublimit} {matter}"
+        ),
     );
 }
 
@@ -179,15 +156,19 @@ fn tell_held(
     place: usize,
 ) {
     match queue_explain::held_at(balances, sublimits, batches, place) {
-        Held::Short(debit, short) => {
-            tell_account(console, codes, balances, sublimits, batches, place, debit);
-            cli_print::field(console, b" short ", short);
-            cli_print::end(console);
-        }
-        Held::Deferred(debit) => {
-            tell_account(console, codes, balances, sublimits, batches, place, debit);
-            cli_print::text(console, b" deferred\n");
-        }
+        Held::Short(debit, short) => tell_debit(
+            console,
+            codes,
+            balances,
+            sublimits,
+            batches,
+            place,
+            debit,
+            format_args!("short {short}"),
+        ),
+        Held::Deferred(debit) => tell_debit(
+            console, codes, balances, sublimits, batches, place, debit, "deferred",
+        ),
         // No queued batch would pass after a call.
         Held::Free => (),
         Held::Unqueued => (),
@@ -196,44 +177,22 @@ fn tell_held(
 
 fn tell_pending(console: &Console, batches: &[u64], place: usize) {
     let activation = orders::word(batches, place, Batch::ACTIVATION);
-    cli_print::text(console, b"pending");
-    show_bin(console, batches, place);
-    cli_print::space(console);
+    let mut row = cli_print::begin(console);
+    row.put(format_args!("pending {} ", LongCode(orders::bin_of(batches, place))));
     if 0 < activation {
-        cli_print::four_digits(console, clock::hhmm_of(activation - 1));
+        row.put(format_args!("{:04}", clock::hhmm_of(activation - 1)));
     }
-    cli_print::end(console);
+    row.print_line();
 }
 
 fn tell_assembling(console: &Console, batches: &[u64], place: usize) {
-    cli_print::text(console, b"assembling");
-    show_bin(console, batches, place);
-    cli_print::field(
-        console,
-        b" ",
-        orders::word(batches, place, Batch::MESSAGES_THERE),
-    );
-    cli_print::field(console, b" of ", orders::word(batches, place, Batch::COUNT));
-    cli_print::end(console);
+    let bin = LongCode(orders::bin_of(batches, place));
+    let there = orders::word(batches, place, Batch::MESSAGES_THERE);
+    let count = orders::word(batches, place, Batch::COUNT);
+    cli_print::line(console, format_args!("assembling {bin} {there} of {count}"));
 }
 
-fn tell(
-    console: &Console,
-    codes: &[u64],
-    balances: &[u64],
-    sublimits: &[u64],
-    batches: &[u64],
-    phase: u64,
-    place: usize,
-) {
-    match phase {
-        1 => tell_assembling(console, batches, place),
-        2 => tell_pending(console, batches, place),
-        _ => tell_held(console, codes, balances, sublimits, batches, place),
-    }
-}
-
-// Why each batch of a phase has not settled.
+// Why each batch of a stage has not settled.
 fn tell_order(
     console: &Console,
     codes: &[u64],
@@ -242,17 +201,19 @@ fn tell_order(
     batches: &[u64],
     bins: &[u64],
     date: u64,
-    phase: u64,
+    stage: Stage,
 ) {
-    let mut last = orders::next(batches, bins, date, phase, orders::NOWHERE);
-    let mut left = Batch::LIVE;
-    while 0 < left {
-        if orders::NOWHERE <= last {
-            break;
+    let mut last = None;
+    for _ in 0..Batch::LIVE {
+        last = orders::next(batches, bins, date, stage, last);
+        let Some(place) = last else {
+            return;
+        };
+        match stage {
+            Stage::Assembling => tell_assembling(console, batches, place),
+            Stage::Pending => tell_pending(console, batches, place),
+            Stage::Queued => tell_held(console, codes, balances, sublimits, batches, place),
         }
-        tell(console, codes, balances, sublimits, batches, phase, last);
-        last = orders::next(batches, bins, date, phase, last);
-        left -= 1;
     }
 }
 
@@ -265,34 +226,9 @@ pub fn tell_why(
     batches: &[u64],
     bins: &[u64],
 ) {
-    tell_order(
-        console,
-        codes,
-        balances,
-        sublimits,
-        batches,
-        bins,
-        date,
-        orders::QUEUED,
-    );
-    tell_order(
-        console,
-        codes,
-        balances,
-        sublimits,
-        batches,
-        bins,
-        date,
-        orders::PENDING,
-    );
-    tell_order(
-        console,
-        codes,
-        balances,
-        sublimits,
-        batches,
-        bins,
-        date,
-        orders::ASSEMBLING,
-    );
+    for stage in [Stage::Queued, Stage::Pending, Stage::Assembling] {
+        tell_order(
+            console, codes, balances, sublimits, batches, bins, date, stage,
+        );
+    }
 }

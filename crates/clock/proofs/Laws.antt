@@ -1,4 +1,5 @@
 -- Each return of the functions; then minutes and seconds and their digits, both ways, which callers cite.
+use Rattle.std.specs.Prelude.{Option, Some, None}
 use Prim.Native.Nat.{ℕ, ◌+◌, ◌*◌, ◌/◌, ◌%◌, ◌≤◌, ◌<◌}
 use mathlib.Core.Path.{◌≡◌, refl, sym, ◌∙◌, ap}
 use mathlib.Core.Bool.{Bool, true, false, and-false}
@@ -6,23 +7,19 @@ use native.Mathlib.Omega.{arith}
 use lib.Dec.{leb, ltb}
 use borrow.Author.Tests.{lt-ltb, le-ltb, le-leb, lt-leb, leb-true, leb-false, ltb-true, ltb-false}
 use Rattle.clock.specs.declared.Clock.{Clock}
-use Rattle.clock.specs.declared.Moment.{Moment}
-use Rattle.clock.specs.declared.Moment.TheVariants.{At, Never}
-use Rattle.clock.specs.declared.Minute.TheVariants.{Number as MinuteNumber, Untrue as NoMinute}
-use Rattle.clock.specs.declared.Second.TheVariants.{Number as SecondNumber, Untrue as NoSecond}
 use Rattle.clock.specs.Clock.{clock_of, has_begun, hhmmss_of, minute_of, hhmm_of, second_of}
 
-pub clock_there : (s : ℕ) → s < 86400 → At (record { seconds = s }) ≡ clock_of s
+pub clock_there : (s : ℕ) → s < 86400 → Some (record { seconds = s }) ≡ clock_of s
 unfolding clock_of
 clock_there s h = rw (lt-ltb s 86400 h)
 
-pub clock_never : (s : ℕ) → 86400 ≤ s → Never ≡ clock_of s
+pub clock_never : (s : ℕ) → 86400 ≤ s → None ≡ clock_of s
 unfolding clock_of
 clock_never s h = rw (le-ltb s 86400 h)
 
 -- what its answer tells
-module _ (s : ℕ) {m : Moment} (e : m ≡ clock_of s) where
-  pub clock_is : {k : Clock} → m ≡ At k → (k.seconds ≡ s) × (s < 86400)
+module _ (s : ℕ) {m : Option Clock} (e : m ≡ clock_of s) where
+  pub clock_is : {k : Clock} → m ≡ Some k → (k.seconds ≡ s) × (s < 86400)
   clock_is {k = k} f = go (ltb s 86400) refl
     where
       go : (t : Bool) → ltb s 86400 ≡ t → (k.seconds ≡ s) × (s < 86400)
@@ -31,7 +28,7 @@ module _ (s : ℕ) {m : Moment} (e : m ≡ clock_of s) where
           (ap (λ (c : Clock). c.seconds) z, ltb-true s 86400 h)
       go false h = let z : ◌≡◌ {A = ℕ} 0 1 = cc (clock_never s (ltb-false s 86400 h)) in absurd (omega arith)
 
-  pub clock_not : m ≡ Never → 86400 ≤ s
+  pub clock_not : m ≡ None → 86400 ≤ s
   clock_not f = go (ltb s 86400) refl
     where
       go : (t : Bool) → ltb s 86400 ≡ t → 86400 ≤ s
@@ -54,11 +51,11 @@ digits_out : (s : ℕ) → 86400 ≤ s → 0 ≡ hhmmss_of s
 unfolding hhmmss_of
 digits_out s h = rw (le-ltb s 86400 h)
 
-module _ (s : ℕ) {m : Moment} (e : m ≡ clock_of s) where
-  pub digits_at_lem : {k : Clock} → m ≡ At k → 10000 * (k.seconds / 3600) + (100 * (k.seconds / 60 % 60) + k.seconds % 60) ≡ hhmmss_of s
+module _ (s : ℕ) {m : Option Clock} (e : m ≡ clock_of s) where
+  pub digits_at_lem : {k : Clock} → m ≡ Some k → 10000 * (k.seconds / 3600) + (100 * (k.seconds / 60 % 60) + k.seconds % 60) ≡ hhmmss_of s
   digits_at_lem f = let i = clock_is s e f in rw i.0 (digits_in s i.1)
 
-  pub digits_never : m ≡ Never → 0 ≡ hhmmss_of s
+  pub digits_never : m ≡ None → 0 ≡ hhmmss_of s
   digits_never f = digits_out s (clock_not s e f)
 
 pub hhmm_in : (m : ℕ) → m < 1440 → 100 * (m / 60) + m % 60 ≡ hhmm_of m
@@ -70,37 +67,37 @@ unfolding hhmm_of
 hhmm_out m h = rw (le-ltb m 1440 h)
 
 module _ (n : ℕ) where
-  pub minute_hour : 24 ≤ n / 100 → NoMinute ≡ minute_of n
+  pub minute_hour : 24 ≤ n / 100 → None ≡ minute_of n
   unfolding minute_of
   minute_hour h = simp (le-ltb (n / 100) 24 h)
 
-  pub minute_past : 60 ≤ n % 100 → NoMinute ≡ minute_of n
+  pub minute_past : 60 ≤ n % 100 → None ≡ minute_of n
   unfolding minute_of
   minute_past h = simp (le-ltb (n % 100) 60 h, and-false)
 
-  pub minute_in : n / 100 < 24 → n % 100 < 60 → MinuteNumber (60 * (n / 100) + n % 100) ≡ minute_of n
+  pub minute_in : n / 100 < 24 → n % 100 < 60 → Some (60 * (n / 100) + n % 100) ≡ minute_of n
   unfolding minute_of
   minute_in h m = rw (lt-ltb (n / 100) 24 h, lt-ltb (n % 100) 60 m)
 
-  pub second_hour : 24 ≤ n / 10000 → NoSecond ≡ second_of n
+  pub second_hour : 24 ≤ n / 10000 → None ≡ second_of n
   unfolding second_of
   second_hour h = simp (le-ltb (n / 10000) 24 h)
 
-  pub second_minute : 60 ≤ n / 100 % 100 → NoSecond ≡ second_of n
+  pub second_minute : 60 ≤ n / 100 % 100 → None ≡ second_of n
   unfolding second_of
   second_minute h = simp (le-ltb (n / 100 % 100) 60 h, and-false)
 
-  pub second_past : 60 ≤ n % 100 → NoSecond ≡ second_of n
+  pub second_past : 60 ≤ n % 100 → None ≡ second_of n
   unfolding second_of
   second_past h = simp (le-ltb (n % 100) 60 h, and-false)
 
   pub second_in_lem : n / 10000 < 24 → n / 100 % 100 < 60 → n % 100 < 60
-      → SecondNumber (3600 * (n / 10000) + (60 * (n / 100 % 100) + n % 100)) ≡ second_of n
+      → Some (3600 * (n / 10000) + (60 * (n / 100 % 100) + n % 100)) ≡ second_of n
   unfolding second_of
   second_in_lem h m s = rw (lt-ltb (n / 10000) 24 h, lt-ltb (n / 100 % 100) 60 m, lt-ltb (n % 100) 60 s)
 
 -- a minute and its HHMM
-pub minute_back : (n m : ℕ) → minute_of n ≡ MinuteNumber m → (hhmm_of m ≡ n) × (m < 1440)
+pub minute_back : (n m : ℕ) → minute_of n ≡ Some m → (hhmm_of m ≡ n) × (m < 1440)
 minute_back n m e = go (ltb (n / 100) 24) refl (ltb (n % 100) 60) refl
   where
     go : (h : Bool) → ltb (n / 100) 24 ≡ h → (s : Bool) → ltb (n % 100) 60 ≡ s → (hhmm_of m ≡ n) × (m < 1440)
@@ -112,10 +109,10 @@ minute_back n m e = go (ltb (n / 100) 24) refl (ltb (n % 100) 60) refl
         let is : m ≡ 60 * (n / 100) + n % 100 = cc (minute_in n hour minute) in
         (sym (hhmm_in m (omega arith)) ∙ omega arith, omega arith)
 
-pub hhmm_back : (m : ℕ) → m < 1440 → minute_of (hhmm_of m) ≡ MinuteNumber m
+pub hhmm_back : (m : ℕ) → m < 1440 → minute_of (hhmm_of m) ≡ Some m
 hhmm_back m h =
     let is : hhmm_of m ≡ 100 * (m / 60) + m % 60 = sym (hhmm_in m h) in
-    sym (minute_in (hhmm_of m) (omega arith) (omega arith)) ∙ ap MinuteNumber (omega arith)
+    sym (minute_in (hhmm_of m) (omega arith) (omega arith)) ∙ ap Some (omega arith)
 
 -- the parts of a second of the day, and of its HHMMSS
 module _ (s h m t : ℕ) (e : s ≡ 3600 * h + (60 * m + t)) (hm : m < 60) (ht : t < 60) where
@@ -148,7 +145,7 @@ second_split : (s : ℕ) → 3600 * (s / 3600) + (60 * (s / 60 % 60) + s % 60) �
 second_split s = omega arith
 
 -- a second and its HHMMSS
-pub second_back : (n s : ℕ) → second_of n ≡ SecondNumber s → (hhmmss_of s ≡ n) × (s < 86400)
+pub second_back : (n s : ℕ) → second_of n ≡ Some s → (hhmmss_of s ≡ n) × (s < 86400)
 second_back n s e = go (ltb (n / 10000) 24) refl (ltb (n / 100 % 100) 60) refl (ltb (n % 100) 60) refl
   where
     go : (h : Bool) → ltb (n / 10000) 24 ≡ h → (m : Bool) → ltb (n / 100 % 100) 60 ≡ m → (t : Bool) → ltb (n % 100) 60 ≡ t
@@ -170,7 +167,7 @@ second_back n s e = go (ltb (n / 10000) 24) refl (ltb (n / 100 % 100) 60) refl (
           small,
         )
 
-pub digits_back : (s : ℕ) → s < 86400 → second_of (hhmmss_of s) ≡ SecondNumber s
+pub digits_back : (s : ℕ) → s < 86400 → second_of (hhmmss_of s) ≡ Some s
 digits_back s small =
     let h = s / 3600 in
     let m = s / 60 % 60 in
@@ -184,4 +181,4 @@ digits_back s small =
     let em = minute_digits n h m t is minute second in
     let et = second_digits n h m t is minute second in
     sym (second_in_lem n (rw eh hour) (rw em minute) (rw et second))
-    ∙ ap SecondNumber (rw (eh, em, et) (second_split s))
+    ∙ ap Some (rw (eh, em, et) (second_split s))

@@ -9,26 +9,6 @@ pub struct Clock {
     pub seconds: u64,
 }
 
-#[derive(Clone, Copy)]
-pub enum Moment {
-    At(Clock),
-    Never,
-}
-
-// A minute of the day, 0 to 1,439.
-#[derive(Clone, Copy)]
-pub enum Minute {
-    Number(u64),
-    Untrue,
-}
-
-// A second of the day, 0 to 86,399.
-#[derive(Clone, Copy)]
-pub enum Second {
-    Number(u64),
-    Untrue,
-}
-
 impl Clock {
     pub const DAY: u64 = 86_400;
 
@@ -36,13 +16,13 @@ impl Clock {
 
     pub const MINUTE: u64 = 60;
 
-    pub fn new(seconds: u64) -> Moment
+    pub fn new(seconds: u64) -> Option<Clock>
         ensures { result ≡ clock_of seconds }
     {
         if seconds < Clock::DAY {
-            Moment::At(Clock { seconds })
+            Some(Clock { seconds })
         } else {
-            Moment::Never
+            None
         }
     }
 
@@ -55,18 +35,15 @@ impl Clock {
 }
 
 // The minute of HHMM, 00 to 23 and 00 to 59.
-pub fn minute_of(hhmm: u64) -> Minute
+pub fn minute_of(hhmm: u64) -> Option<u64>
     ensures { result ≡ minute_of hhmm }
 {
     let hour = hhmm / 100;
     let minute = hhmm % 100;
-    if 24 <= hour {
-        return Minute::Untrue;
+    if 24 <= hour || 60 <= minute {
+        return None;
     }
-    if 60 <= minute {
-        return Minute::Untrue;
-    }
-    Minute::Number(Clock::MINUTE * hour + minute)
+    Some(Clock::MINUTE * hour + minute)
 }
 
 // HHMM of a minute of the day; 0 past the last.
@@ -81,29 +58,23 @@ pub fn hhmm_of(minute: u64) -> u64
 }
 
 // The second of HHMMSS, 00 to 23, 00 to 59 and 00 to 59.
-pub fn second_of(hhmmss: u64) -> Second
+pub fn second_of(hhmmss: u64) -> Option<u64>
     ensures { result ≡ second_of hhmmss }
 {
     let hour = hhmmss / 10_000;
     let minute = hhmmss / 100 % 100;
     let second = hhmmss % 100;
-    if 24 <= hour {
-        return Second::Untrue;
+    if 24 <= hour || 60 <= minute || 60 <= second {
+        return None;
     }
-    if 60 <= minute {
-        return Second::Untrue;
-    }
-    if 60 <= second {
-        return Second::Untrue;
-    }
-    Second::Number(Clock::HOUR * hour + (Clock::MINUTE * minute + second))
+    Some(Clock::HOUR * hour + (Clock::MINUTE * minute + second))
 }
 
 // HHMMSS of a second of the day; 0 past the last.
 pub fn hhmmss_of(second: u64) -> u64
     ensures { result ≡ hhmmss_of second }
 {
-    let Moment::At(clock) = Clock::new(second) else {
+    let Some(clock) = Clock::new(second) else {
         return 0;
     };
     let s = clock.seconds;

@@ -3,30 +3,15 @@ use Prim.Native.Nat.{ℕ, zero, suc, ◌+◌, ◌*◌, ◌-◌, ◌/◌, ◌%◌
 use mathlib.Core.Path.{◌≡◌, refl, ap, sym, ◌∙◌}
 use mathlib.Core.Bool.{Bool, true, false, cond}
 use mathlib.Core.List.{List, [], ◌∷◌, ◌++◌, append_assoc, append-nil}
-use native.Mathlib.Nat.{add-zero, zero-add, add-suc, suc-add, div-add-mod', pow-succ', pow-le-pow_right, le_of_lt}
+use native.Mathlib.Nat.{add-zero, zero-add, add-suc, suc-add, div-add-mod', pow-succ', div-div-eq-div-mul, pow-le-pow_right, le_of_lt}
 use native.Mathlib.Numerals.{add-one}
 use native.Mathlib.Omega.{arith}
 use borrow.Author.Tests.{eq-eqb, ne_eqb, lt-ltb, le-ltb, ltb-true, ltb-false}
 use lib.Dec.{eqb, ltb}
-use lib.ListN.{length, get_or, take, drop, length-append, length-take, length-drop, drop_of_length-le, get_or-append, get_or-eq_default}
-use lib.Seq.{drop-cons, get_or-drop, get_or-take, get_or_at, get_or-append-add}
+use lib.ListN.{length, get_or, take, drop, length-append, length-drop, drop_of_length-le, get_or-append, get_or-eq_default}
+use lib.Seq.{drop-cons, get_or_at, get_or-append-add}
 use Rattle.codes.specs.Codes.{Bytes, NoZero, filled, pack_on, packed, short_at, long_of, long_at, unpacked, named, short_text, spelled, long_text, before, code_before}
 use Rattle.codes.specs.declared.Code.{Code}
-
--- ---- the bytes that stand at a place
-
-module _ (s : List ℕ) (at n i : ℕ) where
-  pub byte_there : i < n → get_or s (at + i) 0 ≡ get_or (take n (drop at s)) i 0
-  byte_there h = rw (get_or-take n (drop at s) i 0 h, get_or-drop)
-
-  pub byte_past : length (take n (drop at s)) ≤ i → 0 ≡ get_or (take n (drop at s)) i 0
-  byte_past h = sym (get_or-eq_default (take n (drop at s)) 0 h)
-
-  pub byte_past_n : n ≤ i → 0 ≡ get_or (take n (drop at s)) i 0
-  byte_past_n h = byte_past (simp (length-take, length-drop) (omega arith))
-
-  pub byte_past_end : length s ≤ at + i → 0 ≡ get_or (take n (drop at s)) i 0
-  byte_past_end h = byte_past (simp (length-take, length-drop) (omega arith))
 
 -- ---- packing
 
@@ -92,56 +77,24 @@ unpack_down : (w v i : ℕ) → i < w → get_or (unpacked (suc w) v) i 0 ≡ ge
 unfolding unpacked
 unpack_down w v i h = get_or-append (unpacked w (v / 256)) (v % 256 ∷ []) 0 i (rw unpack_length h)
 
--- where the loop of `byte_of` stands: of the bytes up to the i-th and `left - 1` more
-pub record Unpacking (w v i left rest : ℕ) : Type 0 where
-  pub some : 1 ≤ left
-  pub same : get_or (unpacked (i + left) rest) i 0 ≡ get_or (unpacked w v) i 0
+-- the byte that k others stand behind
+unpack_at : (i k v : ℕ) → get_or (unpacked (suc (i + k)) v) i 0 ≡ v / 256 ^ k % 256
+unpack_at i zero v =
+    let z : v / 1 ≡ v = omega arith in
+    rw (add-zero, z) (unpack_last i v)
+unpack_at i (suc k) v = rw add-suc (unpack_down (suc (i + k)) v i (omega arith) ∙ unpack_at i k (v / 256) ∙ ap (λ (n : ℕ). n % 256) (div-div-eq-div-mul v 256 (256 ^ k) ∙ ap (λ (n : ℕ). v / n) (sym (pow-succ' 256 k))))
 
-pub unpacking_start : (w v i : ℕ) → i < w → Unpacking w v i (w - i) v
-unpacking_start w v i h = record {
-  some = omega arith;
-  same = let z : i + (w - i) ≡ w = omega arith in rw z;
-}
+eights : (k : ℕ) → 2 ^ (8 * k) ≡ 256 ^ k
+eights zero = refl
+eights (suc k) =
+    let z : 8 * suc k ≡ suc (suc (suc (suc (suc (suc (suc (suc (8 * k)))))))) = omega arith in
+    rw z (simp (pow-succ', eights k) (omega arith))
 
-module _ {w v i left rest : ℕ} (g : Unpacking w v i left rest) where
-  pub unpacking_on : 1 < left → Unpacking w v i (left - 1) (rest / 256)
-  unpacking_on h = record {
-    some = omega arith;
-    same =
-        let z : i + left ≡ suc (i + (left - 1)) = omega arith in
-        rw (← unpack_down (i + (left - 1)) rest i (omega arith), ← z) g.same;
-  }
-
-  pub unpacking_done : left ≤ 1 → rest % 256 ≡ get_or (unpacked w v) i 0
-  unpacking_done h =
-      let z : i + left ≡ suc i = omega (arith, g.some) in
-      sym (unpack_last i rest) ∙ (rw z at g.same)
-
--- two or four bytes at a time
-unpacking_two : {w v i left rest : ℕ} → Unpacking w v i left rest → 2 < left → Unpacking w v i (left - 2) (rest / 65536)
-unpacking_two {left = left} {rest = rest} g h =
-    let l : left - 1 - 1 ≡ left - 2 = omega arith in
-    let r : rest / 256 / 256 ≡ rest / 65536 = omega arith in
-    rw (l, r) at (unpacking_on (unpacking_on g (omega arith)) (omega arith))
-
-pub unpacking_four : {w v i left rest : ℕ} → Unpacking w v i left rest → 4 < left → Unpacking w v i (left - 4) (rest / 4294967296)
-unpacking_four {left = left} {rest = rest} g h =
-    let l : left - 2 - 2 ≡ left - 4 = omega arith in
-    let r : rest / 65536 / 65536 ≡ rest / 4294967296 = omega arith in
-    rw (l, r) at (unpacking_two (unpacking_two g (omega arith)) (omega arith))
-
--- the byte with one, two or three behind it
-module _ {w v i left rest : ℕ} (g : Unpacking w v i left rest) where
-  pub unpacking_second : left ≤ 2 → 1 < left → rest / 256 % 256 ≡ get_or (unpacked w v) i 0
-  unpacking_second h k = unpacking_done (unpacking_on g k) (omega arith)
-
-  pub unpacking_third : left ≤ 3 → 2 < left → rest / 65536 % 256 ≡ get_or (unpacked w v) i 0
-  unpacking_third h k = unpacking_done (unpacking_two g k) (omega arith)
-
-  pub unpacking_fourth : left ≤ 4 → 3 < left → rest / 16777216 % 256 ≡ get_or (unpacked w v) i 0
-  unpacking_fourth h k =
-      let r : rest / 65536 / 256 ≡ rest / 16777216 = omega arith in
-      rw r at (unpacking_done (unpacking_on (unpacking_two g (omega arith)) (omega arith)) (omega arith))
+pub unpack_shift : (w v i : ℕ) → i < w → v / 2 ^ (8 * (w - 1 - i)) % 256 ≡ get_or (unpacked w v) i 0
+unpack_shift w v i h =
+    let k = w - 1 - i in
+    let z : suc (i + k) ≡ w = omega arith in
+    rw (eights k, ← unpack_at i k v, z)
 
 pub spelled_length : (c : Code) → length (spelled c) ≡ 16
 unfolding spelled

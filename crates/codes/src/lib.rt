@@ -30,21 +30,11 @@ impl Code {
 fn byte(s: &[u8], at: usize, n: usize, i: usize) -> u8
     ensures { result ≡ get_or (take n (drop at s.now)) i 0 }
 {
-    if at < s.len() {
-        if i < s.len() - at {
-            if i < n {
-                return s[at + i];
-            }
-        }
+    if i < n && at < s.len() && i < s.len() - at {
+        s[at + i]
+    } else {
+        0
     }
-    0
-}
-
-fn wide(b: u8) -> u64
-    ensures value { result ≡ b }
-    ensures small { result < 256 }
-{
-    b as u64
 }
 
 // Of the n bytes at a place the w from the one numbered `from` on, as a number.
@@ -54,10 +44,8 @@ fn pack(s: &[u8], at: usize, n: usize, from: usize, w: usize) -> u64
     ensures small { result < 256 ^ w }
 {
     let mut v: u64 = 0;
-    let mut i = 0;
-    while i < w {
-        v = v * 256 + wide(byte(s, at, n, from + i));
-        i += 1;
+    for i in 0..w {
+        v = v * 256 + u64::from(byte(s, at, n, from + i));
     }
     v
 }
@@ -80,29 +68,15 @@ pub fn long_code(s: &[u8], at: usize, n: usize) -> Code
     }
 }
 
-// The i-th of the w bytes of a number; 0 past them. Those behind it are left out four at a time, then at once.
+// The i-th of the w bytes of a number, eight at the most; 0 past them.
 fn byte_of(v: u64, w: usize, i: usize) -> u8
+    requires { w ≤ 8 }
     ensures { result ≡ get_or (unpacked w v) i 0 }
 {
     if w <= i {
         return 0;
     }
-    let mut left = w - i;
-    let mut rest = v;
-    while left > 4 {
-        rest = rest / 4_294_967_296;
-        left -= 4;
-    }
-    if left > 3 {
-        return (rest / 16_777_216 % 256) as u8;
-    }
-    if left > 2 {
-        return (rest / 65_536 % 256) as u8;
-    }
-    if left > 1 {
-        return (rest / 256 % 256) as u8;
-    }
-    (rest % 256) as u8
+    ((v >> (8 * (w - 1 - i))) % 256) as u8
 }
 
 // The i-th character of a bank or a stream; 0 past the fourth.
@@ -128,13 +102,11 @@ impl Code {
         ensures value { result ≡ length (long_text self) }
         ensures small { result ≤ 16 }
     {
-        let mut i = 0;
-        while i < Code::LONGEST {
+        for i in 0..Code::LONGEST {
             if self.byte(i) == 0 {
                 return i;
             }
-            i += 1;
         }
-        i
+        Code::LONGEST
     }
 }

@@ -1,53 +1,40 @@
 // The book whose account is given.
-use book_read::{Answer, Book};
-use book_write::Writing;
-use cli_book::{BookAccount, Stop, Wanted};
+use book_read::Book;
+use cli_book::{BookAccount, Wanted};
 use cli_files::Console;
-use text_scan::At;
+use std::fmt;
+use std::fmt::Write;
 
 // Whether an account is one of a book, by its first line.
 pub fn is_book(s: &[u8]) -> bool {
-    if let At::Next(_) = text_scan::lit(s, cli_request::first_line(s), b"accepted book") {
-        true
-    } else {
-        false
-    }
+    text_scan::lit(s, cli_request::first_line(s), b"accepted book").is_some()
 }
 
-fn say_wanted(console: &Console, wanted: Wanted) {
-    match wanted {
-        Wanted::Title => crate::say(console, b"accepted book"),
-        Wanted::Date => crate::say(console, b"date and the six digits of a true date, YYMMDD"),
-        Wanted::Stream => crate::say(console, b"stream CODE ADMINISTRATOR"),
-        Wanted::StreamOrBank => {
-            crate::say(
-                console,
-                b"stream CODE ADMINISTRATOR or bank CODE active|suspended BALANCE SUBLIMIT STREAM..",
-            )
-        }
-        Wanted::BankOrTotal => {
-            crate::say(
-                console,
-                b"bank CODE active|suspended BALANCE SUBLIMIT STREAM.. or total CENTS",
-            )
-        }
-        Wanted::Sum => crate::say(console, b"the sum of the balances"),
-        Wanted::Nothing => crate::say(console, b"no further line"),
-    }
-}
+// What a line of a book's account should say.
+#[derive(Clone, Copy)]
+struct Words(Wanted);
 
-fn say_line(console: &Console, s: &[u8], first: usize, at: usize, wanted: Wanted) {
-    crate::say_expecting(console, s, first, at);
-    say_wanted(console, wanted);
-    crate::say(console, b"\n");
-    cli_files::tell_refusal(console);
+impl fmt::Display for Words {
+    fn fmt<W: fmt::Write>(&self, f: &mut fmt::Formatter<W>) -> fmt::Result {
+        f.write_str(match self.0 {
+            Wanted::Title => "accepted book",
+            Wanted::Date => "date and the six digits of a true date, YYMMDD",
+            Wanted::Stream => "stream CODE ADMINISTRATOR",
+            Wanted::StreamOrBank =>
+                "stream CODE ADMINISTRATOR or bank CODE active|suspended BALANCE SUBLIMIT STREAM..",
+            Wanted::BankOrTotal =>
+                "bank CODE active|suspended BALANCE SUBLIMIT STREAM.. or total CENTS",
+            Wanted::Sum => "the sum of the balances",
+            Wanted::Nothing => "no further line",
+        })
+    }
 }
 
 // The bytes of a book that the book's check finds sound.
 fn show(console: &Console, book: &[u8]) {
     match book_read::check(book) {
-        Answer::Fault(why) => crate::say_refused(console, why),
-        Answer::Sound => cli_print::text(console, book),
+        Err(why) => crate::say_refused(console, why),
+        Ok(()) => cli_print::text(console, book),
     }
 }
 
@@ -72,17 +59,16 @@ fn write_book(console: &Console, account: BookAccount) {
     };
     let mut out = [0u8; 2560];
     match book_write::write(&mut out, book, &row, &codes, &flags, &balances, &sublimits) {
-        Writing::Unwritten(why) => crate::say_refused(console, why),
-        Writing::Written(n) => show_first(console, &out, n),
+        Err(why) => crate::say_refused(console, why),
+        Ok(n) => show_first(console, &out, n),
     }
 }
 
 // The account whose first line is the file's line `first`.
 pub fn compose(console: &Console, s: &[u8], first: usize) {
     let account = cli_book::read_account(s);
-    let stop = account.stop;
-    match stop {
-        Stop::AtLine(at, wanted) => say_line(console, s, first, at, wanted),
-        Stop::AtEnd => write_book(console, account),
+    match account.stop {
+        Err((at, wanted)) => crate::say_expecting(console, s, first, at, Words(wanted)),
+        Ok(()) => write_book(console, account),
     }
 }

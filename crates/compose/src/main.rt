@@ -8,11 +8,15 @@ mod refusals;
 ghost use Rattle.std.specs.Prelude.{◌≤◌, length};
 
 use chars::Refusal;
-use cli_files::{Console, Got};
-use cli_request::{Account, Expected, Extent, several};
-use response_write::Written;
+use cli_files::Console;
+use cli_request::{Account, Expected, several};
 use std::env::Env;
+use std::fmt;
+use std::fmt::{Display, Write};
 use std::fs::Files;
+
+// So many bytes of a file are read.
+const BUFFER: usize = 65536;
 
 fn say(console: &Console, text: &[u8]) {
     cli_files::say(console, text);
@@ -23,53 +27,47 @@ fn usage(console: &Console) {
     cli_files::tell_wrong_call(console);
 }
 
-fn say_expected(console: &Console, expected: Expected) {
-    match expected {
-        Expected::SubType => say(console, b"accepted and a sub type of three digits"),
-        Expected::Reference => say(console, b"reference and up to 16 of A-Z 0-9"),
-        Expected::Stream => say(console, b"stream and 4 of A-Z 0-9"),
-        Expected::Bin => say(console, b"bin and up to 8 of A-Z 0-9"),
-        Expected::Message => say(console, b"message and number/count, two digits each"),
-        Expected::Date => say(console, b"date and six digits, YYMMDD"),
-        Expected::Activation => say(console, b"activation and four digits, HHMM, or none"),
-        Expected::Payment => say(
-            console,
-            b"payment CR CENTS BANK or payment DR CENTS BANK LETTERS",
-        ),
-        Expected::Nothing => say(console, b"no further line"),
+// What a line of a request's account should say.
+#[derive(Clone, Copy)]
+struct Words(Expected);
+
+impl fmt::Display for Words {
+    fn fmt<W: fmt::Write>(&self, f: &mut fmt::Formatter<W>) -> fmt::Result {
+        f.write_str(match self.0 {
+            Expected::SubType => "accepted and a sub type of three digits",
+            Expected::Reference => "reference and up to 16 of A-Z 0-9",
+            Expected::Stream => "stream and 4 of A-Z 0-9",
+            Expected::Bin => "bin and up to 8 of A-Z 0-9",
+            Expected::Message => "message and number/count, two digits each",
+            Expected::Date => "date and six digits, YYMMDD",
+            Expected::Activation => "activation and four digits, HHMM, or none",
+            Expected::Payment => "payment CR CENTS BANK or payment DR CENTS BANK LETTERS",
+            Expected::Nothing => "no further line",
+        })
     }
 }
 
-// A line of the account whose first line is the file's line `first`.
-fn say_line(console: &Console, first: usize, line: usize) {
+// The file's line of a line of the account whose first line is the file's line `first`.
+fn file_line(first: usize, line: usize) -> u64 {
     let behind = (line as u64).wrapping_sub(1);
-    say(console, b"line ");
-    cli_files::say_number(console, (first as u64).wrapping_add(behind));
+    (first as u64).wrapping_add(behind)
 }
 
-// The line at a place of such an account does not say what is told next.
-fn say_expecting(console: &Console, s: &[u8], first: usize, at: usize) {
-    say_line(console, first, cli_request::line_of(s, at));
-    say(console, b": expected ");
-}
-
-fn say_unread(console: &Console, s: &[u8], first: usize, at: usize, expected: Expected) {
-    say_expecting(console, s, first, at);
-    say_expected(console, expected);
-    say(console, b"\n");
+// The line at a place of such an account does not say what it should.
+fn say_expecting(
+    console: &Console,
+    s: &[u8],
+    first: usize,
+    at: usize,
+    expected: impl Display + Drop,
+) {
+    let line = file_line(first, cli_request::line_of(s, at));
+    cli_files::tell(console, format_args!("line {line}: expected {expected}\n"));
     cli_files::tell_refusal(console);
 }
 
-fn say_number(console: &Console, why: Refusal) {
-    let mut b = [0u8; 2];
-    text_put::digits(&mut b, 0, why.number(), 2);
-    say(console, b"refused ");
-    say(console, &b);
-}
-
 fn say_refused(console: &Console, why: Refusal) {
-    say_number(console, why);
-    say(console, b"\n");
+    cli_files::tell(console, format_args!("refused {:02}\n", why.number()));
     cli_files::tell_refusal(console);
 }
 
@@ -78,8 +76,8 @@ fn write_order(console: &Console, account: Account, first: usize) {
     let order = account.order;
     let mut text = [0u8; 4096];
     match request_write::write_request(&mut text, 0, order) {
-        Written::Unfit(_) => refusals::say_order(console, order, first),
-        Written::End(n) => cli_print::first(console, &text, n),
+        Err(_) => refusals::say_order(console, order, first),
+        Ok(n) => cli_print::first(console, &text, n),
     }
 }
 
@@ -98,10 +96,9 @@ fn compose(console: &Console, s: &[u8], first: usize) {
         return;
     }
     let account = cli_request::read_account(s);
-    let ending = account.ending;
-    match ending {
-        Extent::Unread(at, expected) => say_unread(console, s, first, at, expected),
-        Extent::Whole => write_order(console, account, head_line(s, first)),
+    match account.ending {
+        Err((at, expected)) => say_expecting(console, s, first, at, Words(expected)),
+        Ok(()) => write_order(console, account, head_line(s, first)),
     }
 }
 
@@ -124,6 +121,7 @@ fn compose_at(console: &Console, s: &[u8], at: usize) -> usize
 // The accounts of a file, one behind another.
 fn compose_each(console: &Console, s: &[u8]) {
     let mut at = compose_at(console, s, 0);
+    // Kept: the place moves by an account.
     while at < s.len() {
         let next = compose_at(console, s, at);
         if next <= at {
@@ -139,19 +137,18 @@ fn say_too_long(console: &Console) {
 }
 
 // A file that fills the buffer may go on past it.
-fn compose_first(console: &Console, buf: &[u8], n: usize) {
-    if buf.len() <= n {
+fn compose_first(console: &Console, s: &[u8]) {
+    if BUFFER <= s.len() {
         say_too_long(console);
         return;
     }
-    compose_each(console, &buf[..n]);
+    compose_each(console, s);
 }
 
 fn compose_file(rt: &(impl Files + Input), console: &Console, path: &[u8]) {
-    let mut buf = [0u8; 65536];
-    match cli_files::read_named(rt, console, path, &mut buf) {
-        Got::Unread => (),
-        Got::Bytes(n) => compose_first(console, &buf, n),
+    let mut buf = [0u8; BUFFER];
+    if let Some(n) = cli_files::read_named(rt, console, path, &mut buf) {
+        compose_first(console, &buf[..n]);
     }
 }
 

@@ -1,16 +1,15 @@
 -- Marked examples (10) and (11): a reference of one date is refused on another, or free again.
+use Rattle.std.specs.Prelude.{ℕ, Option, Some, None}
 use mathlib.Core.Path.{◌≡◌, refl}
 use mathlib.Core.Bool.{Bool, true, false}
-use Rattle.dates.specs.declared.Day.{Day}
-use Rattle.dates.specs.declared.Day.TheVariants.{Number, Untrue}
 use Rattle.dates.specs.Dates.{february, months, days_in, is_true, day_of, is_remembered}
 
 -- whether a reference of one date is still remembered on the other
-abbrev refused_on : Day → Day → Bool
-refused_on (Number day) (Number today) = is_remembered day today
-refused_on (Number day) Untrue = false
-refused_on Untrue (Number today) = false
-refused_on Untrue Untrue = false
+abbrev refused_on : Option ℕ → Option ℕ → Bool
+refused_on (Some day) (Some today) = is_remembered day today
+refused_on (Some day) None = false
+refused_on None (Some today) = false
+refused_on None None = false
 
 pub example_10 : (refused_on (day_of 270203) (day_of 270217) ≡ true) × (refused_on (day_of 270203) (day_of 270218) ≡ false)
 unfolding february months days_in is_true day_of is_remembered
@@ -21,6 +20,6 @@ unfolding february months days_in is_true day_of is_remembered
 example_11 = (refl, refl)
 
 -- the first and the last day, and a 29 February that is not there
-pub first_and_last : (day_of 101 ≡ Number 0) × (day_of 991231 ≡ Number 36524) × (day_of 270229 ≡ Untrue)
+pub first_and_last : (day_of 101 ≡ Some 0) × (day_of 991231 ≡ Some 36524) × (day_of 270229 ≡ None)
 unfolding february months days_in is_true day_of
 first_and_last = (refl, refl, refl)

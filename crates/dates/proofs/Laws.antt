@@ -1,4 +1,5 @@
 -- Dates and day numbers, both ways, and in one order: what callers cite.
+use Rattle.std.specs.Prelude.{Some, None}
 use Prim.Native.Nat.{ℕ, zero, suc, ◌+◌, ◌*◌, ◌-◌, ◌/◌, ◌%◌, ◌≤◌, ◌<◌}
 use mathlib.Core.Path.{◌≡◌, refl, sym, ◌∙◌, ap}
 use mathlib.Core.Bool.{Bool, true, false, ◌&&◌, cond}
@@ -9,7 +10,6 @@ use lib.ListN.{length, get_or, take, get_or-eq_default}
 use lib.Seq.{take-take}
 use lib.Dec.{leb, ltb}
 use borrow.Author.Tests.{lt-ltb, le-ltb, le-leb, ltb-true, ltb-false, leb-true}
-use Rattle.dates.specs.declared.Day.TheVariants.{Number, Untrue}
 use Rattle.dates.specs.Dates.{months, days_in, sum, year_start, year_at, year_of, month_of, day_of_month, days_before, day_number, month_day, is_true, day_of, date_of}
 use Rattle.dates.proofs.Months.{sum_take, sum_part, february_range, year_length}
 
@@ -58,14 +58,14 @@ pub record TrueDate (n k : ℕ) : Type 0 where
   pub upto : day_of_month n ≤ days_in (year_of n) (month_of n)
   pub number : k ≡ day_number (year_of n) (month_of n) (day_of_month n)
 
-pub true_date : (n k : ℕ) → day_of n ≡ Number k → TrueDate n k
+pub true_date : (n k : ℕ) → day_of n ≡ Some k → TrueDate n k
 unfolding day_of is_true
 true_date n k h = go (ltb n 1000000) refl (leb 1 (n % 100)) refl (leb (n % 100) (days_in (n / 10000) (n / 100 % 100))) refl h
   where
     go : (s : Bool) → ltb n 1000000 ≡ s
         → (l : Bool) → leb 1 (n % 100) ≡ l
         → (u : Bool) → leb (n % 100) (days_in (n / 10000) (n / 100 % 100)) ≡ u
-        → cond (s && (l && u)) (Number (day_number (n / 10000) (n / 100 % 100) (n % 100))) Untrue ≡ Number k
+        → cond (s && (l && u)) (Some (day_number (n / 10000) (n / 100 % 100) (n % 100))) None ≡ Some k
         → TrueDate n k
     go true es true el true eu h =
         record { small = ltb-true n 1000000 es; from = leb-true 1 (n % 100) el; upto = leb-true (n % 100) (days_in (n / 10000) (n / 100 % 100)) eu; number = cc }
@@ -74,7 +74,7 @@ true_date n k h = go (ltb n 1000000) refl (leb 1 (n % 100)) refl (leb (n % 100) 
     go false es l el u eu h = let z : ◌≡◌ {A = ℕ} 0 1 = cc in absurd (omega arith)
 
 pub made : (n y m d : ℕ) → n < 1000000 → n / 10000 ≡ y → n / 100 % 100 ≡ m → n % 100 ≡ d
-    → 1 ≤ d → d ≤ days_in y m → day_of n ≡ Number (day_number y m d)
+    → 1 ≤ d → d ≤ days_in y m → day_of n ≡ Some (day_number y m d)
 unfolding day_of is_true
 made n y m d h ey em ed p q =
     rw (lt-ltb n 1000000 h, ey, em, ed, le-leb 1 d p, le-leb d (days_in y m) q)
@@ -104,7 +104,7 @@ module _ {n k : ℕ} (t : TrueDate n k) where
   pub high : k < year_start (year_of n + 1)
   high = omega (arith, t.number, in_year (year_of n) (month_of n) (day_of_month n - 1) rest_of, year_length (year_of n))
 
-pub day_back : (n k : ℕ) → day_of n ≡ Number k → (date_of k ≡ n) × (k < 36525)
+pub day_back : (n k : ℕ) → day_of n ≡ Some k → (date_of k ≡ n) × (k < 36525)
 unfolding date_of days_in
 day_back n k h = (rw (lt-ltb k 36525 small, year, place, there) (omega (arith, t.from)), small)
   where
@@ -167,7 +167,7 @@ module _ (k : ℕ) (h : k < 36525) (p : Placed (months (year_at k)) (k - year_st
   number_is : day_number (year_at k) p.part (p.rest + 1) ≡ k
   number_is = omega (arith, p.here, year_low k)
 
-  date_placed : day_of (date_of k) ≡ Number k
+  date_placed : day_of (date_of k) ≡ Some k
   date_placed =
       let n = date_of k in
       let y = year_at k in
@@ -177,9 +177,9 @@ module _ (k : ℕ) (h : k < 36525) (p : Placed (months (year_at k)) (k - year_st
       let dh : d < 100 = omega (arith, rest_small, days_small y m) in
       made n y m d (omega (arith, date_is)) (digits_year n y m d date_is mh dh) (digits_month n y m d date_is mh dh)
       (digits_day n y m d date_is mh dh) (omega arith) (omega (arith, rest_small))
-      ∙ ap Number number_is
+      ∙ ap Some number_is
 
-pub date_back : (k : ℕ) → k < 36525 → day_of (date_of k) ≡ Number k
+pub date_back : (k : ℕ) → k < 36525 → day_of (date_of k) ≡ Some k
 date_back k h =
     date_placed k h
     (place_of (months (year_at k)) (k - year_start (year_at k)) (omega (arith, year_low k, year_high k, year_length (year_at k))))
@@ -224,7 +224,7 @@ rises {a} {b} {j} {k} s t h = year (ltb (year_of a) (year_of b)) refl (ltb (mont
         rw (s.number, t.number, start, before) (omega (arith, day))
 
 -- of two true dates the first is the earlier exactly when its day number is the smaller
-pub day_order : (a b j k : ℕ) → day_of a ≡ Number j → day_of b ≡ Number k → (a < b) ↔ (j < k)
+pub day_order : (a b j k : ℕ) → day_of a ≡ Some j → day_of b ≡ Some k → (a < b) ↔ (j < k)
 day_order a b j k p q = (rises (true_date a j p) (true_date b k q), λ h. back h (ltb a b) refl (ltb b a) refl)
   where
     back : j < k → (u : Bool) → ltb a b ≡ u → (v : Bool) → ltb b a ≡ v → a < b
@@ -232,6 +232,6 @@ day_order a b j k p q = (rises (true_date a j p) (true_date b k q), λ h. back h
     back h false e true f = absurd (omega (arith, rises (true_date b k q) (true_date a j p) (ltb-true b a f)))
     back h false e false f =
         let same : a ≡ b = omega (arith, ltb-false a b e, ltb-false b a f) in
-        let both : Number j ≡ Number k = sym p ∙ ap day_of same ∙ q in
+        let both : Some j ≡ Some k = sym p ∙ ap day_of same ∙ q in
         let one : j ≡ k = cc in
         absurd (omega arith)

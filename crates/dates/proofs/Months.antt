@@ -1,4 +1,5 @@
 -- Laws of months and days that the proofs of the functions cite: sums of lengths, a place among them, each return.
+use Rattle.std.specs.Prelude.{Some, None}
 use Prim.Native.Nat.{ℕ, zero, suc, ◌+◌, ◌*◌, ◌-◌, ◌/◌, ◌%◌, ◌≤◌, ◌<◌}
 use mathlib.Core.Path.{◌≡◌, refl, sym, ◌∙◌, ap}
 use mathlib.Core.Bool.{Bool, true, false, cond}
@@ -9,7 +10,6 @@ use lib.ListN.{length, get_or, take, drop, get_or-eq_default}
 use lib.Seq.{drop-cons}
 use lib.Dec.{leb, eqb}
 use borrow.Author.Tests.{lt-ltb, le-ltb, le-leb, lt-leb, eqb-true, eqb-false, leb-true, leb-false}
-use Rattle.dates.specs.declared.Day.TheVariants.{Number, Untrue}
 use Rattle.dates.specs.Dates.{year_at, day_of_month, is_true, day_of, date_of, february, months, days_in, sum, year_start, days_before, month_day, is_remembered}
 
 -- sums of the first lengths of a list
@@ -103,23 +103,23 @@ month_none y m place e p q = let last : m ≡ 13 = omega arith in rw last at e
 
 -- a date that is not true: past 2099, day 0, a day past the month's last
 module _ (n : ℕ) where
-  pub past_2099 : 1000000 ≤ n → Untrue ≡ day_of n
+  pub past_2099 : 1000000 ≤ n → None ≡ day_of n
   unfolding day_of is_true
   past_2099 h = rw (le-ltb n 1000000 h)
 
   module _ (h : n < 1000000) where
-    pub day_zero : day_of_month n < 1 → Untrue ≡ day_of n
+    pub day_zero : day_of_month n < 1 → None ≡ day_of n
     unfolding day_of is_true
     day_zero q = rw (lt-ltb n 1000000 h, lt-leb 1 (n % 100) q)
 
     module _ (p : 1 ≤ n % 100) where
-      pub past_month : {days : ℕ} → days ≡ days_in (n / 10000) (n / 100 % 100) → days < n % 100 → Untrue ≡ day_of n
+      pub past_month : {days : ℕ} → days ≡ days_in (n / 10000) (n / 100 % 100) → days < n % 100 → None ≡ day_of n
       unfolding day_of is_true
       past_month e q = rw (lt-ltb n 1000000 h, le-leb 1 (n % 100) p, lt-leb (n % 100) (days_in (n / 10000) (n / 100 % 100)) (rw e at q))
 
       pub true_date : {days before : ℕ} → days ≡ days_in (n / 10000) (n / 100 % 100) → n % 100 ≤ days
           → before ≡ days_before (n / 10000) (n / 100 % 100)
-          → Number (year_start (n / 10000) + before + (n % 100 - 1)) ≡ day_of n
+          → Some (year_start (n / 10000) + before + (n % 100 - 1)) ≡ day_of n
       unfolding day_of is_true
       true_date e q b =
           rw (lt-ltb n 1000000 h, le-leb 1 (n % 100) p, le-leb (n % 100) (days_in (n / 10000) (n / 100 % 100)) (rw e at q), b)

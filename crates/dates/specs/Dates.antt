@@ -1,8 +1,6 @@
 -- True dates of 2000 to 2099, their day numbers, and how long a day is remembered.
-use Rattle.std.specs.Prelude.{ℕ, ◌+◌, ◌*◌, ◌-◌, ◌/◌, ◌%◌, List, [], ◌∷◌, Bool, ◌&&◌, cond, get_or, take, leb, ltb, eqb}
+use Rattle.std.specs.Prelude.{ℕ, ◌+◌, ◌*◌, ◌-◌, ◌/◌, ◌%◌, List, [], ◌∷◌, Bool, ◌&&◌, cond, get_or, take, leb, ltb, eqb, Option, Some, None}
 use Rattle.chars.specs.Words.{within}
-use Rattle.dates.specs.declared.Day.{Day}
-use Rattle.dates.specs.declared.Day.TheVariants.{Number, Untrue}
 
 -- from 2000 to 2099 every fourth year is a leap year
 unfoldable pub february : ℕ → ℕ
@@ -48,8 +46,8 @@ abbrev pub day_number : ℕ → ℕ → ℕ → ℕ
 day_number year month day = year_start year + days_before year month + (day - 1)
 
 -- the day number of a true date
-unfoldable pub day_of : ℕ → Day
-day_of n = cond (is_true n) (Number (day_number (year_of n) (month_of n) (day_of_month n))) Untrue
+unfoldable pub day_of : ℕ → Option ℕ
+day_of n = cond (is_true n) (Some (day_number (year_of n) (month_of n) (day_of_month n))) None
 
 -- MMDD of a day's place among months of the given lengths, the first of which is month m; 0 past the last
 unfoldable pub month_day : ℕ → List ℕ → ℕ → ℕ

@@ -7,12 +7,6 @@ ghost use Rattle.dates.specs.Dates.{months, days_in, days_before, month_day, day
 // For how many days after its own a thing is remembered.
 const DAYS_BACK: u64 = 14;
 
-#[derive(Clone, Copy)]
-pub enum Day {
-    Number(u64),
-    Untrue,
-}
-
 // The days of a month; 0 for a number that is no month.
 pub fn days_in(year: u64, month: u64) -> u64
     ensures value { result ≡ days_in year month }
@@ -27,22 +21,19 @@ pub fn days_in(year: u64, month: u64) -> u64
 }
 
 // The day number of YYMMDD, if that is a true date of 2000 to 2099.
-pub fn day_of(date: u64) -> Day
+pub fn day_of(date: u64) -> Option<u64>
     ensures { result ≡ day_of date }
 {
     if 1_000_000 <= date {
-        return Day::Untrue;
+        return None;
     }
     let year = date / 10_000;
     let month = date / 100 % 100;
     let day = date % 100;
-    if day < 1 {
-        return Day::Untrue;
+    if day < 1 || days_in(year, month) < day {
+        return None;
     }
-    if days_in(year, month) < day {
-        return Day::Untrue;
-    }
-    Day::Number(365 * year + (year + 3) / 4 + days_before(year, month) + (day - 1))
+    Some(365 * year + (year + 3) / 4 + days_before(year, month) + (day - 1))
 }
 
 // The days of a year before a month.
@@ -51,10 +42,8 @@ fn days_before(year: u64, month: u64) -> u64
     ensures small { result ≤ 366 }
 {
     let mut days = 0;
-    let mut m = 0;
-    while m < month {
+    for m in 0..month {
         days += days_in(year, m);
-        m += 1;
     }
     days
 }
@@ -65,14 +54,12 @@ fn month_day(year: u64, day: u64) -> u64
     ensures small { result ≤ 1231 }
 {
     let mut place = day;
-    let mut month = 1;
-    while month <= 12 {
+    for month in 1..13 {
         let days = days_in(year, month);
         if place < days {
             return 100 * month + (place + 1);
         }
         place -= days;
-        month += 1;
     }
     0
 }
@@ -93,8 +80,5 @@ pub fn date_of(day: u64) -> u64
 pub fn remembered(day: u64, today: u64) -> bool
     ensures { result ≡ is_remembered day today }
 {
-    if today < day {
-        return false;
-    }
-    today - day <= DAYS_BACK
+    day <= today && today - day <= DAYS_BACK
 }

@@ -3,16 +3,20 @@
 // and tells the place and the reason on standard error. With --keep-going it prints "line N not a call" and goes on.
 #![tactic(auto)]
 
+ghost use Rattle.std.specs.Prelude.{◌≤◌, IfSome, length};
+
 use call::step::Told;
+use chars::Refusal;
 use cli_files::lines::Ahead;
-use cli_files::{Console, Got, Place, lines, paths, whole};
-use cli_print::Row;
+use cli_files::paths::PATH_MAX;
+use cli_files::{Console, Place, lines, paths, whole};
 use cli_script::{Line, Wanted};
-use model::{Action, Answer, Phase};
+use model::{Action, Phase};
 use std::env::Env;
+use std::fmt::{Display, Write};
 use std::fs::Files;
-use std::io;
 use std::random::RandomSource;
+use std::{fmt, io};
 use tables::Desk;
 
 // A call: its clock, its action, and where in the line its file's name begins.
@@ -46,22 +50,12 @@ struct Read {
     n: usize,
 }
 
-// The next line: its deed, its length, how many bytes of input it has, what is ahead in the script, and whether it is there at all.
+// The next line: its deed, its length, and how many bytes of input it has.
 #[derive(Clone, Copy)]
 struct Next {
     deed: Deed,
     length: usize,
     n: usize,
-    ahead: Ahead,
-    more: bool,
-}
-
-// What a line leaves: the desk, what is ahead in the script, and whether there may be more lines.
-#[derive(Clone, Copy)]
-struct Turn {
-    desk: Desk,
-    ahead: Ahead,
-    more: bool,
 }
 
 fn asks(clock: u64, action: Action, file: usize) -> Deed {
@@ -91,28 +85,26 @@ fn deed_of(line: Line) -> Deed {
     }
 }
 
-fn expected(console: &Console, wanted: Wanted) {
-    match wanted {
-        Wanted::Command => error(
-            console,
-            b"clear, open, message, sublimit, status, tick, close, closing, show or why",
-        ),
-        Wanted::Clock => error(console, b"a clock: seconds of the day, or HH:MM:SS"),
-        Wanted::Sender => error(console, b"the number of the sender"),
-        Wanted::Bank => error(console, b"a bank of 4 characters"),
-        Wanted::Cents => error(console, b"whole cents, at most 18446744073709551615"),
-        Wanted::BinCode => error(console, b"a BIN of 8 characters"),
-        Wanted::Letter => error(console, b"a letter"),
-        Wanted::Date => error(console, b"a date of 6 characters, YYMMDD"),
-        Wanted::FileName => error(console, b"the name of a file"),
-        Wanted::LineEnd => error(console, b"the end of the line"),
-    }
-}
+// What was expected.
+#[derive(Clone, Copy)]
+struct Words(Wanted);
 
-fn error(console: &Console, wanted: &[u8]) {
-    cli_files::say(console, b"expected ");
-    cli_files::say(console, wanted);
-    cli_files::say(console, b"\n");
+impl fmt::Display for Words {
+    fn fmt<W: fmt::Write>(&self, f: &mut fmt::Formatter<W>) -> fmt::Result {
+        f.write_str(match self.0 {
+            Wanted::Command =>
+                "clear, open, message, sublimit, status, tick, close, closing, show or why",
+            Wanted::Clock => "a clock: seconds of the day, or HH:MM:SS",
+            Wanted::Sender => "the number of the sender",
+            Wanted::Bank => "a bank of 4 characters",
+            Wanted::Cents => "whole cents, at most 18446744073709551615",
+            Wanted::BinCode => "a BIN of 8 characters",
+            Wanted::Letter => "a letter",
+            Wanted::Date => "a date of 6 characters, YYMMDD",
+            Wanted::FileName => "the name of a file",
+            Wanted::LineEnd => "the end of the line",
+        })
+    }
 }
 
 // Columns are counted in bytes, from 1 on. A line has at most 65,536 of them.
@@ -134,95 +126,36 @@ fn goes_on(console: &Console, keep_going: bool, number: u64) -> bool {
     if !keep_going {
         return false;
     }
-    cli_print::begin(console)
-        .field(b"line ", number)
-        .text(b" not a call")
-        .print_line();
+    cli_print::line(console, format_args!("line {number} not a call"));
     cli_files::is_heard(console)
 }
 
+// What was expected at a place of a line that is no call.
 fn not_a_call(
     console: &Console,
     keep_going: bool,
     number: u64,
     name: &[u8],
-    s: &[u8],
     at: usize,
-    wanted: Wanted,
+    wanted: impl Display + Drop,
 ) -> bool {
     if !keep_going {
-        cli_files::tell_place(
-            console,
-            name,
-            place_at(number, cli_script::word_start(s, at)),
-        );
-        expected(console, wanted);
+        cli_files::tell_place(console, name, place_at(number, at));
+        cli_files::tell(console, format_args!("expected {wanted}\n"));
     }
     goes_on(console, keep_going, number)
 }
 
-fn too_long(console: &Console, keep_going: bool, number: u64, name: &[u8]) -> bool {
-    if !keep_going {
-        cli_files::tell_place(console, name, place_at(number, 65536));
-        error(
-            console,
-            b"the end of the line: it has more than 65,536 bytes",
-        );
-    }
-    goes_on(console, keep_going, number)
-}
-
-fn command(console: &Console, action: Action) -> Row<'_> {
+fn command(action: Action) -> &'static str {
     match action {
-        Action::Opening => cli_print::begin(console).text(b"open "),
-        Action::Message(_) => cli_print::begin(console).text(b"message "),
-        Action::SubLimit(_, _) => cli_print::begin(console).text(b"sublimit "),
-        Action::Status(_, _, _) => cli_print::begin(console).text(b"status "),
-        Action::Tick => cli_print::begin(console).text(b"tick "),
-        Action::Close => cli_print::begin(console).text(b"close "),
-        Action::ClosingBook(_) => cli_print::begin(console).text(b"closing "),
+        Action::Opening => "open",
+        Action::Message(_) => "message",
+        Action::SubLimit(_, _) => "sublimit",
+        Action::Status(_, _, _) => "status",
+        Action::Tick => "tick",
+        Action::Close => "close",
+        Action::ClosingBook(_) => "closing",
     }
-}
-
-fn tell_tries<'a>(before: Row<'a>, tries: &[u64], n: usize) -> Row<'a> {
-    let mut row = before.text(b" tries");
-    let mut i = 0;
-    while i < tries.len() {
-        if i < n {
-            row = row.field(b" ", tries[i]);
-        }
-        i += 1;
-    }
-    row
-}
-
-fn write_beside(
-    rt: &(impl Files + RandomSource),
-    console: &Console,
-    name: &[u8],
-    place: Place,
-    path: &[u8],
-    n: usize,
-    book: &[u8],
-) -> bool {
-    if n <= path.len() {
-        whole::write(rt, console, name, place, &path[..n], book)
-    } else {
-        false
-    }
-}
-
-fn write_book(
-    rt: &(impl Files + RandomSource),
-    console: &Console,
-    name: &[u8],
-    place: Place,
-    file: &[u8],
-    path: &mut [u8; 4096],
-    book: &[u8],
-) -> bool {
-    let n = paths::beside(name, file, path);
-    write_beside(rt, console, name, place, path, n, book)
 }
 
 // Whether a book was written to the file that a line names.
@@ -234,8 +167,9 @@ fn give_file(
     file: &[u8],
     book: &[u8],
 ) -> bool {
-    let mut path = [0u8; 4096];
-    write_book(rt, console, name, place, file, &mut path, book)
+    let mut path = [0u8; PATH_MAX];
+    let n = paths::beside(name, file, &mut path);
+    whole::write(rt, console, name, place, &path[..n], book)
 }
 
 fn give_book(
@@ -249,13 +183,7 @@ fn give_book(
     n: usize,
 ) -> bool {
     let end = cli_script::word_end(s, file);
-    if s.len() < end {
-        return false;
-    }
-    if end < file {
-        return false;
-    }
-    if out.len() < n {
+    if s.len() < end || end < file || out.len() < n {
         return false;
     }
     give_file(
@@ -282,27 +210,18 @@ fn give(
     name: &[u8],
     s: &[u8],
     asked: Asked,
-    answer: Answer,
+    answer: Result<(), Refusal>,
     out: &[u8],
     n: usize,
 ) -> bool {
     let action = asked.action;
     match action {
         Action::ClosingBook(_) => {
-            if answer.number() != 0 {
-                return true;
-            }
-            if give_book(rt, console, name, number, s, asked.file, out, n) {
-                return true;
-            }
-            keep_going
+            answer.is_err()
+                || give_book(rt, console, name, number, s, asked.file, out, n)
+                || keep_going
         }
-        Action::Opening => give_text(console, out, n),
-        Action::Message(_) => give_text(console, out, n),
-        Action::SubLimit(_, _) => give_text(console, out, n),
-        Action::Status(_, _, _) => give_text(console, out, n),
-        Action::Tick => give_text(console, out, n),
-        Action::Close => give_text(console, out, n),
+        _ => give_text(console, out, n),
     }
 }
 
@@ -320,10 +239,13 @@ fn tell_call(
 ) -> bool {
     let action = asked.action;
     let answer = told.answer;
-    let row = command(console, action).two_digits(answer.number());
-    tell_tries(row, tries, told.tried)
-        .field(b" bytes ", told.written as u64)
-        .print_line();
+    let mut row = cli_print::begin(console);
+    row.put(format_args!("{} {:02} tries", command(action), model::number_of(answer)));
+    for &place in tries.iter().take(told.tried) {
+        row.put(format_args!(" {place}"));
+    }
+    row.put(format_args!(" bytes {}", told.written));
+    row.print_line();
     if !cli_files::is_heard(console) {
         return false;
     }
@@ -341,34 +263,6 @@ fn tell_call(
     )
 }
 
-fn read_path(
-    rt: &impl Files,
-    console: &Console,
-    name: &[u8],
-    place: Place,
-    path: &[u8],
-    n: usize,
-    input: &mut [u8],
-) -> Got {
-    if path.len() < n {
-        return Got::Unread;
-    }
-    cli_files::read_at(rt, console, name, place, &path[..n], input)
-}
-
-fn read_beside(
-    rt: &impl Files,
-    console: &Console,
-    name: &[u8],
-    place: Place,
-    file: &[u8],
-    path: &mut [u8; 4096],
-    input: &mut [u8],
-) -> Got {
-    let n = paths::beside(name, file, path);
-    read_path(rt, console, name, place, path, n, input)
-}
-
 fn read_named(
     rt: &impl Files,
     console: &Console,
@@ -376,9 +270,12 @@ fn read_named(
     place: Place,
     file: &[u8],
     input: &mut [u8],
-) -> Got {
-    let mut path = [0u8; 4096];
-    read_beside(rt, console, name, place, file, &mut path, input)
+) -> Option<usize>
+    ensures { IfSome result (λ n. n ≤ length input.old) }
+{
+    let mut path = [0u8; PATH_MAX];
+    let n = paths::beside(name, file, &mut path);
+    cli_files::read_at(rt, console, name, place, &path[..n], input)
 }
 
 fn read_file(
@@ -389,13 +286,12 @@ fn read_file(
     s: &[u8],
     file: usize,
     input: &mut [u8],
-) -> Got {
+) -> Option<usize>
+    ensures { IfSome result (λ n. n ≤ length input.old) }
+{
     let end = cli_script::word_end(s, file);
-    if s.len() < end {
-        return Got::Unread;
-    }
-    if end < file {
-        return Got::Unread;
+    if s.len() < end || end < file {
+        return None;
     }
     read_named(
         rt,
@@ -417,16 +313,14 @@ fn read_input(
     s: &[u8],
     asked: Asked,
     input: &mut [u8],
-) -> Got {
+) -> Option<usize>
+    ensures { IfSome result (λ n. n ≤ length input.old) }
+{
     let action = asked.action;
     match action {
         Action::Opening => read_file(rt, console, name, number, s, asked.file, input),
         Action::Message(_) => read_file(rt, console, name, number, s, asked.file, input),
-        Action::SubLimit(_, _) => Got::Bytes(0),
-        Action::Status(_, _, _) => Got::Bytes(0),
-        Action::Tick => Got::Bytes(0),
-        Action::Close => Got::Bytes(0),
-        Action::ClosingBook(_) => Got::Bytes(0),
+        _ => Some(0),
     }
 }
 
@@ -442,11 +336,11 @@ fn read_deed(
     let deed = deed_of(cli_script::read_line(s));
     match deed {
         Deed::Call(asked) => match read_input(rt, console, name, number, s, asked, input) {
-            Got::Unread => Read {
+            None => Read {
                 deed: Deed::Unread,
                 n: 0,
             },
-            Got::Bytes(n) => Read { deed, n },
+            Some(n) => Read { deed, n },
         },
         _ => Read { deed, n: 0 },
     }
@@ -482,17 +376,7 @@ fn read_line(
     }
 }
 
-fn no_line(ahead: Ahead) -> Next {
-    Next {
-        deed: Deed::Nothing,
-        length: 0,
-        n: 0,
-        ahead,
-        more: false,
-    }
-}
-
-// Takes the next line of the script and reads the file that it names.
+// Takes the next line of the script, if it has one more, and reads the file that the line names.
 fn read_next(
     rt: &impl Files,
     console: &Console,
@@ -502,16 +386,12 @@ fn read_next(
     buf: &mut [u8],
     line: &mut [u8],
     input: &mut [u8],
-    before: Ahead,
-) -> Next {
-    let taken = lines::take(console, name, from, buf, line, before);
+    ahead: &mut Ahead,
+) -> Option<Next> {
+    let taken = lines::take(console, name, from, buf, line, ahead)?;
     let length = taken.n;
-    let ahead = taken.ahead;
-    if !taken.is_there {
-        return no_line(ahead);
-    }
     if line.len() < length {
-        return no_line(ahead);
+        return None;
     }
     let read = read_line(
         rt,
@@ -522,20 +402,17 @@ fn read_next(
         taken.is_long,
         input,
     );
-    let deed = read.deed;
-    Next {
-        deed,
+    Some(Next {
+        deed: read.deed,
         length,
         n: read.n,
-        ahead,
-        more: true,
-    }
+    })
 }
 
 // What is told of a line that asks nothing of the engine.
 fn nothing(desk: Desk) -> Told {
     Told {
-        answer: Answer::Done,
+        answer: Ok(()),
         written: 0,
         tried: 0,
         desk,
@@ -636,12 +513,11 @@ fn perform(
     }
 }
 
-fn tell_clear(console: &Console, answer: Answer) -> bool {
-    cli_print::begin(console)
-        .text(b"clear ")
-        .two_digits(answer.number())
-        .text(b" tries bytes 0")
-        .print_line();
+fn tell_clear(console: &Console, answer: Result<(), Refusal>) -> bool {
+    cli_print::line(
+        console,
+        format_args!("clear {:02} tries bytes 0", model::number_of(answer)),
+    );
     cli_files::is_heard(console)
 }
 
@@ -678,11 +554,17 @@ fn tell(
             keep_going,
             number,
             name,
-            &line[..length],
-            at,
-            wanted,
+            cli_script::word_start(&line[..length], at),
+            Words(wanted),
         ),
-        Deed::TooLong => too_long(console, keep_going, number, name),
+        Deed::TooLong => not_a_call(
+            console,
+            keep_going,
+            number,
+            name,
+            65536,
+            "the end of the line: it has more than 65,536 bytes",
+        ),
         Deed::Unread => goes_on(console, keep_going, number),
         Deed::Show => {
             cli_tables::show(
@@ -714,7 +596,7 @@ fn tell(
     }
 }
 
-// The next line of the script: read, done and told.
+// The next line of the script: read, done and told. Answers whether there may be one more.
 fn do_next(
     rt: &(impl Files + RandomSource),
     console: &Console,
@@ -726,8 +608,8 @@ fn do_next(
     buf: &mut [u8; 65536],
     line: &mut [u8; 65536],
     input: &mut [u8; 65536],
-    ahead: Ahead,
-    desk: Desk,
+    ahead: &mut Ahead,
+    desk: &mut Desk,
     codes: &mut [u64; 64],
     flags: &mut [u64; 64],
     balances: &mut [u64; 64],
@@ -738,15 +620,17 @@ fn do_next(
     sheet: &mut [u64; 64],
     out: &mut [u8; 33705],
     tries: &mut [u64; 528],
-) -> Turn {
-    let next = read_next(rt, console, number, name, from, buf, line, input, ahead);
+) -> bool {
+    let Some(next) = read_next(rt, console, number, name, from, buf, line, input, ahead) else {
+        return false;
+    };
     let deed = next.deed;
-    let rest = next.ahead;
     let told = perform(
-        quick, deed, input, next.n, desk, codes, flags, balances, sublimits, batches, references,
+        quick, deed, input, next.n, *desk, codes, flags, balances, sublimits, batches, references,
         bins, sheet, out, tries,
     );
-    let is_well = tell(
+    *desk = told.desk;
+    tell(
         rt,
         console,
         keep_going,
@@ -765,13 +649,7 @@ fn do_next(
         sheet,
         out,
         tries,
-    );
-    let after = told.desk;
-    Turn {
-        desk: after,
-        ahead: rest,
-        more: next.more && is_well,
-    }
+    )
 }
 
 // No script has so many lines that the numbers run out.
@@ -806,11 +684,8 @@ fn run(
         n: 0,
     };
     let mut ahead = lines::nothing_ahead();
-    let mut number = 0;
-    let mut more = true;
-    while number < u64::MAX && more {
-        number += 1;
-        let turn = do_next(
+    for number in 1..u64::MAX {
+        let more = do_next(
             rt,
             console,
             quick,
@@ -821,8 +696,8 @@ fn run(
             &mut buf,
             &mut line,
             &mut input,
-            ahead,
-            desk,
+            &mut ahead,
+            &mut desk,
             &mut codes,
             &mut flags,
             &mut balances,
@@ -834,9 +709,9 @@ fn run(
             &mut out,
             &mut tries,
         );
-        desk = turn.desk;
-        ahead = turn.ahead;
-        more = turn.more;
+        if !more {
+            return;
+        }
     }
 }
 

@@ -1,4 +1,5 @@
 -- The functions keep the three demands: their contracts, and the model's promises.
+use Rattle.std.specs.Prelude.{Ok, Err}
 use Prim.Native.Nat.{ℕ, ◌<◌}
 use mathlib.Core.Path.{◌≡◌, refl, sym, ap, subst, ◌∙◌}
 use mathlib.Core.Bool.{Bool, true, false}
@@ -7,9 +8,8 @@ use lib.ListN.{length, get_or}
 use Rattle.chars.specs.Words.{Says}
 use Rattle.chars.specs.declared.Refusal.{Refusal}
 use Rattle.chars.specs.declared.Refusal.TheVariants.{BrokenTables}
+use Rattle.model.specs.Answers.{Answer}
 use Rattle.model.specs.declared.Action.TheVariants.{Opening}
-use Rattle.model.specs.declared.Answer.{Answer}
-use Rattle.model.specs.declared.Answer.TheVariants.{Done, Refused}
 use Rattle.model.specs.declared.Phase.TheVariants.{Closed}
 use Rattle.queue.specs.Promise.{True}
 use Rattle.model.specs.State.{State, payments_at}
@@ -125,7 +125,7 @@ module _ (x : Kept) (k : Lending) (y : Outcome) (c : Calls x k y) where
   l = lent_to x.desk (tables_on x) k
 
   -- an outcome is what is seen of it
-  is_as_was : (q : Refusal) → seen_as y ≡ record { answer = Refused q; written = 0; tried = 0; lent = l } → y ≡ as_it_was x k q
+  is_as_was : (q : Refusal) → seen_as y ≡ record { answer = Err q; written = 0; tried = 0; lent = l } → y ≡ as_it_was x k q
   is_as_was q h = sym (seen_back y) ∙ ap outcome_of h ∙ rw (row_back x.row)
 
   nothing_changed : Right x.desk (tables_on x) → (q : Refusal) → call (engine_of x) (call_in k) ≡ refused (engine_of x) q → y ≡ as_it_was x k q
@@ -136,12 +136,12 @@ module _ (x : Kept) (k : Lending) (y : Outcome) (c : Calls x k y) where
   broken_so true s i h = absurd (h s)
   broken_so false s i h = is_as_was BrokenTables i
 
-  opening_so : (b : Bool) → Says (Right x.desk (tables_on x)) b → seen_as y ≡ call_lent b l k.asked → (q : Refusal) → k.asked.action ≡ Opening → y.told.answer ≡ Refused q
+  opening_so : (b : Bool) → Says (Right x.desk (tables_on x)) b → seen_as y ≡ call_lent b l k.asked → (q : Refusal) → k.asked.action ≡ Opening → y.told.answer ≡ Err q
       → y ≡ as_it_was x k q
   unfolding call_lent
   opening_so true s i q o g = nothing_changed s q (refused_openings_change_nothing (engine_of x) (call_in k) q o (sym (ap (λ (z : Left). z.answer) i) ∙ g))
   opening_so false s i q o g =
-      let u : Refused BrokenTables ≡ Refused q = sym (ap (λ (z : Left). z.answer) i) ∙ g in
+      let u : Err BrokenTables ≡ Err q = sym (ap (λ (z : Left). z.answer) i) ∙ g in
       is_as_was q (i ∙ ap (λ (n : Answer). record { answer = n; written = 0; tried = 0; lent = l }) u)
 
   pub demand_one : DemandOne x k y
@@ -161,7 +161,7 @@ module _ (x : Kept) (y : Beginning) (c : Clears x y) where
   refuses true s i h = absurd (h s)
   refuses false s i h = sym (wiped_back y) ∙ ap beginning_of i ∙ rw (row_back x.row)
 
-  accepts : (b : Bool) → Says (Long (tables_on x)) b → wiped_as y ≡ clear_lent b x.desk (tables_on x) → Long (tables_on x) → y.start.answer ≡ Done
+  accepts : (b : Bool) → Says (Long (tables_on x)) b → wiped_as y ≡ clear_lent b x.desk (tables_on x) → Long (tables_on x) → y.start.answer ≡ Ok tt
   unfolding clear_lent
   accepts true s i g = ap (λ (z : Wiped). z.answer) i
   accepts false s i g = absurd (s g)

@@ -10,8 +10,7 @@ use borrow.Author.Tests.{leb-true, leb-false, le-leb}
 use Rattle.chars.specs.Words.{Says as Tells}
 use Rattle.chars.specs.Refusals.{number_of}
 use Rattle.chars.specs.declared.Refusal.TheVariants.{BrokenTables}
-use Rattle.model.specs.declared.Answer.{Answer}
-use Rattle.model.specs.Answers.{answer_number}
+use Rattle.model.specs.Answers.{Answer, answer_number}
 use Rattle.model.specs.declared.Phase.TheVariants.{Closed}
 use Rattle.model.specs.Calls.{Asked, Call, Engine, Result, call}
 use Rattle.model.specs.Course.{Deed, start, course, since}

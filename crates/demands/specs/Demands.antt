@@ -1,12 +1,11 @@
 -- The three demands, of the public functions `call` and `clear` (crate call_records). What each ensures of anything lent is its contract, `Called` and `Cleared`
 -- (tables/specs/Lent) of the tables whose columns are the records' fields; so what is said here of all outcomes that keep the contracts is said of what the
 -- functions leave.
-use Rattle.std.specs.Prelude.{ℕ, ◌<◌, ◌≡◌, Bool, List, [], ◌∷◌, ◌++◌, map, length, get_or, take, drop}
+use Rattle.std.specs.Prelude.{ℕ, ◌<◌, ◌≡◌, Bool, List, [], ◌∷◌, ◌++◌, map, length, get_or, take, drop, Ok, Err}
 use Rattle.chars.specs.declared.Refusal.{Refusal}
 use Rattle.chars.specs.declared.Refusal.TheVariants.{BrokenTables}
 use Rattle.queue.specs.Promise.{taken_by}
 use Rattle.model.specs.declared.Action.TheVariants.{Opening}
-use Rattle.model.specs.declared.Answer.TheVariants.{Done, Refused}
 use Rattle.model.specs.declared.Phase.TheVariants.{Closed}
 use Rattle.model.specs.State.{Batches, payments_at}
 use Rattle.model.specs.Calls.{Call, Engine, Result, judge, call}
@@ -100,7 +99,7 @@ Everywhere P = EverySince (λ ds. P)
 
 abbrev pub as_it_was : Kept → Lending → Refusal → Outcome
 as_it_was x k q = record {
-  told = record { answer = Refused q; written = 0; tried = 0; desk = x.desk };
+  told = record { answer = Err q; written = 0; tried = 0; desk = x.desk };
   row = x.row;
   batches = x.batches;
   references = x.references;
@@ -115,9 +114,9 @@ pub record DemandOne (x : Kept) (k : Lending) (y : Outcome) : Type 0 where
   -- 06, exactly where a table breaks the rules: "nothing changed"
   pub broken_tables : (Right x.desk (tables_on x) → ⊥) → y ≡ as_it_was x k BrokenTables
   -- 05 and 07, by the moment and the room alone: "nothing changed"
-  pub at_once : Right x.desk (tables_on x) → (q : Refusal) → judge (engine_of x).state (call_in k) ≡ Refused q → y ≡ as_it_was x k q
+  pub at_once : Right x.desk (tables_on x) → (q : Refusal) → judge (engine_of x).state (call_in k) ≡ Err q → y ≡ as_it_was x k q
   -- an opening that is refused: "nothing changed"
-  pub opening : (q : Refusal) → k.asked.action ≡ Opening → y.told.answer ≡ Refused q → y ≡ as_it_was x k q
+  pub opening : (q : Refusal) → k.asked.action ≡ Opening → y.told.answer ≡ Err q → y ≡ as_it_was x k q
   -- "In every other call both are as before past their reported lengths"
   pub out : drop y.told.written y.out ≡ drop y.told.written k.out
   pub tries : drop y.told.tried y.tries ≡ drop y.told.tried k.tries
@@ -125,7 +124,7 @@ pub record DemandOne (x : Kept) (k : Lending) (y : Outcome) : Type 0 where
 -- of a clearing: "accepts any contents of the right lengths (else 06, its one refusal) and is a fresh start". Of anything kept
 abbrev pub not_begun : Kept → Beginning
 not_begun x = record {
-  start = record { answer = Refused BrokenTables; desk = x.desk };
+  start = record { answer = Err BrokenTables; desk = x.desk };
   row = x.row;
   batches = x.batches;
   references = x.references;
@@ -137,7 +136,7 @@ pub record DemandOneOfClearing (x : Kept) (y : Beginning) : Type 0 where
   pub one : (z : Beginning) → Clears x z → y ≡ z
   -- 06, exactly where a row has another length: "nothing changed"
   pub broken_tables : (Long (tables_on x) → ⊥) → y ≡ not_begun x
-  pub accepts : Long (tables_on x) → y.start.answer ≡ Done
+  pub accepts : Long (tables_on x) → y.start.answer ≡ Ok tt
   pub fresh : Long (tables_on x) → engine_of (begun_by y) ≡ start
 
 -- ---- demand 2: "Settlement and recall requests are accepted, or refused with the very code. Each response written reads back as the same response, a

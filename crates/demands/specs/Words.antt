@@ -1,13 +1,11 @@
 -- The three demands, of the functions that a program in C calls on rows of words: `purmagheli_call_rows` and `purmagheli_clear_rows` (crate c_engine). Their
 -- contracts are `CalledWords` and `ClearedWords` (c_engine/specs/Lending). What a promise says of what is kept, it says here of what the words say.
-use Rattle.std.specs.Prelude.{ℕ, ◌≤◌, ◌<◌, ◌≡◌, Bool, cond, List, [], ◌∷◌, leb, length, get_or}
+use Rattle.std.specs.Prelude.{ℕ, ◌≤◌, ◌<◌, ◌≡◌, Bool, cond, List, [], ◌∷◌, leb, length, get_or, Err}
 use Rattle.chars.specs.Refusals.{number_of}
 use Rattle.chars.specs.declared.Refusal.{Refusal}
 use Rattle.chars.specs.declared.Refusal.TheVariants.{BrokenTables, ShortBuffer}
-use Rattle.model.specs.declared.Answer.{Answer}
-use Rattle.model.specs.declared.Answer.TheVariants.{Refused}
 use Rattle.model.specs.declared.Phase.TheVariants.{Closed}
-use Rattle.model.specs.Answers.{answer_number}
+use Rattle.model.specs.Answers.{Answer, answer_number}
 use Rattle.model.specs.Calls.{Asked, Call, Engine, Result, judge, call}
 use Rattle.model.specs.Course.{Deed, start, course, since}
 use Rattle.model.specs.Answered.{Accounted, awaiting}
@@ -111,7 +109,7 @@ pub record OneOfCalls (x : EngineWords) (k : LendingWords) (y : Returned) : Type
   -- words that break the table rules: 06; 05 and 07 at once. Nothing changed but the report, which says that nothing was written
   pub broken_tables : 2 ≤ length k.report → InShape (words_of x k) → (RightWords x → ⊥) → y ≡ unchanged BrokenTables (words_of x k)
   pub at_once : 2 ≤ length k.report → InShape (words_of x k) → RightWords x → (q : Refusal)
-      → judge (engine_of (kept_by x)).state (call_in (lending_of k)) ≡ Refused q → y ≡ unchanged q (words_of x k)
+      → judge (engine_of (kept_by x)).state (call_in (lending_of k)) ≡ Err q → y ≡ unchanged q (words_of x k)
   -- and all of demand 1, of what the words say
   pub seen : 2 ≤ length k.report → InShape (words_of x k) → Says (λ o. DemandOne (kept_by x) (lending_of k) o) y
 

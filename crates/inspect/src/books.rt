@@ -1,55 +1,23 @@
 // The account of a book.
 use crate::faults;
-use book_read::{Book, Reading};
+use book_read::Book;
 use cli_files::Console;
-use cli_print::Row;
+use cli_print::ShortCode;
 
 // The number at a place of a row; 0 past its end.
 fn at(row: &[u64], i: usize) -> u64 {
-    if i < row.len() { row[i] } else { 0 }
-}
-
-fn show_stream(console: &Console, code: u64, administrator: u64) {
-    cli_print::begin(console)
-        .text(b"stream ")
-        .code(code)
-        .text(b" ")
-        .number(administrator)
-        .print_line();
+    row.get(i).copied().unwrap_or(0)
 }
 
 fn show_streams(console: &Console, streams: &[u64], n: usize) {
-    let mut i = 0;
-    while i < Book::STREAMS {
-        if i < n {
-            show_stream(console, at(streams, 2 * i), at(streams, 2 * i + 1));
-        }
-        i += 1;
+    for i in 0..n.min(Book::STREAMS) {
+        let code = ShortCode(at(streams, 2 * i));
+        let administrator = at(streams, 2 * i + 1);
+        cli_print::line(console, format_args!("stream {code} {administrator}"));
     }
 }
 
-// The streams of a bank's bits, in their order.
-fn show_bits<'a>(before: Row<'a>, streams: &[u64], bits: u64) -> Row<'a> {
-    let mut row = before;
-    let mut rest = bits;
-    let mut i = 0;
-    while i < Book::STREAMS {
-        if rest % 2 == 1 {
-            row = row.text(b" ").code(at(streams, 2 * i));
-        }
-        rest = rest / 2;
-        i += 1;
-    }
-    row
-}
-
-fn show_standing<'a>(row: Row<'a>, flags: u64) -> Row<'a> {
-    if flags % 2 == 1 {
-        return row.text(b" suspended ");
-    }
-    row.text(b" active ")
-}
-
+// A bank, and the streams of its bits, in their order.
 fn show_bank(
     console: &Console,
     streams: &[u64],
@@ -58,12 +26,22 @@ fn show_bank(
     balance: u64,
     sublimit: u64,
 ) {
-    let named = cli_print::begin(console).text(b"bank ").code(code);
-    let row = show_standing(named, flags)
-        .number(balance)
-        .text(b" ")
-        .number(sublimit);
-    show_bits(row, streams, flags / 2).print_line();
+    let code = ShortCode(code);
+    let standing = if flags % 2 == 1 {
+        "suspended"
+    } else {
+        "active"
+    };
+    let mut row = cli_print::begin(console);
+    row.put(format_args!("bank {code} {standing} {balance} {sublimit}"));
+    let mut bits = flags / 2;
+    for i in 0..Book::STREAMS {
+        if bits % 2 == 1 {
+            row.put(format_args!(" {}", ShortCode(at(streams, 2 * i))));
+        }
+        bits = bits / 2;
+    }
+    row.print_line();
 }
 
 fn show_banks(
@@ -75,44 +53,25 @@ fn show_banks(
     sublimits: &[u64],
     n: usize,
 ) {
-    let mut i = 0;
-    while i < Book::BANKS {
-        if i < n {
-            show_bank(
-                console,
-                streams,
-                at(codes, i),
-                at(flags, i),
-                at(balances, i),
-                at(sublimits, i),
-            );
-        }
-        i += 1;
+    for i in 0..n.min(Book::BANKS) {
+        show_bank(
+            console,
+            streams,
+            at(codes, i),
+            at(flags, i),
+            at(balances, i),
+            at(sublimits, i),
+        );
     }
 }
 
 // The sum of the first n balances, which a sound book keeps far below 2^64.
 fn total(balances: &[u64], n: usize) -> u64 {
     let mut sum: u64 = 0;
-    let mut i = 0;
-    while i < Book::BANKS {
-        if i < n {
-            sum = sum.wrapping_add(at(balances, i));
-        }
-        i += 1;
+    for &balance in balances.iter().take(n) {
+        sum = sum.wrapping_add(balance);
     }
     sum
-}
-
-fn show_head(console: &Console, book: Book) {
-    cli_print::begin(console)
-        .text(b"accepted book\ndate ")
-        .six_digits(dates::date_of(book.day))
-        .print_line();
-}
-
-fn show_total(console: &Console, sum: u64) {
-    cli_print::begin(console).field(b"total ", sum).print_line();
 }
 
 pub fn show(console: &Console, s: &[u8]) {
@@ -129,17 +88,20 @@ pub fn show(console: &Console, s: &[u8]) {
         &mut balances,
         &mut sublimits,
     ) {
-        Reading::Unread(why) => {
+        Err(why) => {
             cli_print::refused(console, why);
             faults::show(console, s);
         }
-        Reading::Held(book) => {
-            show_head(console, book);
+        Ok(book) => {
+            cli_print::line(console, "accepted book");
+            let date = dates::date_of(book.day);
+            cli_print::line(console, format_args!("date {date:06}"));
             show_streams(console, &streams, book.streams);
             show_banks(
                 console, &streams, &codes, &flags, &balances, &sublimits, book.banks,
             );
-            show_total(console, total(&balances, book.banks));
+            let sum = total(&balances, book.banks);
+            cli_print::line(console, format_args!("total {sum}"));
         }
     }
 }

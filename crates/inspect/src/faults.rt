@@ -1,60 +1,62 @@
 // Where a refused book breaks, in words.
-use book_explain::{Finding, Flaw, Spot};
+use book_explain::{Flaw, Spot};
 use cli_files::Console;
+use std::fmt;
+use std::fmt::Write;
 
-// A test of an entry.
-fn show_entry(console: &Console, spot: Spot) {
-    cli_print::field(console, b", entry ", spot.entry as u64);
-    cli_print::text(console, b": ");
-    let flaw = spot.flaw;
-    match flaw {
-        Flaw::NoCode => cli_print::text(console, b"the code is not four of A-Z 0-9"),
-        Flaw::NotAbove => cli_print::text(console, b"the code is not above the one before"),
-        Flaw::NoAdministrator => cli_print::text(console, b"the administrator is 0"),
-        Flaw::WrongFlag => cli_print::text(console, b"the flag is neither 0 nor 1"),
-        Flaw::NoStream => cli_print::text(console, b"a stream bit has no stream"),
-        Flaw::EntryZeros => cli_print::text(console, b"bytes that must be zero are not"),
-        Flaw::HighBalance => cli_print::text(console, b"the balance is out of range"),
-        Flaw::HighSublimit => cli_print::text(console, b"the sub-limit is out of range"),
-        _ => {}
+// What is wrong there.
+#[derive(Clone, Copy)]
+struct Words(Flaw);
+
+impl fmt::Display for Words {
+    fn fmt<W: fmt::Write>(&self, f: &mut fmt::Formatter<W>) -> fmt::Result {
+        f.write_str(match self.0 {
+            Flaw::WrongLength => "the length is not 2 to 5 blocks of 512 bytes",
+            Flaw::WrongSum => "the check does not fit",
+            Flaw::WrongHead => "the head is not that of this block",
+            Flaw::WrongCount => "the count of entries is out of range",
+            Flaw::UntrueDate => "the date is not a true one",
+            Flaw::AfterDate => "the bytes behind the date are not zero",
+            Flaw::Unused => "unused bytes are not zero",
+            Flaw::NoCode => "the code is not four of A-Z 0-9",
+            Flaw::NotAbove => "the code is not above the one before",
+            Flaw::NoAdministrator => "the administrator is 0",
+            Flaw::WrongFlag => "the flag is neither 0 nor 1",
+            Flaw::NoStream => "a stream bit has no stream",
+            Flaw::EntryZeros => "bytes that must be zero are not",
+            Flaw::HighBalance => "the balance is out of range",
+            Flaw::HighSublimit => "the sub-limit is out of range",
+            Flaw::HighTotal => "the total of the balances is out of range",
+        })
     }
 }
 
-// A test of a block, or of an entry in it.
-fn show_block(console: &Console, spot: Spot) {
-    cli_print::field(console, b"at block ", spot.block as u64);
-    let flaw = spot.flaw;
-    match flaw {
-        Flaw::WrongSum => cli_print::text(console, b": the check does not fit"),
-        Flaw::WrongHead => cli_print::text(console, b": the head is not that of this block"),
-        Flaw::WrongCount => cli_print::text(console, b": the count of entries is out of range"),
-        Flaw::UntrueDate => cli_print::text(console, b": the date is not a true one"),
-        Flaw::AfterDate => cli_print::text(console, b": the bytes behind the date are not zero"),
-        Flaw::Unused => cli_print::text(console, b": unused bytes are not zero"),
-        _ => show_entry(console, spot),
-    }
-}
+// Where it is: in the whole book, in a block, or in an entry of a block.
+#[derive(Clone, Copy)]
+struct Place(Spot);
 
-// The place of a test and what is wrong there.
-fn show_flaw(console: &Console, spot: Spot) {
-    let flaw = spot.flaw;
-    match flaw {
-        Flaw::WrongLength => cli_print::text(
-            console,
-            b"at the book: the length is not 2 to 5 blocks of 512 bytes",
-        ),
-        Flaw::HighTotal => cli_print::text(
-            console,
-            b"at the book: the total of the balances is out of range",
-        ),
-        _ => show_block(console, spot),
+impl fmt::Display for Place {
+    fn fmt<W: fmt::Write>(&self, f: &mut fmt::Formatter<W>) -> fmt::Result {
+        let Spot { block, entry, flaw } = self.0;
+        match flaw {
+            Flaw::WrongLength | Flaw::HighTotal => f.write_str("the book"),
+            Flaw::WrongSum
+            | Flaw::WrongHead
+            | Flaw::WrongCount
+            | Flaw::UntrueDate
+            | Flaw::AfterDate
+            | Flaw::Unused => write!(f, "block {block}"),
+            _ => write!(f, "block {block}, entry {entry}"),
+        }
     }
-    cli_print::end(console);
 }
 
 // The first test that a book fails.
 pub fn show(console: &Console, s: &[u8]) {
-    if let Finding::Broken(spot) = book_explain::find(s) {
-        show_flaw(console, spot);
+    if let Err(spot) = book_explain::find(s) {
+        cli_print::line(
+            console,
+            format_args!("at {}: {}", Place(spot), Words(spot.flaw)),
+        );
     }
 }

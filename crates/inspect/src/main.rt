@@ -7,7 +7,7 @@ mod faults;
 mod requests;
 mod responses;
 
-use cli_files::{Console, Got};
+use cli_files::Console;
 use std::env::Env;
 use std::fs::Files;
 
@@ -17,20 +17,19 @@ enum Subject {
     Request,
     Response,
     Book,
-    Unknown,
 }
 
-fn asked(rt: &impl Env) -> Subject {
+fn asked(rt: &impl Env) -> Option<Subject> {
     if cli_files::is_argument(rt, 1, b"request") {
-        return Subject::Request;
+        return Some(Subject::Request);
     }
     if cli_files::is_argument(rt, 1, b"response") {
-        return Subject::Response;
+        return Some(Subject::Response);
     }
     if cli_files::is_argument(rt, 1, b"book") {
-        return Subject::Book;
+        return Some(Subject::Book);
     }
-    Subject::Unknown
+    None
 }
 
 fn usage(console: &Console) {
@@ -43,25 +42,25 @@ fn show(console: &Console, subject: Subject, s: &[u8]) {
         Subject::Request => requests::show(console, s),
         Subject::Response => responses::show(console, s),
         Subject::Book => books::show(console, s),
-        Subject::Unknown => usage(console),
     }
 }
 
-// What stands in the first n bytes.
-fn show_first(console: &Console, subject: Subject, path: &[u8], buf: &[u8], n: usize) {
-    cli_print::line(console, b"file", path);
-    if n <= buf.len() {
-        show(console, subject, &buf[..n]);
-    }
+// A name and its value, which need not be text, on a line.
+fn named(console: &Console, name: &str, value: &[u8]) {
+    let mut row = cli_print::begin(console);
+    row.put(name);
+    row.text(b" ");
+    row.text(value);
+    row.print_line();
 }
 
 // A file past the buffer's 65,536 bytes has the answer that these have: a text is read to its 4,096th
 // byte at the most, and a book of more than 2,560 bytes is refused for its length.
 fn show_file(rt: &(impl Files + Input), console: &Console, subject: Subject, path: &[u8]) {
     let mut buf = [0u8; 65536];
-    match cli_files::read_named(rt, console, path, &mut buf) {
-        Got::Unread => (),
-        Got::Bytes(n) => show_first(console, subject, path, &buf, n),
+    if let Some(n) = cli_files::read_named(rt, console, path, &mut buf) {
+        named(console, "file", path);
+        show(console, subject, &buf[..n]);
     }
 }
 
@@ -79,13 +78,11 @@ fn show_arguments(
     subject: Subject,
     count: usize,
 ) {
-    let mut i = 2;
-    while i < count {
+    for i in 2..count {
         if !cli_files::is_heard(console) {
             return;
         }
         show_argument(rt, console, subject, i);
-        i += 1;
     }
 }
 
@@ -98,16 +95,9 @@ fn run(rt: &(impl Env + Files + Input), console: &Console) {
         return;
     }
     let count = cli_files::argument_count(rt);
-    let subject = asked(rt);
-    if count < 3 {
-        usage(console);
-        return;
-    }
-    match subject {
-        Subject::Unknown => usage(console),
-        Subject::Request => show_arguments(rt, console, subject, count),
-        Subject::Response => show_arguments(rt, console, subject, count),
-        Subject::Book => show_arguments(rt, console, subject, count),
+    match asked(rt) {
+        Some(subject) if 3 <= count => show_arguments(rt, console, subject, count),
+        _ => usage(console),
     }
 }
 

@@ -5,33 +5,27 @@ use response_write::{Answer, Outcome, Recall, Settlement};
 use text_fields::Break;
 use text_values::Part;
 
-fn part(console: &Console, s: &[u8], name: &[u8], p: Part) {
-    cli_print::line(console, name, text_values::text_of(s, p));
+fn part(console: &Console, s: &[u8], name: &str, p: Part) {
+    crate::named(console, name, text_values::text_of(s, p));
 }
 
 fn show_number(console: &Console, s: &[u8], p: Parts) {
     let subtype = p.subtype;
     let number = p.number;
     let reference = p.reference;
-    part(console, s, b"accepted", subtype);
-    part(console, s, b"number", number);
-    part(console, s, b"reference", reference);
+    part(console, s, "accepted", subtype);
+    part(console, s, "number", number);
+    part(console, s, "reference", reference);
 }
 
 fn show_settled(console: &Console, day: u64, second: u64) {
-    let row = cli_print::begin(console)
-        .text(b"settled ")
-        .six_digits(dates::date_of(day));
-    row.text(b" ")
-        .six_digits(clock::hhmmss_of(second))
-        .print_line();
+    let date = dates::date_of(day);
+    let time = clock::hhmmss_of(second);
+    cli_print::line(console, format_args!("settled {date:06} {time:06}"));
 }
 
 fn show_rejected(console: &Console, number: u64) {
-    cli_print::begin(console)
-        .text(b"rejected ")
-        .two_digits(number)
-        .print_line();
+    cli_print::line(console, format_args!("rejected {number:02}"));
 }
 
 fn show_settlement(console: &Console, s: &[u8], p: Parts, r: Settlement) {
@@ -39,8 +33,8 @@ fn show_settlement(console: &Console, s: &[u8], p: Parts, r: Settlement) {
     let bin = p.bin;
     let outcome = r.outcome;
     show_number(console, s, p);
-    part(console, s, b"stream", stream);
-    part(console, s, b"bin", bin);
+    part(console, s, "stream", stream);
+    part(console, s, "bin", bin);
     match outcome {
         Outcome::Settled(day, second) => show_settled(console, day, second),
         Outcome::Rejected(number) => show_rejected(console, number),
@@ -51,7 +45,7 @@ fn show_recall(console: &Console, s: &[u8], p: Parts, r: Recall) {
     let answer = r.answer;
     show_number(console, s, p);
     match answer {
-        Answer::Recalled => cli_print::text(console, b"recalled\n"),
+        Answer::Recalled => cli_print::line(console, "recalled"),
         Answer::Kept(number) => show_rejected(console, number),
     }
 }

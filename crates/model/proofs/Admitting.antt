@@ -1,4 +1,5 @@
 -- A message that keeps step 5's rules makes a right batch of the batch that it joins.
+use Rattle.std.specs.Prelude.{Ok, Err}
 use Prim.Native.Nat.{ℕ, zero, suc, ◌≤◌, ◌<◌}
 use mathlib.Core.Path.{◌≡◌, refl, sym, ap, subst, ◌∙◌}
 use mathlib.Core.Logic.{◌⊎◌, inl, inr}
@@ -19,7 +20,6 @@ use Rattle.queue.specs.Promise.{Off, Once}
 use Rattle.queue.proofs.MemoryLaws.{by_bool}
 use Rattle.queue.proofs.Trail.{All-append}
 use Rattle.book_read.specs.Range.{Each}
-use Rattle.model.specs.declared.Answer.TheVariants.{Done, Refused}
 use Rattle.model.specs.State.{on_found, Message, Batch, State, payments_of}
 use Rattle.model.specs.Messages.{Rule, first_broken, bank_place, line_bank, line_payment, line_payments, lines, arrived, has_number, line_rules, banks_in, message_rules, with_message}
 use Rattle.model.specs.Rules.{is_reference, is_bin, are_letters, Priced, Lettered, numbers, RightMinute, RightMessage, RightBatch}
@@ -97,12 +97,12 @@ payment_letters k c (suc n) (inr h) = h
 
 -- ---- the rules, one by one
 
-pub holds_all : (x : Rule) (xs : List Rule) → first_broken (x ∷ xs) ≡ Done → (x.holds ≡ true) × (first_broken xs ≡ Done)
+pub holds_all : (x : Rule) (xs : List Rule) → first_broken (x ∷ xs) ≡ Ok tt → (x.holds ≡ true) × (first_broken xs ≡ Ok tt)
 unfolding first_broken
 holds_all x xs h =
     by_bool x.holds
-    (λ e. let g : first_broken xs ≡ Done = rw e at h in (e, g))
-    (λ e. let g : Refused x.fault ≡ Done = rw e at h in let z : ◌≡◌ {A = ℕ} 0 1 = cc in absurd (omega arith))
+    (λ e. let g : first_broken xs ≡ (Ok tt) = rw e at h in (e, g))
+    (λ e. let g : Err x.fault ≡ (Ok tt) = rw e at h in let z : ◌≡◌ {A = ℕ} 0 1 = cc in absurd (omega arith))
 
 -- the banks that are taken are those of the payments so far
 Covers : List ℕ → List Payment → Type 0
@@ -136,9 +136,9 @@ module _ (s : State) (r : Reading) (stream : ℕ) where
   record LineHolds (taken : List ℕ) (l : Line) (ls : List Line) : Type 0 where
     below : line_bank s r l < s.house.banks
     new : member (line_bank s r l) taken ≡ false
-    rest : first_broken (line_rules s r stream (line_bank s r l ∷ taken) ls) ≡ Done
+    rest : first_broken (line_rules s r stream (line_bank s r l ∷ taken) ls) ≡ Ok tt
 
-  line_holds : (taken : List ℕ) (l : Line) (ls : List Line) → first_broken (line_rules s r stream taken (l ∷ ls)) ≡ Done → LineHolds taken l ls
+  line_holds : (taken : List ℕ) (l : Line) (ls : List Line) → first_broken (line_rules s r stream taken (l ∷ ls)) ≡ Ok tt → LineHolds taken l ls
   unfolding line_rules
   line_holds taken l ls h =
       let h₁ = holds_all _ _ h in
@@ -147,7 +147,7 @@ module _ (s : State) (r : Reading) (stream : ℕ) where
       let h₄ = holds_all _ _ h₃.1 in
       record { below = found_below l h₁.0; new = not-true _ h₄.0; rest = h₄.1 }
 
-  lines_priced : (taken : List ℕ) (ls : List Line) → first_broken (line_rules s r stream taken ls) ≡ Done → Each (λ l. l.amount.number ≤ 999999999999) ls
+  lines_priced : (taken : List ℕ) (ls : List Line) → first_broken (line_rules s r stream taken ls) ≡ Ok tt → Each (λ l. l.amount.number ≤ 999999999999) ls
       → Each (Priced s.house.banks) (line_payments s r ls)
   unfolding line_payments
   lines_priced taken [] h m = tt
@@ -172,7 +172,7 @@ module _ (s : State) (r : Reading) (stream : ℕ) where
   lines_many (l ∷ ls) = ap suc (lines_many ls)
 
   -- "already in this batch 87"
-  lines_distinct : (ls : List Line) (taken : List ℕ) (ps : List Payment) → Covers taken ps → Distinct ps → first_broken (line_rules s r stream taken ls) ≡ Done
+  lines_distinct : (ls : List Line) (taken : List ℕ) (ps : List Payment) → Covers taken ps → Distinct ps → first_broken (line_rules s r stream taken ls) ≡ Ok tt
       → Distinct (ps ++ line_payments s r ls)
   unfolding line_payments Covers
   lines_distinct [] taken ps c d h = rw (append-nil {A = Payment}) d
@@ -193,9 +193,9 @@ module _ (s : State) (r : Reading) (stream : ℕ) where
   record MessageHolds (b : Batch) : Type 0 where
     count : r.terms.count ≡ b.count
     new : has_number r.terms.number b.messages ≡ false
-    lines_hold : first_broken (line_rules s r stream (banks_in (payments_of b.messages)) (lines s r)) ≡ Done
+    lines_hold : first_broken (line_rules s r stream (banks_in (payments_of b.messages)) (lines s r)) ≡ Ok tt
 
-  message_holds : (b : Batch) → first_broken (message_rules s r stream b) ≡ Done → MessageHolds b
+  message_holds : (b : Batch) → first_broken (message_rules s r stream b) ≡ Ok tt → MessageHolds b
   unfolding message_rules
   message_holds b h =
       let h₁ = holds_all _ _ h in
@@ -205,7 +205,7 @@ module _ (s : State) (r : Reading) (stream : ℕ) where
       let h₅ = holds_all _ _ h₄.1 in
       record { count = eqb-true _ _ h₁.0; new = not-true _ h₃.0; lines_hold = h₅.1 }
 
-  pub message_right : (b : Batch) → Takes s.house.banks b → TextGives r → first_broken (message_rules s r stream b) ≡ Done → RightBatch s.house.banks (with_message s r b)
+  pub message_right : (b : Batch) → Takes s.house.banks b → TextGives r → first_broken (message_rules s r stream b) ≡ Ok tt → RightBatch s.house.banks (with_message s r b)
   message_right b t g h =
       let m = message_holds b h in
       let ps : List Payment = payments_of b.messages in

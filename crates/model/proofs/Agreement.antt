@@ -1,5 +1,6 @@
 -- "Two queue tests, plain and quick. From a fresh start, over any sequence of calls, both give the same answers, response bytes, balances and
 -- waiting batches in the same order; only their lists of tries may differ."
+use Rattle.std.specs.Prelude.{Ok, Err}
 use Prim.Native.Nat.{ℕ, suc}
 use mathlib.Core.Path.{◌≡◌, refl, sym, ap, ◌∙◌}
 use mathlib.Core.Bool.{Bool, true, false, ◌&&◌, cond, not}
@@ -16,8 +17,7 @@ use Rattle.queue.proofs.Agree.{tests_agree, true_test}
 use Rattle.queue.proofs.Promises.{fresh_none}
 use Rattle.settle.specs.Payments.{Payment}
 use Rattle.chars.specs.declared.Refusal.TheVariants.{WrongMoment, ShortBuffer}
-use Rattle.model.specs.declared.Answer.{Answer}
-use Rattle.model.specs.declared.Answer.TheVariants.{Done, Refused}
+use Rattle.model.specs.Answers.{Answer}
 use Rattle.model.specs.Kinds.{Kind, opens, steps, gives, kind_of, is_close, own_of}
 use Rattle.model.specs.State.{free, Batches, State, no_memory, payments_at, with_place}
 use Rattle.model.specs.Messages.{Acted}
@@ -97,8 +97,8 @@ module _ (s : State) (m n : List ℕ) (c : Call) (x y : Bool) where
       (is_close c.asked.action)
 
   opened_alike : (r : Answer) → view (opened_by r one (by x c)) ≡ view (opened_by r two (by y c))
-  opened_alike Done = refl
-  opened_alike (Refused r) = refl
+  opened_alike (Ok tt) = refl
+  opened_alike (Err r) = refl
 
   performed_alike : (z : Kind) → True (payments_at s.batches) s.books m → True (payments_at s.batches) s.books n
       → view (performed z one (by x c)) ≡ view (performed z two (by y c))
@@ -108,8 +108,8 @@ module _ (s : State) (m n : List ℕ) (c : Call) (x y : Bool) where
 
   judged_alike : (r : Answer) → True (payments_at s.batches) s.books m → True (payments_at s.batches) s.books n
       → view (judged r one (by x c)) ≡ view (judged r two (by y c))
-  judged_alike Done g h = performed_alike (kind_of c.asked.action) g h
-  judged_alike (Refused r) g h = refl
+  judged_alike (Ok tt) g h = performed_alike (kind_of c.asked.action) g h
+  judged_alike (Err r) g h = refl
 
   pub call_alike : True (payments_at s.batches) s.books m → True (payments_at s.batches) s.books n
       → view (call one (by x c)) ≡ view (call two (by y c))
@@ -121,18 +121,18 @@ module _ (s : State) (m n : List ℕ) (c : Call) (x y : Bool) where
 zeros_true : (b : ℕ → List Payment) (a : Accounts) (m : List ℕ) → ((p : ℕ) → get_or m p 0 ≡ 0) → True b a m
 zeros_true b a m h p = rw (h p) tt
 
-done_not_refused : {X : Type 0} {r : Refusal} → Refused r ≡ Done → X
+done_not_refused : {X : Type 0} {r : Refusal} → ◌≡◌ {A = Answer} (Err r) (Ok tt) → X
 done_not_refused h = let z : ◌≡◌ {A = ℕ} 0 1 = cc in absurd (omega arith)
 
 false_not_true : {X : Type 0} → ◌≡◌ {A = Bool} false true → X
 false_not_true h = let z : ◌≡◌ {A = ℕ} 0 1 = cc in absurd (omega arith)
 
 -- a call that is not refused at once came at the right moment
-pub right_day_lem : (s : State) (c : Call) → judge s c ≡ Done → right_day c.asked.action s.day ≡ true
+pub right_day_lem : (s : State) (c : Call) → judge s c ≡ Ok tt → right_day c.asked.action s.day ≡ true
 unfolding judge
 right_day_lem s c h = go (right_clock c.asked.action s.day c.asked.clock) (right_day c.asked.action s.day) h
   where
-    go : (p q : Bool) → cond (p && q) (cond (leb (room_needed c.asked.action s) c.room && leb rows_needed c.rows) Done (Refused ShortBuffer)) (Refused WrongMoment) ≡ Done → q ≡ true
+    go : (p q : Bool) → ◌≡◌ {A = Answer} (cond (p && q) (cond (leb (room_needed c.asked.action s) c.room && leb rows_needed c.rows) (Ok tt) (Err ShortBuffer)) (Err WrongMoment)) (Ok tt) → q ≡ true
     go true true h = refl
     go true false h = done_not_refused h
     go false q h = done_not_refused h
@@ -172,8 +172,8 @@ module _ (e : Engine) (c : Call) (f : Faithful e) where
 
   opened_faithful : (r : Answer) → is_open e.state.day.phase ≡ false → Faithful (opened_by r e c).engine
   unfolding opened
-  opened_faithful Done h = record { true = zeros_true _ _ e.memory (f.idle h); idle = λ g. f.idle h }
-  opened_faithful (Refused r) h = f
+  opened_faithful (Ok tt) h = record { true = zeros_true _ _ e.memory (f.idle h); idle = λ g. f.idle h }
+  opened_faithful (Err r) h = f
 
   performed_faithful : (z : Kind) → day_for z e.state.day ≡ true → Faithful (performed z e c).engine
   performed_faithful opens h = opened_faithful (opening_answer e.state.day c.asked.input) (not_open _ h)
@@ -181,8 +181,8 @@ module _ (e : Engine) (c : Call) (f : Faithful e) where
   performed_faithful (gives d) h = record { true = f.true; idle = f.idle }
 
   judged_faithful : (r : Answer) → judge e.state c ≡ r → Faithful (judged r e c).engine
-  judged_faithful Done h = performed_faithful (kind_of c.asked.action) (right_day_lem e.state c h)
-  judged_faithful (Refused r) h = f
+  judged_faithful (Ok tt) h = performed_faithful (kind_of c.asked.action) (right_day_lem e.state c h)
+  judged_faithful (Err r) h = f
 
   pub call_faithful : Faithful (call e c).engine
   unfolding call

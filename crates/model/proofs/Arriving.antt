@@ -1,5 +1,6 @@
 -- "by arrival of its first message": within a day a BIN that is noted stands behind all that were noted that day, and each live batch's BIN is one of
 -- them. So the close, which goes by the places of BINs, goes by the order in which the batches' first messages came.
+use Rattle.std.specs.Prelude.{Ok, Err}
 use Prim.Native.Nat.{ℕ, zero, suc, ◌+◌, ◌≤◌, ◌<◌}
 use mathlib.Core.Path.{◌≡◌, refl, sym, ap, subst, ◌∙◌}
 use mathlib.Core.Bool.{Bool, true, false, ◌&&◌, ◌||◌, not, cond, false≢true}
@@ -20,11 +21,10 @@ use Rattle.response_write.specs.declared.Outcome.TheVariants.{Rejected}
 use Rattle.book_read.specs.Accounts.{day_in}
 use Rattle.book_read.specs.Range.{Each}
 use Rattle.queue.proofs.MemoryLaws.{by_bool}
+use Rattle.model.specs.Answers.{Answer}
 use Rattle.model.specs.declared.Phase.{Phase}
 use Rattle.model.specs.declared.Phase.TheVariants.{Fresh, Open, Closed}
 use Rattle.model.specs.declared.Action.TheVariants.{Opening, Close}
-use Rattle.model.specs.declared.Answer.{Answer}
-use Rattle.model.specs.declared.Answer.TheVariants.{Done, Refused}
 use Rattle.model.specs.Kinds.{Kind, opens, steps, gives, kind_of, is_opening, is_close, own_of}
 use Rattle.model.specs.State.{Found, at, nowhere, on_found, seek_from, same_code, has_bin, no_entry, Entry, State, Known, Place, free, live, Batches, Batch, place_at, place_messages, batch_of}
 use Rattle.model.specs.Memory.{is_vacant, vacant, note}
@@ -431,16 +431,16 @@ module _ (e : Engine) (c : Call) (v : Valid e.state) (h : Ready e.state) where
   }
 
   -- an opening that is done begins with no BIN
-  opened_none : opening_answer e.state.day c.asked.input ≡ Done → noted_on (day_in c.asked.input) e.state.known.bins ≡ []
+  opened_none : opening_answer e.state.day c.asked.input ≡ Ok tt → noted_on (day_in c.asked.input) e.state.known.bins ≡ []
   opened_none d = bins_later e.state e.state.day.phase (day_in c.asked.input) v (later readers e c v d)
 
   opened_ready : (a : Answer) → opening_answer e.state.day c.asked.input ≡ a → is_open e.state.day.phase ≡ false → Ready (opened_by a e c).engine.state
   unfolding opened
-  opened_ready Done d i = record {
+  opened_ready (Ok tt) d i = record {
     packed = packed_none (day_in c.asked.input) e.state.known.bins (opened_none d);
     today = subst (λ (z : Batches). Each (λ x. has x (noted_on (day_in c.asked.input) e.state.known.bins) ≡ true) (live_bins z.places)) (sym ((k readers e c v).idle i)) tt;
   }
-  opened_ready (Refused q) d i = h
+  opened_ready (Err q) d i = h
 
   performed_goes : (z : Kind) → kind_of c.asked.action ≡ z → day_for z e.state.day ≡ true → Goes c e.state (performed z e c).engine.state
   performed_goes opens w i = record {
@@ -454,8 +454,8 @@ module _ (e : Engine) (c : Call) (v : Valid e.state) (h : Ready e.state) where
   }
 
   judged_goes : (a : Answer) → judge e.state c ≡ a → Goes c e.state (judged a e c).engine.state
-  judged_goes Done i = performed_goes (kind_of c.asked.action) refl (right_day_lem e.state c i)
-  judged_goes (Refused q) i = unmoved
+  judged_goes (Ok tt) i = performed_goes (kind_of c.asked.action) refl (right_day_lem e.state c i)
+  judged_goes (Err q) i = unmoved
 
   call_goes : Goes c e.state (call e c).engine.state
   unfolding call
@@ -463,19 +463,19 @@ module _ (e : Engine) (c : Call) (v : Valid e.state) (h : Ready e.state) where
 
   -- ---- an opening that is done, and a close
 
-  opened_bins : (a : Answer) → opening_answer e.state.day c.asked.input ≡ a → (opened_by a e c).answer ≡ Done → bins_today (opened_by a e c).engine.state ≡ []
+  opened_bins : (a : Answer) → opening_answer e.state.day c.asked.input ≡ a → (opened_by a e c).answer ≡ Ok tt → bins_today (opened_by a e c).engine.state ≡ []
   unfolding opened
-  opened_bins Done w d = opened_none w
-  opened_bins (Refused q) w d = let z : ◌≡◌ {A = ℕ} 0 1 = cc in absurd (omega arith)
+  opened_bins (Ok tt) w d = opened_none w
+  opened_bins (Err q) w d = let z : ◌≡◌ {A = ℕ} 0 1 = cc in absurd (omega arith)
 
-  performed_bins : (z : Kind) → z ≡ opens → (performed z e c).answer ≡ Done → bins_today (performed z e c).engine.state ≡ []
+  performed_bins : (z : Kind) → z ≡ opens → (performed z e c).answer ≡ Ok tt → bins_today (performed z e c).engine.state ≡ []
   performed_bins opens o d = opened_bins (opening_answer e.state.day c.asked.input) refl d
   performed_bins steps o d = let z : ◌≡◌ {A = ℕ} 0 1 = cc in absurd (omega arith)
   performed_bins (gives n) o d = let z : ◌≡◌ {A = ℕ} 0 1 = cc in absurd (omega arith)
 
-  opens_none : (j : Answer) → c.asked.action ≡ Opening → (judged j e c).answer ≡ Done → bins_today (judged j e c).engine.state ≡ []
-  opens_none Done o d = performed_bins (kind_of c.asked.action) (ap kind_of o) d
-  opens_none (Refused q) o d = let z : ◌≡◌ {A = ℕ} 0 1 = cc in absurd (omega arith)
+  opens_none : (j : Answer) → c.asked.action ≡ Opening → (judged j e c).answer ≡ Ok tt → bins_today (judged j e c).engine.state ≡ []
+  opens_none (Ok tt) o d = performed_bins (kind_of c.asked.action) (ap kind_of o) d
+  opens_none (Err q) o d = let z : ◌≡◌ {A = ℕ} 0 1 = cc in absurd (omega arith)
 
   abbrev Closed' : Result → Type 0
   Closed' x = x.out ≡ texts_from e.state.day.texts
@@ -486,7 +486,7 @@ module _ (e : Engine) (c : Call) (v : Valid e.state) (h : Ready e.state) where
   stepped_closes i o =
       rw (ap is_close o) (ap (λ (z : List Reply). texts_from e.state.day.texts (replies s (acted e c) (outcome e c) ++ z)) (last_by_arrival i))
 
-  call_close : judge e.state c ≡ Done → c.asked.action ≡ Close → Closed' (call e c)
+  call_close : judge e.state c ≡ Ok tt → c.asked.action ≡ Close → Closed' (call e c)
   unfolding call
   call_close i o = rw (i, ap kind_of o) (stepped_closes (open_in e.state e.state.day.phase v (rw (ap kind_of o) at (right_day_lem e.state c i))) o)
 

@@ -1,5 +1,6 @@
 -- "A closing book carries the date given": the closing book of a closed day is accepted by the book check, and reads back as the day's streams,
 -- banks, balances and sub-limits. A day that is opened with it begins with the same house and accounts.
+use Rattle.std.specs.Prelude.{Option, Some, None, Ok, Err}
 use Prim.Native.Nat.{ℕ, zero, suc, ◌+◌, ◌≤◌, ◌<◌}
 use mathlib.Core.Path.{◌≡◌, refl, sym, ap, subst, ◌∙◌}
 use mathlib.Core.Bool.{true, false≢true}
@@ -9,8 +10,6 @@ use lib.ListN.{length, get_or, take, drop, replicate, length-drop, take-append-d
 use lib.Seq.{drop-cons}
 use Rattle.dates.specs.Dates.{day_of}
 use Rattle.dates.specs.Dates.{sum as total}
-use Rattle.dates.specs.declared.Day.{Day as Date}
-use Rattle.dates.specs.declared.Day.TheVariants.{Number, Untrue}
 use Rattle.dates.proofs.Laws.{day_back}
 use Rattle.book_read.specs.Book.{each, book_check}
 use Rattle.book_write.specs.Closing.{bank_of, book_bytes}
@@ -23,10 +22,9 @@ use Rattle.book_read.proofs.Filling.{each_length}
 use Rattle.thm_books_back.proofs.Theorems.{written_accepted, written_reads_back}
 use Rattle.settle.specs.Settlement.{Accounts, accounts}
 use Rattle.settle.specs.Rules.{sum}
+use Rattle.model.specs.Answers.{Answer}
 use Rattle.model.specs.declared.Action.{Action}
 use Rattle.model.specs.declared.Action.TheVariants.{ClosingBook}
-use Rattle.model.specs.declared.Answer.{Answer}
-use Rattle.model.specs.declared.Answer.TheVariants.{Done, Refused}
 use Rattle.model.specs.State.{Day, House, State}
 use Rattle.model.specs.Days.{column_of, opened, on_date, right_date, banks_of, closing_text}
 use Rattle.model.specs.Kinds.{kind_of}
@@ -146,13 +144,13 @@ module _ (h : House) (a : Accounts) (g : RightHouse h a.balances a.sublimits) wh
 
 -- ---- the closing book
 
-module _ (s : State) (v : Opened s) (date k : ℕ) (is : day_of date ≡ Number k) where
+module _ (s : State) (v : Opened s) (date k : ℕ) (is : day_of date ≡ Some k) where
   abbrev out : List ℕ
   out = closing_text s date
 
   text_is : out ≡ book_bytes k s.house.streams (banks_of s.house s.books)
   unfolding closing_text
-  text_is = ap (λ (d : Date). book_bytes (on_date d) s.house.streams (banks_of s.house s.books)) is
+  text_is = ap (λ (d : Option ℕ). book_bytes (on_date d) s.house.streams (banks_of s.house s.books)) is
 
   ranged : InRange k s.house.streams (banks_of s.house s.books)
   ranged = in_range s.house s.books v.house k (day_back date k is).1 v.some_streams v.some_banks
@@ -174,7 +172,7 @@ module _ (s : State) (v : Opened s) (date k : ℕ) (is : day_of date ≡ Number 
   unfolding opened
   tells = record {
     accepted = ap book_check text_is ∙ written_accepted k s.house.streams (banks_of s.house s.books) ranged;
-    dated = is ∙ ap Number (sym back.0);
+    dated = is ∙ ap Some (sym back.0);
     streams = back.1;
     banks = back.2;
     house = λ t clock. house_of (streams_in out) (banks_in out) back.1 back.2;
@@ -182,23 +180,23 @@ module _ (s : State) (v : Opened s) (date k : ℕ) (is : day_of date ≡ Number 
   }
 
 -- a closing book that is given has a true date
-record True (d : Date) : Type 0 where
+record True (d : Option ℕ) : Type 0 where
   day : ℕ
-  is : d ≡ Number day
+  is : d ≡ Some day
 
-true_date : (x : Day) (d : Date) → right_date x d ≡ true → True d
-true_date x (Number k) h = record { day = k; is = refl }
-true_date x Untrue h = absurd (false≢true h)
+true_date : (x : Day) (d : Option ℕ) → right_date x d ≡ true → True d
+true_date x (Some k) h = record { day = k; is = refl }
+true_date x None h = absurd (false≢true h)
 
 module _ (e : Engine) (c : Call) (v : Valid e.state) where
   judged_closes : (j : Answer) → judge e.state c ≡ j → Closes e c (judged j e c)
-  judged_closes Done i date x h =
+  judged_closes (Ok tt) i date x h =
       let r : right_day (ClosingBook date) e.state.day ≡ true = rw x at (right_day_lem e.state c i) in
       let g = and_true (is_closed e.state.day.phase) (right_date e.state.day (day_of date)) r in
       let d = true_date e.state.day (day_of date) g.1 in
       subst (λ (z : Action). Tells e.state date (performed (kind_of z) e c).out) (sym x)
       (tells e.state (closed_in e.state e.state.day.phase v g.0).0 date d.day d.is)
-  judged_closes (Refused q) i date x h = not_done (sym h)
+  judged_closes (Err q) i date x h = not_done (sym h)
 
   pub call_closes : Closes e c (call e c)
   unfolding call

@@ -1,6 +1,7 @@
 -- Demand 3, kept by each call. After it no queued batch would pass; every payer of a settled batch covered its own
 -- payment on the balances just before that batch; each balance is the day's opening balance plus credits less debits of the batches settled
 -- since; the total never changes within a day.
+use Rattle.std.specs.Prelude.{Ok, Err}
 use Prim.Native.Nat.{ℕ, ◌+◌, ◌<◌}
 use mathlib.Core.Path.{◌≡◌, refl, sym, ap, ◌∙◌}
 use mathlib.Core.Bool.{Bool, true, false, cond}
@@ -20,8 +21,7 @@ use Rattle.queue.proofs.Trail.{All-zip, test_trail, test_stuck, test_parted}
 use Rattle.queue.proofs.Balances.{trail_sum, trail_total}
 use Rattle.book_read.specs.Accounts.{banks_in}
 use Rattle.book_read.specs.declared.Field.TheVariants.{Balance}
-use Rattle.model.specs.declared.Answer.{Answer}
-use Rattle.model.specs.declared.Answer.TheVariants.{Done, Refused}
+use Rattle.model.specs.Answers.{Answer}
 use Rattle.model.specs.Kinds.{Kind, opens, steps, gives, kind_of, is_close, own_of}
 use Rattle.model.specs.State.{Place, State, place_payments, payments_at}
 use Rattle.model.specs.Messages.{Acted}
@@ -41,20 +41,20 @@ use Rattle.model.proofs.Keeping.{Readers, Kept, acted_stood, acted_house}
 
 -- the batches that a call settles, in their order: only a call with a test settles any
 abbrev pub settled_by : Answer → Kind → Engine → Call → List (List Payment)
-settled_by (Refused r) x e c = []
-settled_by Done opens e c = []
-settled_by Done steps e c = map (payments_at (acted e c).batches) (outcome e c).done
-settled_by Done (gives d) e c = []
+settled_by (Err r) x e c = []
+settled_by (Ok tt) opens e c = []
+settled_by (Ok tt) steps e c = map (payments_at (acted e c).batches) (outcome e c).done
+settled_by (Ok tt) (gives d) e c = []
 
 abbrev pub anew : Answer → Engine → Call → Ledger → Ledger
-anew Done e c l = record { opening = column_of Balance (banks_in c.asked.input); gone = [] }
-anew (Refused r) e c l = l
+anew (Ok tt) e c l = record { opening = column_of Balance (banks_in c.asked.input); gone = [] }
+anew (Err r) e c l = l
 
 abbrev pub ledger_by : Answer → Kind → Engine → Call → Ledger → Ledger
-ledger_by (Refused r) x e c l = l
-ledger_by Done opens e c l = anew (opening_answer e.state.day c.asked.input) e c l
-ledger_by Done steps e c l = record { opening = l.opening; gone = l.gone ++ settled_by Done steps e c }
-ledger_by Done (gives d) e c l = l
+ledger_by (Err r) x e c l = l
+ledger_by (Ok tt) opens e c l = anew (opening_answer e.state.day c.asked.input) e c l
+ledger_by (Ok tt) steps e c l = record { opening = l.opening; gone = l.gone ++ settled_by (Ok tt) steps e c }
+ledger_by (Ok tt) (gives d) e c l = l
 
 unfoldable pub ledger : Engine → Call → Ledger → Ledger
 ledger e c l = ledger_by (judge e.state c) (kind_of c.asked.action) e c l
@@ -71,10 +71,10 @@ pub record Stands (e : Engine) (l : Ledger) : Type 0 where
 -- "every payer of a settled batch covered its own payment on the balances just before that batch": from the accounts that the action left to
 -- those that the call leaves, v. A call without a test leaves the accounts, but for an opening
 abbrev pub PaidBy : Answer → Kind → Engine → Call → Accounts → Type 0
-PaidBy (Refused r) x e c v = v ≡ e.state.books
-PaidBy Done opens e c v = Unit {0}
-PaidBy Done steps e c v = Trail (payments_at (acted e c).batches) (acted e c).books (outcome e c).done v
-PaidBy Done (gives d) e c v = v ≡ e.state.books
+PaidBy (Err r) x e c v = v ≡ e.state.books
+PaidBy (Ok tt) opens e c v = Unit {0}
+PaidBy (Ok tt) steps e c v = Trail (payments_at (acted e c).batches) (acted e c).books (outcome e c).done v
+PaidBy (Ok tt) (gives d) e c v = v ≡ e.state.books
 
 unfoldable pub Paid : Engine → Call → Type 0
 Paid e c = PaidBy (judge e.state c) (kind_of c.asked.action) e c (call e c).engine.state.books
@@ -168,17 +168,17 @@ module _ (readers : Readers) (e : Engine) (c : Call) (k : Kept e.state) (f : Fai
 
   opened_stands : (r : Answer) → is_open e.state.day.phase ≡ false → Stands (opened_by r e c).engine (anew r e c l)
   unfolding opened brought_by taken_by
-  opened_stands Done i = record { stuck = rw (k.idle i) tt; money = λ n b. refl; total = refl }
-  opened_stands (Refused r) i = h
+  opened_stands (Ok tt) i = record { stuck = rw (k.idle i) tt; money = λ n b. refl; total = refl }
+  opened_stands (Err r) i = h
 
-  performed_stands : (z : Kind) → day_for z e.state.day ≡ true → Stands (performed z e c).engine (ledger_by Done z e c l)
+  performed_stands : (z : Kind) → day_for z e.state.day ≡ true → Stands (performed z e c).engine (ledger_by (Ok tt) z e c l)
   performed_stands opens i = opened_stands (opening_answer e.state.day c.asked.input) (not-true _ i)
   performed_stands steps i = stepped_stands
   performed_stands (gives d) i = record { stuck = h.stuck; money = h.money; total = h.total }
 
   judged_stands : (r : Answer) → judge e.state c ≡ r → Stands (judged r e c).engine (ledger_by r (kind_of c.asked.action) e c l)
-  judged_stands Done i = performed_stands (kind_of c.asked.action) (right_day_lem e.state c i)
-  judged_stands (Refused r) i = h
+  judged_stands (Ok tt) i = performed_stands (kind_of c.asked.action) (right_day_lem e.state c i)
+  judged_stands (Err r) i = h
 
   ends_paid : (t : Bool) → Trail (payments_at a.batches) a.books o.done (cond t (closes s a o) (goes_on s a o)).engine.state.books
   unfolding closes goes_on
@@ -189,14 +189,14 @@ module _ (readers : Readers) (e : Engine) (c : Call) (k : Kept e.state) (f : Fai
   unfolding stepped
   stepped_paid = ends_paid (is_close c.asked.action)
 
-  performed_paid : (z : Kind) → PaidBy Done z e c (performed z e c).engine.state.books
+  performed_paid : (z : Kind) → PaidBy (Ok tt) z e c (performed z e c).engine.state.books
   performed_paid opens = tt
   performed_paid steps = stepped_paid
   performed_paid (gives d) = refl
 
   judged_paid : (r : Answer) → PaidBy r (kind_of c.asked.action) e c (judged r e c).engine.state.books
-  judged_paid Done = performed_paid (kind_of c.asked.action)
-  judged_paid (Refused r) = refl
+  judged_paid (Ok tt) = performed_paid (kind_of c.asked.action)
+  judged_paid (Err r) = refl
 
   pub call_stands : Paid e c × Stands (call e c).engine (ledger e c l)
   unfolding call ledger Paid

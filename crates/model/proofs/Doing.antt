@@ -1,4 +1,5 @@
 -- What an action can do, each way with what is known where it is taken. A rule that each way keeps is kept by every action.
+use Rattle.std.specs.Prelude.{Ok, Err}
 use Prim.Native.Nat.{ℕ, ◌≤◌, ◌<◌}
 use mathlib.Core.Path.{◌≡◌, refl}
 use mathlib.Core.Logic.{◌⊎◌, inl, inr}
@@ -19,8 +20,7 @@ use Rattle.response_write.specs.declared.Outcome.TheVariants.{Rejected}
 use Rattle.response_write.specs.declared.Answer.TheVariants.{Recalled, Kept}
 use Rattle.book_read.specs.Book.{most_money}
 use Rattle.queue.specs.Promise.{sublimited}
-use Rattle.model.specs.declared.Answer.{Answer}
-use Rattle.model.specs.declared.Answer.TheVariants.{Done, Refused}
+use Rattle.model.specs.Answers.{Answer}
 use Rattle.model.specs.Kinds.{Own, receives, changes_sublimit, changes_status, nothing}
 use Rattle.model.specs.State.{Found, at, nowhere, on_found, seek, is_free, Batch, Place, free, live, on_live, Batches, Known, State, place_at, place_messages, payments_at, with_place}
 use Rattle.model.specs.Memory.{is_used, vacant}
@@ -65,12 +65,12 @@ module _ (s : State) (r : Reading) where
     repeats : (p : ℕ) (c : Code) (f : Refusal) → Assembling s.batches c p
         → Told (rejecting s f p s.batches (place_messages (place_at s.batches p)) c s.known)
     recalls : (p : ℕ) (f : Refusal) → New → Waiting s.batches (bin s r) p
-        → Told (leaving s Done (recall (reference s r) Recalled ∷ replies_to (place_messages (place_at s.batches p)) (bin s r) (Rejected (number_of f))) (place p ∷ []) (ended s.batches p) (with_reference s r))
+        → Told (leaving s (Ok tt) (recall (reference s r) Recalled ∷ replies_to (place_messages (place_at s.batches p)) (bin s r) (Rejected (number_of f))) (place p ∷ []) (ended s.batches p) (with_reference s r))
     -- the batch with the message in it is complete and waits, or grows, or is rejected
-    completes : (stream : ℕ) (b : Batches) (k : Known) (p : ℕ) (x : Batch) → Joins b k p x → first_broken (message_rules s r stream x) ≡ Done
-        → is_complete (with_message s r x) ≡ true → is_even (with_message s r x) ≡ true → Told (leaving s Done [] (place p ∷ []) (to_tail s r b (with_message s r x) p) k)
-    grows : (stream : ℕ) (b : Batches) (k : Known) (p : ℕ) (x : Batch) → Joins b k p x → first_broken (message_rules s r stream x) ≡ Done
-        → is_complete (with_message s r x) ≡ false → Told (leaving s Done [] (place p ∷ []) (with_place b p (live (with_message s r x))) k)
+    completes : (stream : ℕ) (b : Batches) (k : Known) (p : ℕ) (x : Batch) → Joins b k p x → first_broken (message_rules s r stream x) ≡ Ok tt
+        → is_complete (with_message s r x) ≡ true → is_even (with_message s r x) ≡ true → Told (leaving s (Ok tt) [] (place p ∷ []) (to_tail s r b (with_message s r x) p) k)
+    grows : (stream : ℕ) (b : Batches) (k : Known) (p : ℕ) (x : Batch) → Joins b k p x → first_broken (message_rules s r stream x) ≡ Ok tt
+        → is_complete (with_message s r x) ≡ false → Told (leaving s (Ok tt) [] (place p ∷ []) (with_place b p (live (with_message s r x))) k)
     rejects : (f : Refusal) (b : Batches) (k : Known) (p : ℕ) (x : Batch) → Joins b k p x
         → Told (rejecting s f p b (with_message s r x).messages x.bin k)
 
@@ -78,9 +78,9 @@ module _ (s : State) (r : Reading) where
   pub data Did : Acted → Type 0 where
     sent : {a : Acted} → Told a → Did a
     sublimits : (k v : ℕ) → k < s.house.banks → v ≤ most_money
-        → Did (record { answer = Done; replies = []; wakes = bank k ∷ []; books = sublimited s.books k v; batches = s.batches; known = s.known })
+        → Did (record { answer = Ok tt; replies = []; wakes = bank k ∷ []; books = sublimited s.books k v; batches = s.batches; known = s.known })
     letters : (k x p : ℕ) (c : Code) → member x (bytes "ADP") ≡ true → Waiting s.batches c p
-        → Did (leaving s Done [] (place p ∷ []) (with_place s.batches p (with_letter k x (place_at s.batches p))) s.known)
+        → Did (leaving s (Ok tt) [] (place p ∷ []) (with_place s.batches p (with_letter k x (place_at s.batches p))) s.known)
 
   by_cond : (P : Acted → Type 0) {x y : Acted} (t : Bool) → (t ≡ true → P x) → (t ≡ false → P y) → P (cond t x y)
   by_cond P true f g = f refl
@@ -95,7 +95,7 @@ module _ (s : State) (r : Reading) where
   by_live (live b) f g = g b refl
 
   module _ (b : Batches) (k : Known) (p : ℕ) (x : Batch) (j : Joins b k p x) where
-    did_completed : (stream : ℕ) → first_broken (message_rules s r stream x) ≡ Done → Told (completed s r b k p (with_message s r x))
+    did_completed : (stream : ℕ) → first_broken (message_rules s r stream x) ≡ Ok tt → Told (completed s r b k p (with_message s r x))
     unfolding completed
     did_completed stream h =
         by_cond Told (is_complete (with_message s r x))
@@ -104,8 +104,8 @@ module _ (s : State) (r : Reading) where
 
     did_ruled : (stream : ℕ) (a : Answer) → first_broken (message_rules s r stream x) ≡ a
         → Told (on_rules s r a b k p (with_message s r x) (completed s r b k p (with_message s r x)))
-    did_ruled stream Done h = did_completed stream h
-    did_ruled stream (Refused f) h = rejects f b k p x j
+    did_ruled stream (Ok tt) h = did_completed stream h
+    did_ruled stream (Err f) h = rejects f b k p x j
 
     did_admit : (stream : ℕ) → Told (admit s r stream b k p x)
     unfolding admit

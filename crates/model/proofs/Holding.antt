@@ -1,4 +1,5 @@
 -- The quick test's memory: what it holds is of a queued batch, a bank with a debit there. Every call keeps that.
+use Rattle.std.specs.Prelude.{Ok, Err}
 use Prim.Native.Nat.{ℕ, zero, suc, ◌+◌, ◌≤◌, ◌<◌}
 use mathlib.Core.Path.{◌≡◌, refl, sym, ap, ◌∙◌}
 use mathlib.Core.Bool.{Bool, true, false, not, cond, false≢true}
@@ -23,8 +24,7 @@ use Rattle.queue.proofs.Trail.{walk_each}
 use Rattle.queue.proofs.Agree.{forgets}
 use Rattle.queue.proofs.Promises.{fresh_none}
 use Rattle.book_read.specs.Range.{Each}
-use Rattle.model.specs.declared.Answer.{Answer}
-use Rattle.model.specs.declared.Answer.TheVariants.{Done, Refused}
+use Rattle.model.specs.Answers.{Answer}
 use Rattle.model.specs.Kinds.{Kind, opens, steps, gives, kind_of, is_close, own_of}
 use Rattle.model.specs.State.{Place, free, Batches, Known, Batch, State, no_batches, no_memory, place_payments, payments_at}
 use Rattle.model.specs.Joining.{keep, by_time, time, is_due, join}
@@ -276,8 +276,8 @@ module _ (e : Engine) (c : Call) (h : RightMemory e.state.batches e.memory) wher
 
   opened_right : (r : Answer) → Right (opened_by r e c).engine
   unfolding opened
-  opened_right Done = h
-  opened_right (Refused r) = h
+  opened_right (Ok tt) = h
+  opened_right (Err r) = h
 
   performed_right : (z : Kind) → Right (performed z e c).engine
   performed_right opens = opened_right (opening_answer e.state.day c.asked.input)
@@ -285,8 +285,8 @@ module _ (e : Engine) (c : Call) (h : RightMemory e.state.batches e.memory) wher
   performed_right (gives d) = h
 
   judged_right : (r : Answer) → Right (judged r e c).engine
-  judged_right Done = performed_right (kind_of c.asked.action)
-  judged_right (Refused r) = h
+  judged_right (Ok tt) = performed_right (kind_of c.asked.action)
+  judged_right (Err r) = h
 
   pub call_memory : RightMemory (call e c).engine.state.batches (call e c).engine.memory
   unfolding call

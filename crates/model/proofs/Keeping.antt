@@ -1,4 +1,5 @@
 -- Every call keeps the rules of the batch places and of the house, from a fresh start on.
+use Rattle.std.specs.Prelude.{Ok, Err}
 use Prim.Native.Nat.{ℕ, zero, suc, ◌≤◌, ◌<◌}
 use mathlib.Core.Path.{◌≡◌, refl, sym, ◌∙◌}
 use mathlib.Core.Bool.{Bool, true, false, cond, false≢true}
@@ -9,13 +10,10 @@ use borrow.Author.Tests.{not-true}
 use Rattle.request_read.specs.whole.Request.{request_at}
 use Rattle.book_read.specs.Book.{book_check}
 use Rattle.book_read.specs.Accounts.{day_in, streams_in, banks_in}
-use Rattle.book_read.specs.declared.Answer.{Answer as Check}
-use Rattle.book_read.specs.declared.Answer.TheVariants.{Sound, Fault}
 use Rattle.book_read.specs.declared.Field.TheVariants.{Code, Flags, Balance, Sublimit}
 use Rattle.queue.specs.Tests.{Outcome, fuel}
 use Rattle.book_read.specs.Range.{Each}
-use Rattle.model.specs.declared.Answer.{Answer}
-use Rattle.model.specs.declared.Answer.TheVariants.{Done, Refused}
+use Rattle.model.specs.Answers.{Answer}
 use Rattle.model.specs.Kinds.{Kind, opens, steps, gives, kind_of, is_close, own_of}
 use Rattle.model.specs.State.{State, fresh, no_batches, payments_at}
 use Rattle.model.specs.Messages.{Acted}
@@ -42,7 +40,7 @@ pub record BookGives (book : List ℕ) : Type 0 where
 -- what the readers of texts and books give of all that they accept
 pub record Readers : Type 0 where
   pub texts : (t : List ℕ) → Gives (request_at t)
-  pub books : (b : List ℕ) → book_check b ≡ Sound → BookGives b
+  pub books : (b : List ℕ) → book_check b ≡ Ok tt → BookGives b
 
 pub record Kept (s : State) : Type 0 where
   pub house : RightHouse s.house s.books.balances s.books.sublimits
@@ -84,12 +82,12 @@ fresh_kept = record {
 
 -- ---- one call
 
-is_sound : (a : Check) (n : Answer) → checked a n ≡ Done → a ≡ Sound
-is_sound Sound n h = refl
-is_sound (Fault r) n h = let z : ◌≡◌ {A = ℕ} 0 1 = cc in absurd (omega arith)
+is_sound : (a : Answer) (n : Answer) → checked a n ≡ Ok tt → a ≡ Ok tt
+is_sound (Ok tt) n h = refl
+is_sound (Err r) n h = let z : ◌≡◌ {A = ℕ} 0 1 = cc in absurd (omega arith)
 
 -- an opening that is done had a sound book
-pub sound_book : (s : State) (book : List ℕ) → opening_answer s.day book ≡ Done → book_check book ≡ Sound
+pub sound_book : (s : State) (book : List ℕ) → opening_answer s.day book ≡ Ok tt → book_check book ≡ Ok tt
 unfolding opening_answer
 sound_book s book h = is_sound (book_check book) _ h
 
@@ -146,12 +144,12 @@ module _ (readers : Readers) (e : Engine) (c : Call) (k : Kept e.state) where
 
   opened_kept : (r : Answer) → opening_answer e.state.day c.asked.input ≡ r → is_open e.state.day.phase ≡ false → Kept (opened_by r e c).engine.state
   unfolding opened
-  opened_kept Done d h = record {
+  opened_kept (Ok tt) d h = record {
     house = (readers.books c.asked.input (sound_book e.state c.asked.input d)).house;
     batches = rw (k.idle h) (free_stood (length (banks_in c.asked.input)));
     idle = λ g. absurd (false≢true (sym g));
   }
-  opened_kept (Refused r) d h = k
+  opened_kept (Err r) d h = k
 
   performed_kept : (z : Kind) → day_for z e.state.day ≡ true → Kept (performed z e c).engine.state
   performed_kept opens h = opened_kept (opening_answer e.state.day c.asked.input) refl (not-true _ h)
@@ -159,8 +157,8 @@ module _ (readers : Readers) (e : Engine) (c : Call) (k : Kept e.state) where
   performed_kept (gives d) h = record { house = k.house; batches = k.batches; idle = k.idle }
 
   judged_kept : (r : Answer) → judge e.state c ≡ r → Kept (judged r e c).engine.state
-  judged_kept Done h = performed_kept (kind_of c.asked.action) (right_day_lem e.state c h)
-  judged_kept (Refused r) h = k
+  judged_kept (Ok tt) h = performed_kept (kind_of c.asked.action) (right_day_lem e.state c h)
+  judged_kept (Err r) h = k
 
   pub call_kept : Kept (call e c).engine.state
   unfolding call

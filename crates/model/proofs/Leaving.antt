@@ -1,4 +1,5 @@
 -- A call that is refused leaves what the row of its number says.
+use Rattle.std.specs.Prelude.{Ok, Err}
 use Prim.Native.Nat.{ℕ, zero, suc, ◌+◌}
 use mathlib.Core.Path.{◌≡◌, refl, sym, ap, ◌∙◌}
 use mathlib.Core.Bool.{Bool, true, false, not, cond, false≢true}
@@ -18,10 +19,9 @@ use Rattle.request_read.specs.declared.whole.Reading.{Reading}
 use Rattle.book_read.specs.Book.{most_money}
 use Rattle.book_read.specs.Range.{Each}
 use Rattle.queue.proofs.MemoryLaws.{by_bool}
+use Rattle.model.specs.Answers.{Answer}
 use Rattle.model.specs.declared.Action.{Action}
 use Rattle.model.specs.declared.Action.TheVariants.{Opening, Message, SubLimit, Status, Tick, Close, ClosingBook}
-use Rattle.model.specs.declared.Answer.{Answer}
-use Rattle.model.specs.declared.Answer.TheVariants.{Done, Refused}
 use Rattle.model.specs.Kinds.{Kind, is_close, Own, receives, changes_sublimit, changes_status, nothing, own_of}
 use Rattle.model.specs.State.{Found, at, nowhere, on_found, seek, is_free, Batch, Place, free, live, on_live, Batches, Known, State, place_at, payments_at, payments_of, with_place}
 use Rattle.model.specs.Memory.{is_used}
@@ -49,12 +49,12 @@ data Broken : Refusal → Type 0 where
   unknown : Broken UnknownBank
   suspended : Broken SuspendedBank
 
-broken : (rs : List Rule) (f : Refusal) → Each (λ x. Broken x.fault) rs → first_broken rs ≡ Refused f → Broken f
+broken : (rs : List Rule) (f : Refusal) → Each (λ x. Broken x.fault) rs → first_broken rs ≡ Err f → Broken f
 unfolding first_broken
 broken [] f h e = not_done e
 broken (x ∷ rs) f h e = go x.holds (broken rs f h.1) e
   where
-    go : (t : Bool) → (first_broken rs ≡ Refused f → Broken f) → cond t (first_broken rs) (Refused x.fault) ≡ Refused f → Broken f
+    go : (t : Bool) → (first_broken rs ≡ Err f → Broken f) → cond t (first_broken rs) (Err x.fault) ≡ Err f → Broken f
     go true later g = later g
     go false later g = let z : x.fault ≡ f = cc in rw (sym z) h.0
 
@@ -75,12 +75,12 @@ set_twice (z ∷ ps) (suc p) x y = ap (λ (l : List Place). z ∷ l) (set_twice 
 
 module _ (s : State) (r : Reading) (h : Stood s.house.banks s.batches) where
   abbrev Left : (Refusal → Acted) → Acted → Type 0
-  Left row a = (q : Refusal) → a.answer ≡ Refused q → a ≡ row q
+  Left row a = (q : Refusal) → a.answer ≡ Err q → a ≡ row q
 
-  left_done : (row : Refusal → Acted) (a : Acted) → a.answer ≡ Done → Left row a
+  left_done : (row : Refusal → Acted) (a : Acted) → a.answer ≡ Ok tt → Left row a
   left_done row a e q d = not_done (sym e ∙ d)
 
-  left_at : (row : Refusal → Acted) (f : Refusal) (a : Acted) → a.answer ≡ Refused f → a ≡ row f → Left row a
+  left_at : (row : Refusal → Acted) (f : Refusal) (a : Acted) → a.answer ≡ Err f → a ≡ row f → Left row a
   left_at row f a e g q d = let z : f ≡ q = cc in g ∙ ap row z
 
   by_cond : (row : Refusal → Acted) {x y : Acted} (t : Bool) → (t ≡ true → Left row x) → (t ≡ false → Left row y) → Left row (cond t x y)
@@ -163,8 +163,8 @@ module _ (s : State) (r : Reading) (h : Stood s.house.banks s.batches) where
 
       ruled_left : (a : Answer) → first_broken (message_rules s r stream x) ≡ a
           → Left (settlement_left s r) (on_rules s r a b k p (with_message s r x) (completed s r b k p (with_message s r x)))
-      ruled_left Done e = completed_left
-      ruled_left (Refused f) e = left_at (settlement_left s r) f _ refl (own f ∙ sym (own_row f (broken (message_rules s r stream x) f (rules_broken stream x) e)))
+      ruled_left (Ok tt) e = completed_left
+      ruled_left (Err f) e = left_at (settlement_left s r) f _ refl (own f ∙ sym (own_row f (broken (message_rules s r stream x) f (rules_broken stream x) e)))
 
       admit_left : Left (settlement_left s r) (admit s r stream b k p x)
       unfolding admit
@@ -274,7 +274,7 @@ module _ (s : State) (r : Reading) (h : Stood s.house.banks s.batches) where
 
 -- ---- a call
 
-close_done : (s : State) (x : Action) (input : List ℕ) → is_close x ≡ true → (act s (own_of x) input).answer ≡ Done
+close_done : (s : State) (x : Action) (input : List ℕ) → is_close x ≡ true → (act s (own_of x) input).answer ≡ Ok tt
 unfolding act
 close_done s Opening input e = refl
 close_done s (Message sender) input e = absurd (false≢true e)
@@ -288,14 +288,14 @@ module _ (readers : Readers) (e : Engine) (c : Call) (v : Valid e.state) where
   abbrev s₁ : State
   s₁ = begun e.state c.asked.clock
 
-  ends_left : (t : Bool) → is_close c.asked.action ≡ t → (q : Refusal) → (cond t (closes s₁ (acted e c) (outcome e c)) (goes_on s₁ (acted e c) (outcome e c))).answer ≡ Refused q
+  ends_left : (t : Bool) → is_close c.asked.action ≡ t → (q : Refusal) → (cond t (closes s₁ (acted e c) (outcome e c)) (goes_on s₁ (acted e c) (outcome e c))).answer ≡ Err q
       → cond t (closes s₁ (acted e c) (outcome e c)) (goes_on s₁ (acted e c) (outcome e c)) ≡ finished e c (left_by s₁ (request_at c.asked.input) (own_of c.asked.action) q)
   unfolding closes goes_on
   ends_left true i q h = not_done (sym (close_done s₁ c.asked.action c.asked.input i) ∙ h)
   ends_left false i q h =
       ap (finished e c) (own_left s₁ (request_at c.asked.input) (begun_stood readers e c (valid_kept e.state v)) (own_of c.asked.action) c.asked.input refl q h)
 
-  stepped_left : (q : Refusal) → (stepped e c).answer ≡ Refused q → stepped e c ≡ finished e c (left_by s₁ (request_at c.asked.input) (own_of c.asked.action) q)
+  stepped_left : (q : Refusal) → (stepped e c).answer ≡ Err q → stepped e c ≡ finished e c (left_by s₁ (request_at c.asked.input) (own_of c.asked.action) q)
   unfolding stepped
   stepped_left q h = ends_left (is_close c.asked.action) refl q h
 

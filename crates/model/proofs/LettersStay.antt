@@ -1,4 +1,5 @@
 -- An accepted status change changes the ESA letter of the bank's debits in the batch that it names, and nothing else of any batch.
+use Rattle.std.specs.Prelude.{Ok, Err}
 use Prim.Native.Nat.{ℕ, zero, suc, ◌<◌}
 use mathlib.Core.Path.{◌≡◌, refl, sym, ap, subst, ◌∙◌}
 use mathlib.Core.Logic.{◌⊎◌, inl, inr}
@@ -13,10 +14,9 @@ use Rattle.codes.specs.declared.Code.{Code}
 use Rattle.settle.specs.Payments.{Payment, credit, debit}
 use Rattle.queue.specs.Tests.{Outcome}
 use Rattle.queue.proofs.MemoryLaws.{by_bool}
+use Rattle.model.specs.Answers.{Answer}
 use Rattle.model.specs.declared.Action.{Action}
 use Rattle.model.specs.declared.Action.TheVariants.{Status}
-use Rattle.model.specs.declared.Answer.{Answer}
-use Rattle.model.specs.declared.Answer.TheVariants.{Done, Refused}
 use Rattle.model.specs.State.{at, Message, Place, free, live, Batches, State, place_at, payments_at, with_place}
 use Rattle.model.specs.Messages.{Acted, bank_place, waiting}
 use Rattle.model.specs.Joining.{join}
@@ -66,7 +66,7 @@ record Accepted (s : State) (code : ℕ) (bin : Code) (letter : ℕ) (a : Acted)
   small : letter < 256
   batches : a.batches ≡ with_place s.batches batch (with_letter bank letter (place_at s.batches batch))
 
-accepted : (s : State) (code : ℕ) (bin : Code) (letter : ℕ) → (status s code bin letter).answer ≡ Done → Accepted s code bin letter (status s code bin letter)
+accepted : (s : State) (code : ℕ) (bin : Code) (letter : ℕ) → (status s code bin letter).answer ≡ Ok tt → Accepted s code bin letter (status s code bin letter)
 unfolding status
 accepted s code bin letter h =
     by_bool (member letter (bytes "ADP"))
@@ -150,16 +150,16 @@ module _ (e : Engine) (c : Call) (code : ℕ) (bin : Code) (letter : ℕ) where
   abbrev asks : Call
   asks = asking (Status code bin letter) c
 
-  judged_set : (j : Answer) → (judged j e asks).answer ≡ Done → StatusSet e c.asked.clock code bin letter (judged j e asks)
+  judged_set : (j : Answer) → (judged j e asks).answer ≡ Ok tt → StatusSet e c.asked.clock code bin letter (judged j e asks)
   unfolding stepped act goes_on
-  judged_set (Refused q) h = not_done (sym h)
-  judged_set Done h = goes_on_lem (status s code bin letter) (tested c.asked.quick (status s code bin letter) e.memory) (accepted s code bin letter h)
+  judged_set (Err q) h = not_done (sym h)
+  judged_set (Ok tt) h = goes_on_lem (status s code bin letter) (tested c.asked.quick (status s code bin letter) e.memory) (accepted s code bin letter h)
 
-  call_set : (call e asks).answer ≡ Done → StatusSet e c.asked.clock code bin letter (call e asks)
+  call_set : (call e asks).answer ≡ Ok tt → StatusSet e c.asked.clock code bin letter (call e asks)
   unfolding call
   call_set h = judged_set (judge e.state asks) h
 
 pub call_letters : (e : Engine) (c : Call) → LettersStay e c (call e c)
 call_letters e c code bin letter i =
-    subst (λ (a : Action). (call e (asking a c)).answer ≡ Done → StatusSet e c.asked.clock code bin letter (call e (asking a c))) (sym i)
+    subst (λ (a : Action). (call e (asking a c)).answer ≡ Ok tt → StatusSet e c.asked.clock code bin letter (call e (asking a c))) (sym i)
     (call_set e c code bin letter)

@@ -1,4 +1,5 @@
 -- The omission rule over any calls from a fresh start: the memory is what their history has left of a fresh one.
+use Rattle.std.specs.Prelude.{Ok, Err}
 use Prim.Native.Nat.{ℕ, zero, suc, ◌<◌}
 use mathlib.Core.Path.{◌≡◌, refl, sym, ap, subst, ◌∙◌}
 use mathlib.Core.Bool.{Bool, true, false, cond, false≢true}
@@ -22,8 +23,7 @@ use Rattle.queue.proofs.MemoryLaws.{by_bool}
 use Rattle.queue.proofs.Agree.{forgets}
 use Rattle.queue.proofs.History.{replay_append, replay_length, test_replays, test_told}
 use Rattle.queue.proofs.Promises.{fresh_none}
-use Rattle.model.specs.declared.Answer.{Answer}
-use Rattle.model.specs.declared.Answer.TheVariants.{Done, Refused}
+use Rattle.model.specs.Answers.{Answer}
 use Rattle.model.specs.Kinds.{Kind, opens, steps, gives, kind_of, is_close, Own, receives, changes_sublimit, changes_status, nothing, own_of}
 use Rattle.model.specs.State.{Batch, Place, free, live, Batches, Known, State, no_batches, no_memory, has_bin, place_at, payments_at, with_place}
 use Rattle.model.specs.Messages.{Acted, bank_place, waiting, ended, message}
@@ -156,8 +156,8 @@ module _ (s : State) (h : Stood s.house.banks s.batches) (m : List ℕ) (n : len
       anew_one s.batches (ended b p) m p n (ended_beside s b p (start_beside s r j.start)) (λ _. unqueued p (started r j.start))
 
   message_quiet : (sender : ℕ) (q : Answer) → accepted s (receives sender) q ≡ []
-  message_quiet sender Done = refl
-  message_quiet sender (Refused r) = refl
+  message_quiet sender (Ok tt) = refl
+  message_quiet sender (Err r) = refl
 
   sublimit_replays : (code cents : ℕ) → By (sub_limit s code cents) (accepted s (changes_sublimit code cents) (sub_limit s code cents).answer)
   unfolding sub_limit woken replay after_event
@@ -289,17 +289,17 @@ module _ (readers : Readers) (e : Engine) (c : Call) (v : Valid e.state) (r : Ri
   stepped_memory = ends_memory (is_close c.asked.action)
 
   opened_memory : (q : Answer) → (opened_by q e c).engine.memory ≡ replay es no_memory
-  opened_memory Done = h
-  opened_memory (Refused q) = h
+  opened_memory (Ok tt) = h
+  opened_memory (Err q) = h
 
-  performed_memory : (z : Kind) → (performed z e c).engine.memory ≡ replay (events_by e c Done z (performed z e c) ++ es) no_memory
+  performed_memory : (z : Kind) → (performed z e c).engine.memory ≡ replay (events_by e c (Ok tt) z (performed z e c) ++ es) no_memory
   performed_memory opens = opened_memory (opening_answer e.state.day c.asked.input)
   performed_memory steps = stepped_memory
   performed_memory (gives d) = h
 
   judged_memory : (j : Answer) → (judged j e c).engine.memory ≡ replay (events_by e c j (kind_of c.asked.action) (judged j e c) ++ es) no_memory
-  judged_memory Done = performed_memory (kind_of c.asked.action)
-  judged_memory (Refused q) = h
+  judged_memory (Ok tt) = performed_memory (kind_of c.asked.action)
+  judged_memory (Err q) = h
 
   call_history : (call e c).engine.memory ≡ replay (events_by e c (judge e.state c) (kind_of c.asked.action) (call e c) ++ es) no_memory
   unfolding call
@@ -322,17 +322,17 @@ module _ (readers : Readers) (e : Engine) (c : Call) (v : Valid e.state) (r : Ri
   stepped_by_rule = ends_by_rule (is_close c.asked.action)
 
   opened_untried : (q : Answer) → (opened_by q e c).tries ≡ []
-  opened_untried Done = refl
-  opened_untried (Refused q) = refl
+  opened_untried (Ok tt) = refl
+  opened_untried (Err q) = refl
 
-  performed_by_rule : (z : Kind) → ByRuleIn Done z e es c (performed z e c)
+  performed_by_rule : (z : Kind) → ByRuleIn (Ok tt) z e es c (performed z e c)
   performed_by_rule opens = opened_untried (opening_answer e.state.day c.asked.input)
   performed_by_rule steps = stepped_by_rule
   performed_by_rule (gives d) = refl
 
   judged_by_rule : (j : Answer) → ByRuleIn j (kind_of c.asked.action) e es c (judged j e c)
-  judged_by_rule Done = performed_by_rule (kind_of c.asked.action)
-  judged_by_rule (Refused q) = refl
+  judged_by_rule (Ok tt) = performed_by_rule (kind_of c.asked.action)
+  judged_by_rule (Err q) = refl
 
   pub call_by_rule : ByRule e es c (call e c)
   unfolding call

@@ -1,5 +1,6 @@
 -- "Only a noted message is answered by a text, once", over any calls from a fresh start: each reference noted on a day is noted once, and has
 -- been answered or awaits its answer. After the close none awaits.
+use Rattle.std.specs.Prelude.{Ok, Err}
 use Prim.Native.Nat.{ℕ, zero, suc, ◌+◌, ◌≤◌, ◌<◌}
 use mathlib.Core.Path.{◌≡◌, refl, sym, ap, subst, ◌∙◌}
 use mathlib.Core.Logic.{inl, inr}
@@ -16,10 +17,9 @@ use Rattle.book_read.specs.Accounts.{day_in}
 use Rattle.queue.specs.Tests.{Outcome}
 use Rattle.queue.proofs.MemoryLaws.{by_bool}
 use Rattle.book_read.specs.Range.{Each}
+use Rattle.model.specs.Answers.{Answer}
 use Rattle.model.specs.declared.Phase.{Phase}
 use Rattle.model.specs.declared.Phase.TheVariants.{Fresh, Open, Closed}
-use Rattle.model.specs.declared.Answer.{Answer}
-use Rattle.model.specs.declared.Answer.TheVariants.{Done, Refused}
 use Rattle.model.specs.Kinds.{Kind, opens, steps, gives, kind_of, is_close, own_of}
 use Rattle.codes.specs.Codes.{no_code}
 use Rattle.model.specs.State.{same_code, no_entry, Place, Entry, State, no_batches}
@@ -163,18 +163,18 @@ module _ (readers : Readers) (e : Engine) (c : Call) (v : Valid e.state) (x : Co
 
   opened_owed : (r : Answer) → opening_answer e.state.day c.asked.input ≡ r → is_open e.state.day.phase ≡ false → Owed x (opened_by r e c).engine.state (starts_anew r l)
   unfolding opened times_in
-  opened_owed Done d i =
+  opened_owed (Ok tt) d i =
       omega (arith, ap (times_in x) (none_in e.state e.state.day.phase (day_in c.asked.input) v (later readers e c v d)), ap (λ (b : List Place). waits x b) (ap (λ y. y.places) ((k readers e c v).idle i)), none_wait x)
-  opened_owed (Refused r) d i = h
+  opened_owed (Err r) d i = h
 
-  performed_owed : (z : Kind) → day_for z e.state.day ≡ true → Owed x (performed z e c).engine.state (answers_by Done z e c l)
+  performed_owed : (z : Kind) → day_for z e.state.day ≡ true → Owed x (performed z e c).engine.state (answers_by (Ok tt) z e c l)
   performed_owed opens i = opened_owed (opening_answer e.state.day c.asked.input) refl (not-true _ i)
   performed_owed steps i = stepped_owed (open_in e.state e.state.day.phase v i)
   performed_owed (gives d) i = h
 
   judged_owed : (r : Answer) → judge e.state c ≡ r → Owed x (judged r e c).engine.state (answers_by r (kind_of c.asked.action) e c l)
-  judged_owed Done i = performed_owed (kind_of c.asked.action) (right_day_lem e.state c i)
-  judged_owed (Refused r) i = h
+  judged_owed (Ok tt) i = performed_owed (kind_of c.asked.action) (right_day_lem e.state c i)
+  judged_owed (Err r) i = h
 
   call_owed : Owed x (call e c).engine.state (answers e c l)
   unfolding call answers

@@ -1,4 +1,5 @@
 -- An opening that is done leaves what its book says.
+use Rattle.std.specs.Prelude.{Ok, Err}
 use Prim.Native.Nat.{ℕ, zero, suc, ◌+◌, ◌≤◌}
 use mathlib.Core.Path.{◌≡◌, refl, sym, ap, subst, ◌∙◌}
 use mathlib.Core.List.{List, [], ◌∷◌, ◌++◌}
@@ -8,9 +9,8 @@ use Rattle.book_read.specs.Book.{each}
 use Rattle.book_write.specs.Closing.{bank_of}
 use Rattle.book_read.specs.Accounts.{Bank, column, banks_in}
 use Rattle.book_read.specs.declared.Field.TheVariants.{Code, Flags, Balance, Sublimit}
+use Rattle.model.specs.Answers.{Answer}
 use Rattle.model.specs.declared.Action.{Action}
-use Rattle.model.specs.declared.Answer.{Answer}
-use Rattle.model.specs.declared.Answer.TheVariants.{Done, Refused}
 use Rattle.model.specs.Kinds.{kind_of}
 use Rattle.model.specs.Days.{column_of, opened, opening_answer}
 use Rattle.model.specs.Calls.{Call, Engine, judge, opened_by, performed, judged, call}
@@ -37,7 +37,7 @@ banks_stored : (bs : List Bank) → length bs ≤ 64 → each (bank_of (column_o
 banks_stored bs h = rw (column_is Code bs h, column_is Flags bs h, column_is Balance bs h, column_is Sublimit bs h) (stored bs _ _ _ _)
 
 module _ (e : Engine) (c : Call) where
-  opens_right : opening_answer e.state.day c.asked.input ≡ Done → Opens e c.asked.clock c.asked.input (opened e.state c.asked.clock c.asked.input)
+  opens_right : opening_answer e.state.day c.asked.input ≡ Ok tt → Opens e c.asked.clock c.asked.input (opened e.state c.asked.clock c.asked.input)
   unfolding opened
   opens_right h = record {
     day = refl;
@@ -48,15 +48,15 @@ module _ (e : Engine) (c : Call) where
     known = refl;
   }
 
-  opened_right : (r : Answer) → opening_answer e.state.day c.asked.input ≡ r → (opened_by r e c).answer ≡ Done → Opens e c.asked.clock c.asked.input (opened_by r e c).engine.state
-  opened_right Done h d = opens_right h
-  opened_right (Refused q) h d = not_done (sym d)
+  opened_right : (r : Answer) → opening_answer e.state.day c.asked.input ≡ r → (opened_by r e c).answer ≡ Ok tt → Opens e c.asked.clock c.asked.input (opened_by r e c).engine.state
+  opened_right (Ok tt) h d = opens_right h
+  opened_right (Err q) h d = not_done (sym d)
 
   judged_opens : (j : Answer) → OpensRight e c (judged j e c)
-  judged_opens Done x h =
-      subst (λ (z : Action). (performed (kind_of z) e c).answer ≡ Done → Opens e c.asked.clock c.asked.input (performed (kind_of z) e c).engine.state) (sym x)
+  judged_opens (Ok tt) x h =
+      subst (λ (z : Action). (performed (kind_of z) e c).answer ≡ Ok tt → Opens e c.asked.clock c.asked.input (performed (kind_of z) e c).engine.state) (sym x)
       (opened_right (opening_answer e.state.day c.asked.input) refl) h
-  judged_opens (Refused q) x h = not_done (sym h)
+  judged_opens (Err q) x h = not_done (sym h)
 
   pub call_opens : OpensRight e c (call e c)
   unfolding call

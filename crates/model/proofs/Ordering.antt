@@ -1,4 +1,5 @@
 -- What waits after a call waits in its order, and nothing is tried before its minute.
+use Rattle.std.specs.Prelude.{Ok, Err}
 use Prim.Native.Nat.{ℕ, zero, suc, ◌+◌, ◌*◌, ◌≤◌, ◌<◌}
 use mathlib.Core.Path.{◌≡◌, refl, sym, ap, ◌∙◌}
 use mathlib.Core.Bool.{Bool, true, false, ◌&&◌, ◌||◌, not, cond, false≢true}
@@ -17,10 +18,9 @@ use Rattle.request_read.specs.declared.whole.Reading.{Reading}
 use Rattle.queue.specs.Tests.{Outcome, fuel}
 use Rattle.queue.proofs.MemoryLaws.{by_bool}
 use Rattle.chars.specs.declared.Refusal.TheVariants.{WrongMoment, ShortBuffer}
+use Rattle.model.specs.Answers.{Answer}
 use Rattle.model.specs.declared.Phase.{Phase}
 use Rattle.model.specs.declared.Phase.TheVariants.{Fresh, Open, Closed}
-use Rattle.model.specs.declared.Answer.{Answer}
-use Rattle.model.specs.declared.Answer.TheVariants.{Done, Refused}
 use Rattle.model.specs.Kinds.{Kind, opens, steps, gives, kind_of, is_opens, is_opening, is_close, own_of}
 use Rattle.model.specs.State.{payments_at, Batch, Place, free, live, Batches, Known, State, is_free, on_live, place_at, no_batches, with_place}
 use Rattle.model.specs.Joining.{minute_of, place_minute, keep, by_time, time, is_due, join}
@@ -323,12 +323,12 @@ queued_live banks (building r l) i = absurd (omega arith)
 queued_live banks (awaits r k g) i = refl
 queued_live banks (stands r k) i = refl
 
-not_early : (s : State) (c : Call) → judge s c ≡ Done → kind_of c.asked.action ≡ steps → s.day.clock ≤ c.asked.clock
+not_early : (s : State) (c : Call) → judge s c ≡ Ok tt → kind_of c.asked.action ≡ steps → s.day.clock ≤ c.asked.clock
 unfolding judge
 not_early s c h k = go (ltb c.asked.clock seconds_of_day) (is_opening c.asked.action) (leb s.day.clock c.asked.clock) (right_day c.asked.action s.day) (ap is_opens k) refl h
   where
     go : (t o l v : Bool) → o ≡ false → leb s.day.clock c.asked.clock ≡ l
-        → cond ((t && (o || l)) && v) (cond (leb (room_needed c.asked.action s) c.room && leb rows_needed c.rows) Done (Refused ShortBuffer)) (Refused WrongMoment) ≡ Done
+        → ◌≡◌ {A = Answer} (cond ((t && (o || l)) && v) (cond (leb (room_needed c.asked.action s) c.room && leb rows_needed c.rows) (Ok tt) (Err ShortBuffer)) (Err WrongMoment)) (Ok tt)
         → s.day.clock ≤ c.asked.clock
     go true false true v e f d = leb-true s.day.clock c.asked.clock f
     go true false false v e f d = not_done (sym d)
@@ -420,13 +420,13 @@ module _ (readers : Readers) (e : Engine) (c : Call) (v : Valid e.state) (g : St
   none_lives : (p : ℕ) → is_live no_batches p ≡ false
   none_lives p = rw (none_there 32 p) refl
 
-  acted_started : kind_of c.asked.action ≡ steps → judge e.state c ≡ Done → Started c.asked.clock a.batches
+  acted_started : kind_of c.asked.action ≡ steps → judge e.state c ≡ Ok tt → Started c.asked.clock a.batches
   unfolding begun
   acted_started k j =
       did_started s h (join_started c.asked.clock e.state.day.clock e.state.batches (not_early e.state c j k) g)
       (request_at c.asked.input) (did s (own_of c.asked.action) c.asked.input)
 
-  ends_ordered : (t : Bool) → kind_of c.asked.action ≡ steps → judge e.state c ≡ Done → OrderKept e c (cond t (closes s a o) (goes_on s a o))
+  ends_ordered : (t : Bool) → kind_of c.asked.action ≡ steps → judge e.state c ≡ Ok tt → OrderKept e c (cond t (closes s a o) (goes_on s a o))
   unfolding closes goes_on tested left after_test
   ends_ordered true k j = record {
     queue = sym (keep_none (is_live no_batches) a.batches.queue (λ p i. none_lives p)) ∙ in_queue no_batches (λ q f. none_lives q);
@@ -441,30 +441,30 @@ module _ (readers : Readers) (e : Engine) (c : Call) (v : Valid e.state) (g : St
         (times_all (λ p. has_started c.asked.clock a.batches p ≡ true) a.batches.queue (acted_started k j));
   }
 
-  stepped_ordered : kind_of c.asked.action ≡ steps → judge e.state c ≡ Done → OrderKept e c (stepped e c)
+  stepped_ordered : kind_of c.asked.action ≡ steps → judge e.state c ≡ Ok tt → OrderKept e c (stepped e c)
   unfolding stepped
   stepped_ordered k j = ends_ordered (is_close c.asked.action) k j
 
   opened_ordered : (r : Answer) → Resting e c (opened_by r e c)
   unfolding opened
-  opened_ordered Done = record { queue = refl; pending = refl }
-  opened_ordered (Refused r) = record { queue = refl; pending = refl }
+  opened_ordered (Ok tt) = record { queue = refl; pending = refl }
+  opened_ordered (Err r) = record { queue = refl; pending = refl }
 
-  performed_ordered : (z : Kind) → kind_of c.asked.action ≡ z → judge e.state c ≡ Done → OrderedBy e c Done z (performed z e c)
+  performed_ordered : (z : Kind) → kind_of c.asked.action ≡ z → judge e.state c ≡ Ok tt → OrderedBy e c (Ok tt) z (performed z e c)
   performed_ordered opens k j = opened_ordered (opening_answer e.state.day c.asked.input)
   performed_ordered steps k j = stepped_ordered k j
   performed_ordered (gives d) k j = record { queue = refl; pending = refl }
 
   judged_ordered : (j : Answer) → judge e.state c ≡ j → OrderedBy e c j (kind_of c.asked.action) (judged j e c)
-  judged_ordered Done i = performed_ordered (kind_of c.asked.action) refl i
-  judged_ordered (Refused r) i = record { queue = refl; pending = refl }
+  judged_ordered (Ok tt) i = performed_ordered (kind_of c.asked.action) refl i
+  judged_ordered (Err r) i = record { queue = refl; pending = refl }
 
   pub call_ordered : Ordered e c (call e c)
   unfolding call
   call_ordered = judged_ordered (judge e.state c) refl
 
   -- and the minutes of what waits have begun after the call
-  ends_started : (t : Bool) → kind_of c.asked.action ≡ steps → judge e.state c ≡ Done → Started (cond t (closes s a o) (goes_on s a o)).engine.state.day.clock (cond t (closes s a o) (goes_on s a o)).engine.state.batches
+  ends_started : (t : Bool) → kind_of c.asked.action ≡ steps → judge e.state c ≡ Ok tt → Started (cond t (closes s a o) (goes_on s a o)).engine.state.day.clock (cond t (closes s a o) (goes_on s a o)).engine.state.batches
   unfolding closes goes_on left after_test times begun
   ends_started true k j p i = absurd (omega arith)
   ends_started false k j p i =
@@ -474,7 +474,7 @@ module _ (readers : Readers) (e : Engine) (c : Call) (v : Valid e.state) (g : St
       left_in : (p : ℕ) → 0 < times p (left s a o).queue → 0 < times p o.queue
       left_in p i = i
 
-  stepped_started : kind_of c.asked.action ≡ steps → judge e.state c ≡ Done → Started (stepped e c).engine.state.day.clock (stepped e c).engine.state.batches
+  stepped_started : kind_of c.asked.action ≡ steps → judge e.state c ≡ Ok tt → Started (stepped e c).engine.state.day.clock (stepped e c).engine.state.batches
   unfolding stepped
   stepped_started k j = ends_started (is_close c.asked.action) k j
 
@@ -484,10 +484,10 @@ module _ (readers : Readers) (e : Engine) (c : Call) (v : Valid e.state) (g : St
 
   opened_started : (r : Answer) → is_open e.state.day.phase ≡ false → Started (opened_by r e c).engine.state.day.clock (opened_by r e c).engine.state.batches
   unfolding opened
-  opened_started Done i = idle_started i c.asked.clock
-  opened_started (Refused r) i = g
+  opened_started (Ok tt) i = idle_started i c.asked.clock
+  opened_started (Err r) i = g
 
-  performed_started : (z : Kind) → kind_of c.asked.action ≡ z → judge e.state c ≡ Done → day_for z e.state.day ≡ true → Started (performed z e c).engine.state.day.clock (performed z e c).engine.state.batches
+  performed_started : (z : Kind) → kind_of c.asked.action ≡ z → judge e.state c ≡ Ok tt → day_for z e.state.day ≡ true → Started (performed z e c).engine.state.day.clock (performed z e c).engine.state.batches
   performed_started opens k j d = opened_started (opening_answer e.state.day c.asked.input) (not-true _ d)
   performed_started steps k j d = stepped_started k j
   performed_started (gives date) k j d = idle_started (shut e.state.day.phase (and_true _ _ d).0) c.asked.clock
@@ -498,8 +498,8 @@ module _ (readers : Readers) (e : Engine) (c : Call) (v : Valid e.state) (g : St
       shut Closed h = refl
 
   judged_started : (j : Answer) → judge e.state c ≡ j → Started (judged j e c).engine.state.day.clock (judged j e c).engine.state.batches
-  judged_started Done i = performed_started (kind_of c.asked.action) refl i (right_day_lem e.state c i)
-  judged_started (Refused r) i = g
+  judged_started (Ok tt) i = performed_started (kind_of c.asked.action) refl i (right_day_lem e.state c i)
+  judged_started (Err r) i = g
 
   pub call_started : Started (call e c).engine.state.day.clock (call e c).engine.state.batches
   unfolding call

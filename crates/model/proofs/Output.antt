@@ -1,4 +1,5 @@
 -- The output never needs more than 33,705 bytes; a closing book no more than its own length.
+use Rattle.std.specs.Prelude.{Ok, Err}
 use Prim.Native.Nat.{◌+◌, ◌≤◌, ◌<◌}
 use mathlib.Core.Path.{◌≡◌, refl}
 use mathlib.Core.Bool.{Bool, true, false, cond}
@@ -8,8 +9,7 @@ use lib.ListN.{length, length-append}
 use Rattle.request_read.specs.whole.Request.{request_at}
 use Rattle.queue.specs.Tests.{Outcome}
 use Rattle.book_read.specs.Range.{Each}
-use Rattle.model.specs.declared.Answer.{Answer}
-use Rattle.model.specs.declared.Answer.TheVariants.{Done, Refused}
+use Rattle.model.specs.Answers.{Answer}
 use Rattle.model.specs.Kinds.{Kind, opens, steps, gives, kind_of, is_close, own_of}
 use Rattle.model.specs.State.{State}
 use Rattle.model.specs.Messages.{Acted}
@@ -73,8 +73,8 @@ module _ (readers : Readers) (e : Engine) (c : Call) (v : Valid e.state) where
     stepped_out = ends_out (is_close c.asked.action)
 
   opened_out : (r : Answer) → length (opened_by r e c).out ≤ 33705
-  opened_out Done = omega arith
-  opened_out (Refused r) = omega arith
+  opened_out (Ok tt) = omega arith
+  opened_out (Err r) = omega arith
 
   performed_out : (z : Kind) → c.asked.clock < 86400 → day_for z e.state.day ≡ true → length (performed z e c).out ≤ room_for z e.state
   performed_out opens t i = opened_out (opening_answer e.state.day c.asked.input)
@@ -82,8 +82,8 @@ module _ (readers : Readers) (e : Engine) (c : Call) (v : Valid e.state) where
   performed_out (gives d) t i = omega arith
 
   judged_out : (r : Answer) → judge e.state c ≡ r → length (judged r e c).out ≤ room_needed c.asked.action e.state
-  judged_out Done i = performed_out (kind_of c.asked.action) (right_clock_lem e.state c i) (right_day_lem e.state c i)
-  judged_out (Refused r) i = omega arith
+  judged_out (Ok tt) i = performed_out (kind_of c.asked.action) (right_clock_lem e.state c i) (right_day_lem e.state c i)
+  judged_out (Err r) i = omega arith
 
   -- what a call writes is no more than what it asked room for
   pub call_out : length (call e c).out ≤ room_needed c.asked.action e.state

@@ -1,5 +1,6 @@
 -- What is promised of the engine, over any calls and clearings from a start. Each promise is a word about what a call leaves, f, so that it can be held
 -- against any engine; `call` keeps them all.
+use Rattle.std.specs.Prelude.{Ok, Err}
 use Prim.Native.Nat.{ℕ, ◌≤◌, ◌<◌}
 use mathlib.Core.Path.{◌≡◌, refl, sym, ap, subst, ◌∙◌}
 use mathlib.Core.Bool.{Bool, true, false, cond}
@@ -13,11 +14,10 @@ use Rattle.queue.specs.Tests.{Outcome, passed_of}
 use Rattle.queue.specs.Promise.{Trail}
 use Rattle.queue.specs.History.{replay}
 use Rattle.queue.proofs.Promises.{settled_are_passes}
+use Rattle.model.specs.Answers.{Answer}
 use Rattle.model.specs.declared.Phase.TheVariants.{Closed}
 use Rattle.model.specs.declared.Action.{Action}
 use Rattle.model.specs.declared.Action.TheVariants.{Tick}
-use Rattle.model.specs.declared.Answer.{Answer}
-use Rattle.model.specs.declared.Answer.TheVariants.{Done, Refused}
 use Rattle.model.specs.Kinds.{Kind, opens, steps, gives, kind_of, is_close}
 use Rattle.model.specs.State.{State, no_memory, payments_at}
 use Rattle.model.specs.Messages.{Acted}
@@ -81,17 +81,17 @@ module _ (e : Engine) (c : Call) where
   stepped_number = ends_number (is_close c.asked.action) (begun e.state c.asked.clock) (acted e c) (outcome e c)
 
   opened_number : (r : Answer) → (opened_by r e c).answer ≡ r
-  opened_number Done = refl
-  opened_number (Refused r) = refl
+  opened_number (Ok tt) = refl
+  opened_number (Err r) = refl
 
-  performed_number : (z : Kind) → (performed z e c).answer ≡ numbered_by Done z e c
+  performed_number : (z : Kind) → (performed z e c).answer ≡ numbered_by (Ok tt) z e c
   performed_number opens = opened_number (opening_answer e.state.day c.asked.input)
   performed_number steps = stepped_number
   performed_number (gives d) = refl
 
   judged_number : (j : Answer) → (judged j e c).answer ≡ numbered_by j (kind_of c.asked.action) e c
-  judged_number Done = performed_number (kind_of c.asked.action)
-  judged_number (Refused r) = refl
+  judged_number (Ok tt) = performed_number (kind_of c.asked.action)
+  judged_number (Err r) = refl
 
   pub call_number : Numbered e c (call e c)
   unfolding call
@@ -107,17 +107,17 @@ module _ (e : Engine) (c : Call) where
   stepped_tries = ends_tries (is_close c.asked.action) (begun e.state c.asked.clock) (acted e c) (outcome e c)
 
   opened_tries : (r : Answer) → (opened_by r e c).tries ≡ []
-  opened_tries Done = refl
-  opened_tries (Refused r) = refl
+  opened_tries (Ok tt) = refl
+  opened_tries (Err r) = refl
 
-  performed_tries : (z : Kind) → (performed z e c).tries ≡ tries_by Done z e c
+  performed_tries : (z : Kind) → (performed z e c).tries ≡ tries_by (Ok tt) z e c
   performed_tries opens = opened_tries (opening_answer e.state.day c.asked.input)
   performed_tries steps = stepped_tries
   performed_tries (gives d) = refl
 
   judged_tries : (j : Answer) → (judged j e c).tries ≡ tries_by j (kind_of c.asked.action) e c
-  judged_tries Done = performed_tries (kind_of c.asked.action)
-  judged_tries (Refused r) = refl
+  judged_tries (Ok tt) = performed_tries (kind_of c.asked.action)
+  judged_tries (Err r) = refl
 
   call_tried : Tried e c (call e c)
   unfolding call
@@ -137,14 +137,14 @@ module _ (e : Engine) (c : Call) where
   stepped_covered : Trail (payments_at (acted e c).batches) (acted e c).books (outcome e c).done (stepped e c).engine.state.books → Settling (stepped e c)
   stepped_covered h = rw stepped_passed h
 
-  performed_covered : (z : Kind) → PaidBy Done z e c (performed z e c).engine.state.books → CoveredBy Done z e c (performed z e c)
+  performed_covered : (z : Kind) → PaidBy (Ok tt) z e c (performed z e c).engine.state.books → CoveredBy (Ok tt) z e c (performed z e c)
   performed_covered opens h = tt
   performed_covered steps h = stepped_covered h
   performed_covered (gives d) h = h
 
   judged_covered : (j : Answer) → PaidBy j (kind_of c.asked.action) e c (judged j e c).engine.state.books → CoveredBy j (kind_of c.asked.action) e c (judged j e c)
-  judged_covered Done h = performed_covered (kind_of c.asked.action) h
-  judged_covered (Refused r) h = h
+  judged_covered (Ok tt) h = performed_covered (kind_of c.asked.action) h
+  judged_covered (Err r) h = h
 
   call_covered : Paid e c → Covered e c (call e c)
   unfolding Paid call
@@ -162,10 +162,10 @@ module _ (e : Engine) (c : Call) where
 
     opened_ledger : (r : Answer) → anew r e c l ≡ ledger_in opens c.asked.input (acted e c) (opened_by r e c) l
     unfolding passed_of
-    opened_ledger Done = refl
-    opened_ledger (Refused r) = nothing_gone
+    opened_ledger (Ok tt) = refl
+    opened_ledger (Err r) = nothing_gone
 
-    performed_ledger : (z : Kind) → ledger_by Done z e c l ≡ ledger_in z c.asked.input (acted e c) (performed z e c) l
+    performed_ledger : (z : Kind) → ledger_by (Ok tt) z e c l ≡ ledger_in z c.asked.input (acted e c) (performed z e c) l
     unfolding passed_of
     performed_ledger opens = opened_ledger (opening_answer e.state.day c.asked.input)
     performed_ledger steps = stepped_ledger
@@ -178,8 +178,8 @@ module _ (e : Engine) (c : Call) where
     refused_ledger (gives d) r = nothing_gone
 
     judged_ledger : (j : Answer) → ledger_by j (kind_of c.asked.action) e c l ≡ ledger_in (kind_of c.asked.action) c.asked.input (acted e c) (judged j e c) l
-    judged_ledger Done = performed_ledger (kind_of c.asked.action)
-    judged_ledger (Refused r) = refused_ledger (kind_of c.asked.action) r
+    judged_ledger (Ok tt) = performed_ledger (kind_of c.asked.action)
+    judged_ledger (Err r) = refused_ledger (kind_of c.asked.action) r
 
     call_ledger : ledger e c l ≡ ledger_in (kind_of c.asked.action) c.asked.input (acted e c) (call e c) l
     unfolding ledger call

@@ -1,4 +1,5 @@
 -- Demand 2, the texts: each text that a call writes reads back as the response that is meant.
+use Rattle.std.specs.Prelude.{Ok, Err}
 use Prim.Native.Nat.{ℕ, ◌+◌, ◌≤◌, ◌<◌}
 use mathlib.Core.Path.{◌≡◌, refl}
 use mathlib.Core.Bool.{Bool, true, false, ◌&&◌, not, cond}
@@ -13,8 +14,7 @@ use Rattle.response_read.proofs.RoundTrip.{settlement_reads, recall_reads}
 use Rattle.queue.specs.Tests.{Outcome}
 use Rattle.queue.proofs.MemoryLaws.{by_bool}
 use Rattle.book_read.specs.Range.{Each}
-use Rattle.model.specs.declared.Answer.{Answer}
-use Rattle.model.specs.declared.Answer.TheVariants.{Done, Refused}
+use Rattle.model.specs.Answers.{Answer}
 use Rattle.model.specs.Kinds.{Kind, opens, steps, gives, kind_of, is_close}
 use Rattle.codes.specs.Codes.{no_code}
 use Rattle.model.specs.State.{same_code, Entry, State}
@@ -89,7 +89,7 @@ module _ (readers : Readers) (e : Engine) (c : Call) (v : Valid e.state) where
     stepped_read =
         texts_read e.state.day.texts (stepped_replies e c) (omega (arith, few_texts (is_close c.asked.action))) (stepped_right readers e c v h t (is_close c.asked.action))
 
-  performed_read : (z : Kind) → c.asked.clock < 86400 → day_for z e.state.day ≡ true → ReadBack e.state.day.texts (replies_by Done z e c)
+  performed_read : (z : Kind) → c.asked.clock < 86400 → day_for z e.state.day ≡ true → ReadBack e.state.day.texts (replies_by (Ok tt) z e c)
   unfolding ReadBack
   performed_read opens t i = tt
   performed_read steps t i = stepped_read (open_in e.state e.state.day.phase v i) t
@@ -97,8 +97,8 @@ module _ (readers : Readers) (e : Engine) (c : Call) (v : Valid e.state) where
 
   judged_read : (r : Answer) → judge e.state c ≡ r → ReadBack e.state.day.texts (replies_by r (kind_of c.asked.action) e c)
   unfolding ReadBack
-  judged_read Done i = performed_read (kind_of c.asked.action) (right_clock_lem e.state c i) (right_day_lem e.state c i)
-  judged_read (Refused r) i = tt
+  judged_read (Ok tt) i = performed_read (kind_of c.asked.action) (right_clock_lem e.state c i) (right_day_lem e.state c i)
+  judged_read (Err r) i = tt
 
   pub call_read : ReadBack e.state.day.texts (replies_of e c)
   unfolding replies_of

@@ -1,4 +1,5 @@
 -- The readers give right values of all that they accept: each text, each book.
+use Rattle.std.specs.Prelude.{Ok}
 use Prim.Native.Nat.{ℕ, zero, suc, ◌+◌, ◌/◌, ◌^◌, ◌≤◌, ◌<◌}
 use mathlib.Core.Path.{◌≡◌, refl, sym, ap, subst, ◌∙◌}
 use mathlib.Core.Logic.{inl, inr}
@@ -22,7 +23,6 @@ use Rattle.thm_grammar.specs.Values.{GivenReference, GivenBin, GivenSide, GivesS
 use Rattle.thm_grammar.proofs.Values.{settlement_gives, recall_gives}
 use Rattle.book_read.specs.Book.{book_check}
 use Rattle.book_read.specs.Accounts.{Bank, column, streams_in, banks_in}
-use Rattle.book_read.specs.declared.Answer.TheVariants.{Sound}
 use Rattle.book_read.specs.declared.Field.{Field}
 use Rattle.book_read.specs.declared.Field.TheVariants.{Code as Codes, Flags, Balance, Sublimit}
 use Rattle.book_read.proofs.Ranging.{accepted_in_range}
@@ -162,7 +162,7 @@ module _ (f : Field) (bs : List Bank) (few : length bs ≤ 64) where
   column_sum : sum (column_of f bs) ≡ total col
   column_sum = ap sum column_is ∙ sum_append col zeros ∙ omega (arith, sum_zeros zeros (drop_zeros 64 (0 + length col)), sum_same col)
 
-books_give : (b : List ℕ) → book_check b ≡ Sound → BookGives b
+books_give : (b : List ℕ) → book_check b ≡ Ok tt → BookGives b
 books_give b h =
     let g = accepted_in_range b h in
     let bs : List Bank = banks_in b in

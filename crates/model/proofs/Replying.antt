@@ -1,10 +1,10 @@
 -- The bytes of a call are its replies' texts, numbered on from those written today, or the closing book.
+use Rattle.std.specs.Prelude.{Ok, Err}
 use mathlib.Core.Path.{◌≡◌, refl}
 use mathlib.Core.Bool.{Bool, true, false, cond}
 use mathlib.Core.List.{[], ◌++◌}
 use Rattle.queue.specs.Tests.{Outcome}
-use Rattle.model.specs.declared.Answer.{Answer}
-use Rattle.model.specs.declared.Answer.TheVariants.{Done, Refused}
+use Rattle.model.specs.Answers.{Answer}
 use Rattle.model.specs.Kinds.{Kind, opens, steps, gives, kind_of, is_close}
 use Rattle.model.specs.State.{State}
 use Rattle.model.specs.Replies.{texts_from}
@@ -26,17 +26,17 @@ module _ (e : Engine) (c : Call) where
   stepped_out = ends_out (is_close c.asked.action) (begun e.state c.asked.clock) (acted e c) (outcome e c) refl
 
   opened_out : (r : Answer) → (opened_by r e c).out ≡ []
-  opened_out Done = refl
-  opened_out (Refused r) = refl
+  opened_out (Ok tt) = refl
+  opened_out (Err r) = refl
 
-  performed_out : (z : Kind) → (performed z e c).out ≡ out_by Done z e c
+  performed_out : (z : Kind) → (performed z e c).out ≡ out_by (Ok tt) z e c
   performed_out opens = opened_out (opening_answer e.state.day c.asked.input)
   performed_out steps = stepped_out
   performed_out (gives d) = refl
 
   judged_out : (r : Answer) → (judged r e c).out ≡ out_by r (kind_of c.asked.action) e c
-  judged_out Done = performed_out (kind_of c.asked.action)
-  judged_out (Refused r) = refl
+  judged_out (Ok tt) = performed_out (kind_of c.asked.action)
+  judged_out (Err r) = refl
 
   pub out_is : (call e c).out ≡ out_of e c
   unfolding call out_of

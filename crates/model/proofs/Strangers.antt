@@ -1,5 +1,6 @@
 -- "Letting a stranger's message end another administrator's batch": a message of a sender that is not the stream's administrator leaves
 -- what a tick at its clock leaves. Only its answer differs.
+use Rattle.std.specs.Prelude.{Ok, Err}
 use Prim.Native.Nat.{ℕ}
 use mathlib.Core.Path.{◌≡◌, refl}
 use mathlib.Core.Bool.{Bool, true, false, cond}
@@ -12,10 +13,9 @@ use Rattle.request_read.specs.whole.Request.{request_at}
 use Rattle.request_read.specs.declared.whole.Outcome.{Outcome as Read}
 use Rattle.request_read.specs.declared.whole.Outcome.TheVariants.{Settlement, Recall, Refused as Unread}
 use Rattle.request_read.specs.declared.whole.Reading.{Reading}
+use Rattle.model.specs.Answers.{Answer}
 use Rattle.model.specs.declared.Action.{Action}
 use Rattle.model.specs.declared.Action.TheVariants.{Opening, Message, SubLimit, Status, Tick, Close, ClosingBook}
-use Rattle.model.specs.declared.Answer.{Answer}
-use Rattle.model.specs.declared.Answer.TheVariants.{Done, Refused}
 use Rattle.model.specs.Kinds.{receives, changes_sublimit, changes_status, own_of}
 use Rattle.model.specs.State.{Found, at, nowhere, on_found, State}
 use Rattle.model.specs.Messages.{SubType, is131, is133, Acted, stream_code, stream_place, administrator, untouched, leaving, is_broken_part, broken_part, on_text, on_sender, message}
@@ -78,24 +78,24 @@ module _ (e : Engine) (c : Call) where
   abbrev step : Acted → Result
   step a = goes_on s a (tested c.asked.quick a e.memory)
 
-  idle_alike : (f : Refusal) → Alike (step (untouched s f)) (step (leaving s Done [] [] s.batches s.known))
+  idle_alike : (f : Refusal) → Alike (step (untouched s f)) (step (leaving s (Ok tt) [] [] s.batches s.known))
   unfolding goes_on replies left tested
   idle_alike f = record { out = refl; tries = refl; engine = refl }
 
-  stepped_alike : (a : Acted) → Idle s a → Alike (step a) (step (leaving s Done [] [] s.batches s.known))
+  stepped_alike : (a : Acted) → Idle s a → Alike (step a) (step (leaving s (Ok tt) [] [] s.batches s.known))
   stepped_alike a i = rw i.same (idle_alike i.fault)
 
   -- an action of a message or a change that touches nothing
   judged_alike : (j : Answer) (x : Action) → Asks x → Idle s (act s (own_of x) c.asked.input) → Alike (judged j e (asking x c)) (judged j e (asking Tick c))
   unfolding stepped act
-  judged_alike Done (Message n) k h = stepped_alike (act s (receives n) c.asked.input) h
-  judged_alike Done (SubLimit n v) k h = stepped_alike (act s (changes_sublimit n v) c.asked.input) h
-  judged_alike Done (Status n b l) k h = stepped_alike (act s (changes_status n b l) c.asked.input) h
-  judged_alike (Refused r) x k h = record { out = refl; tries = refl; engine = refl }
-  judged_alike Done Opening k h = elim k [ ]
-  judged_alike Done Tick k h = elim k [ ]
-  judged_alike Done Close k h = elim k [ ]
-  judged_alike Done (ClosingBook _) k h = elim k [ ]
+  judged_alike (Ok tt) (Message n) k h = stepped_alike (act s (receives n) c.asked.input) h
+  judged_alike (Ok tt) (SubLimit n v) k h = stepped_alike (act s (changes_sublimit n v) c.asked.input) h
+  judged_alike (Ok tt) (Status n b l) k h = stepped_alike (act s (changes_status n b l) c.asked.input) h
+  judged_alike (Err r) x k h = record { out = refl; tries = refl; engine = refl }
+  judged_alike (Ok tt) Opening k h = elim k [ ]
+  judged_alike (Ok tt) Tick k h = elim k [ ]
+  judged_alike (Ok tt) Close k h = elim k [ ]
+  judged_alike (Ok tt) (ClosingBook _) k h = elim k [ ]
 
   same_judge : (x : Action) → Asks x → judge e.state (asking x c) ≡ judge e.state (asking Tick c)
   unfolding judge

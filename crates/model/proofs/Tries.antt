@@ -1,12 +1,12 @@
 -- The try row never needs more than 528 numbers.
+use Rattle.std.specs.Prelude.{Ok, Err}
 use Prim.Native.Nat.{◌≤◌}
 use mathlib.Core.Bool.{Bool, true, false, cond}
 use native.Mathlib.Omega.{arith}
 use lib.ListN.{length}
 use Rattle.queue.specs.Tests.{Outcome}
 use Rattle.queue.proofs.Promises.{tries_fit}
-use Rattle.model.specs.declared.Answer.{Answer}
-use Rattle.model.specs.declared.Answer.TheVariants.{Done, Refused}
+use Rattle.model.specs.Answers.{Answer}
 use Rattle.model.specs.Kinds.{Kind, opens, steps, gives, kind_of, is_close, own_of}
 use Rattle.model.specs.State.{State, payments_at}
 use Rattle.model.specs.Messages.{Acted}
@@ -39,8 +39,8 @@ module _ (readers : Readers) (e : Engine) (c : Call) (k : Kept e.state) where
   stepped_few = ends_few (is_close c.asked.action)
 
   opened_few : (r : Answer) → length (opened_by r e c).tries ≤ 528
-  opened_few Done = omega arith
-  opened_few (Refused r) = omega arith
+  opened_few (Ok tt) = omega arith
+  opened_few (Err r) = omega arith
 
   performed_few : (z : Kind) → length (performed z e c).tries ≤ 528
   performed_few opens = opened_few (opening_answer e.state.day c.asked.input)
@@ -48,8 +48,8 @@ module _ (readers : Readers) (e : Engine) (c : Call) (k : Kept e.state) where
   performed_few (gives d) = omega arith
 
   judged_few : (r : Answer) → length (judged r e c).tries ≤ 528
-  judged_few Done = performed_few (kind_of c.asked.action)
-  judged_few (Refused r) = omega arith
+  judged_few (Ok tt) = performed_few (kind_of c.asked.action)
+  judged_few (Err r) = omega arith
 
   pub call_tries : length (call e c).tries ≤ 528
   unfolding call

@@ -1,4 +1,5 @@
 -- Each call keeps the table rules: 06 never comes from the engine's own tables.
+use Rattle.std.specs.Prelude.{Ok, Err}
 use Prim.Native.Nat.{ℕ, zero, suc, ◌+◌, ◌≤◌, ◌<◌}
 use mathlib.Core.Path.{◌≡◌, refl, sym, ap, subst}
 use mathlib.Core.Logic.{inl}
@@ -12,14 +13,11 @@ use Rattle.chars.specs.declared.Refusal.TheVariants.{WrongMoment, ShortBuffer}
 use Rattle.request_read.specs.whole.Request.{request_at}
 use Rattle.book_read.specs.Book.{book_check}
 use Rattle.book_read.specs.Accounts.{day_in, banks_in}
-use Rattle.book_read.specs.declared.Answer.{Answer as Check}
-use Rattle.book_read.specs.declared.Answer.TheVariants.{Sound, Fault}
 use Rattle.queue.specs.Tests.{Outcome, fuel}
 use Rattle.book_read.specs.Range.{Each}
+use Rattle.model.specs.Answers.{Answer}
 use Rattle.model.specs.declared.Phase.{Phase}
 use Rattle.model.specs.declared.Phase.TheVariants.{Fresh, Open, Closed}
-use Rattle.model.specs.declared.Answer.{Answer}
-use Rattle.model.specs.declared.Answer.TheVariants.{Done, Refused}
 use Rattle.model.specs.Kinds.{Kind, opens, steps, gives, kind_of, is_opening, is_close, own_of}
 use Rattle.model.specs.State.{Batch, Place, live, no_entry, State, fresh, no_batches, payments_at}
 use Rattle.model.specs.Messages.{Acted, today}
@@ -91,17 +89,17 @@ later_in s Fresh d v h = let e : s.day.date ≡ 0 = ap (λ (x : State). x.day.da
 later_in s Open d v h = omega (arith, ltb-true s.day.date d h)
 later_in s Closed d v h = omega (arith, ltb-true s.day.date d h)
 
-is_later_lem : (a : Check) (t : Bool) (r : Refusal) → checked a (cond t Done (Refused r)) ≡ Done → t ≡ true
-is_later_lem Sound true r h = refl
-is_later_lem Sound false r h = let z : ◌≡◌ {A = ℕ} 0 1 = cc in absurd (omega arith)
-is_later_lem (Fault q) t r h = let z : ◌≡◌ {A = ℕ} 0 1 = cc in absurd (omega arith)
+is_later_lem : (a : Answer) (t : Bool) (r : Refusal) → checked a (cond t (Ok tt) (Err r)) ≡ Ok tt → t ≡ true
+is_later_lem (Ok tt) true r h = refl
+is_later_lem (Ok tt) false r h = let z : ◌≡◌ {A = ℕ} 0 1 = cc in absurd (omega arith)
+is_later_lem (Err q) t r h = let z : ◌≡◌ {A = ℕ} 0 1 = cc in absurd (omega arith)
 
-pub right_clock_lem : (s : State) (c : Call) → judge s c ≡ Done → c.asked.clock < 86400
+pub right_clock_lem : (s : State) (c : Call) → judge s c ≡ Ok tt → c.asked.clock < 86400
 unfolding judge
 right_clock_lem s c h =
     ltb-true c.asked.clock 86400 (go (ltb c.asked.clock 86400) (is_opening c.asked.action || leb s.day.clock c.asked.clock) (right_day c.asked.action s.day) h)
   where
-    go : (t u v : Bool) → cond ((t && u) && v) (cond (leb (room_needed c.asked.action s) c.room && leb rows_needed c.rows) Done (Refused ShortBuffer)) (Refused WrongMoment) ≡ Done → t ≡ true
+    go : (t u v : Bool) → ◌≡◌ {A = Answer} (cond ((t && u) && v) (cond (leb (room_needed c.asked.action s) c.room && leb rows_needed c.rows) (Ok tt) (Err ShortBuffer)) (Err WrongMoment)) (Ok tt) → t ≡ true
     go true u v h = refl
     go false u v h = let z : ◌≡◌ {A = ℕ} 0 1 = cc in absurd (omega arith)
 
@@ -212,13 +210,13 @@ module _ (readers : Readers) (e : Engine) (c : Call) (v : Valid e.state) where
       unfolding stepped
       stepped_valid i = ends_valid (is_close c.asked.action) i
 
-  pub later : opening_answer e.state.day c.asked.input ≡ Done → is_later e.state.day (day_in c.asked.input) ≡ true
+  pub later : opening_answer e.state.day c.asked.input ≡ Ok tt → is_later e.state.day (day_in c.asked.input) ≡ true
   unfolding opening_answer
   later d = is_later_lem (book_check c.asked.input) (is_later e.state.day (day_in c.asked.input)) WrongMoment d
 
   opened_valid : (r : Answer) → opening_answer e.state.day c.asked.input ≡ r → c.asked.clock < 86400 → is_open e.state.day.phase ≡ false → Valid (opened_by r e c).engine.state
   unfolding opened
-  opened_valid Done d t i =
+  opened_valid (Ok tt) d t i =
       let b = readers.books c.asked.input (sound_book e.state c.asked.input d) in
       let w = known_in e.state e.state.day.phase v in
       let l : e.state.day.date ≤ day_in c.asked.input = later_in e.state e.state.day.phase (day_in c.asked.input) v (later d) in
@@ -241,7 +239,7 @@ module _ (readers : Readers) (e : Engine) (c : Call) (v : Valid e.state) where
         bins_remembered = rw (k.idle i) tt;
         answered = rw (k.idle i) (omega arith);
       }
-  opened_valid (Refused r) d t i = v
+  opened_valid (Err r) d t i = v
 
   book_valid : (d : ℕ) → c.asked.clock < 86400 → is_closed e.state.day.phase ≡ true → Valid (book_given e c d).engine.state
   book_valid d t i =
@@ -268,8 +266,8 @@ module _ (readers : Readers) (e : Engine) (c : Call) (v : Valid e.state) where
   performed_valid (gives d) t h = book_valid d t (and_true (is_closed e.state.day.phase) _ h).0
 
   judged_valid : (r : Answer) → judge e.state c ≡ r → Valid (judged r e c).engine.state
-  judged_valid Done h = performed_valid (kind_of c.asked.action) (right_clock_lem e.state c h) (right_day_lem e.state c h)
-  judged_valid (Refused r) h = v
+  judged_valid (Ok tt) h = performed_valid (kind_of c.asked.action) (right_clock_lem e.state c h) (right_day_lem e.state c h)
+  judged_valid (Err r) h = v
 
   pub call_valid : Valid (call e c).engine.state
   unfolding call

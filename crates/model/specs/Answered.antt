@@ -1,9 +1,8 @@
 -- "Only a noted message is answered by a text, once": the words of this promise.
-use Rattle.std.specs.Prelude.{ℕ, ◌+◌, ◌≤◌, ◌≡◌, ◌&&◌, not, cond, List, [], ◌∷◌, ◌++◌, eqb}
+use Rattle.std.specs.Prelude.{ℕ, ◌+◌, ◌≤◌, ◌≡◌, ◌&&◌, not, cond, List, [], ◌∷◌, ◌++◌, eqb, Ok, Err}
 use Rattle.codes.specs.declared.Code.{Code}
 use Rattle.queue.specs.Tests.{Outcome}
-use Rattle.model.specs.declared.Answer.{Answer}
-use Rattle.model.specs.declared.Answer.TheVariants.{Done, Refused}
+use Rattle.model.specs.Answers.{Answer}
 use Rattle.model.specs.Kinds.{Kind, kind_of, on_kind, is_close, own_of}
 use Rattle.codes.specs.Codes.{no_code}
 use Rattle.model.specs.State.{same_code, Message, Place, Entry, State, place_messages}
@@ -30,8 +29,8 @@ stepped_replies e c =
     (replies s (acted e c) (outcome e c))
 
 abbrev pub replies_by : Answer → Kind → Engine → Call → List Reply
-replies_by (Refused r) k e c = []
-replies_by Done k e c = on_kind k [] (stepped_replies e c) (λ date. [])
+replies_by (Err r) k e c = []
+replies_by (Ok tt) k e c = on_kind k [] (stepped_replies e c) (λ date. [])
 
 unfoldable pub replies_of : Engine → Call → List Reply
 replies_of e c = replies_by (judge e.state c) (kind_of c.asked.action) e c
@@ -82,12 +81,12 @@ pub record Accounted (s : State) (answered : List Code) : Type 0 where
 
 -- the references answered since the day was opened
 abbrev pub starts_anew : Answer → List Code → List Code
-starts_anew Done l = []
-starts_anew (Refused r) l = l
+starts_anew (Ok tt) l = []
+starts_anew (Err r) l = l
 
 abbrev pub answers_by : Answer → Kind → Engine → Call → List Code → List Code
-answers_by (Refused r) k e c l = l
-answers_by Done k e c l = on_kind k (starts_anew (opening_answer e.state.day c.asked.input) l) (l ++ replied_to (stepped_replies e c)) (λ date. l)
+answers_by (Err r) k e c l = l
+answers_by (Ok tt) k e c l = on_kind k (starts_anew (opening_answer e.state.day c.asked.input) l) (l ++ replied_to (stepped_replies e c)) (λ date. l)
 
 unfoldable pub answers : Engine → Call → List Code → List Code
 answers e c l = answers_by (judge e.state c) (kind_of c.asked.action) e c l

@@ -1,9 +1,12 @@
 -- "Each engine call returns 0 or its own action's number."
-use Rattle.std.specs.Prelude.{ℕ}
+use Rattle.chars.specs.declared.Refusal.{Refusal}
+use Rattle.std.specs.Prelude.{ℕ, Result, Ok, Err}
 use Rattle.chars.specs.Refusals.{number_of}
-use Rattle.model.specs.declared.Answer.{Answer}
-use Rattle.model.specs.declared.Answer.TheVariants.{Done, Refused}
+
+-- whether a call was carried out, or why not
+abbrev pub Answer : Type 0
+Answer = Result (Unit {0}) Refusal
 
 abbrev pub answer_number : Answer → ℕ
-answer_number Done = 0
-answer_number (Refused r) = number_of r
+answer_number (Ok tt) = 0
+answer_number (Err r) = number_of r

@@ -1,5 +1,5 @@
 -- "by arrival of its first message": the words of this promise.
-use Rattle.std.specs.Prelude.{◌≡◌, true, false, List, [], ◌∷◌, ◌++◌}
+use Rattle.std.specs.Prelude.{◌≡◌, true, false, List, [], ◌∷◌, ◌++◌, Ok}
 use Rattle.chars.specs.Refusals.{number_of}
 use Rattle.chars.specs.declared.Refusal.TheVariants.{Unsettled}
 use Rattle.codes.specs.declared.Code.{Code}
@@ -9,7 +9,6 @@ use Rattle.request_read.specs.declared.whole.Reading.{Reading}
 use Rattle.response_write.specs.declared.Outcome.TheVariants.{Rejected}
 use Rattle.book_read.specs.Range.{Each}
 use Rattle.model.specs.declared.Action.TheVariants.{Opening, Close}
-use Rattle.model.specs.declared.Answer.TheVariants.{Done}
 use Rattle.model.specs.Kinds.{is_opening}
 use Rattle.model.specs.State.{Batches, State, on_found, place_at, place_messages, batch_of}
 use Rattle.model.specs.Replies.{Reply, replies_to, texts_from}
@@ -48,12 +47,12 @@ unsettled_replies b (bin ∷ bins) =
 -- "ends each live batch with 86 by arrival of its first message"
 pub record ByArrival (e : Engine) (c : Call) (r : Result) : Type 0 where
   -- a day begins with no BIN; every other call leaves today's BINs in their order, and adds at most one behind them
-  pub opens : c.asked.action ≡ Opening → r.answer ≡ Done → bins_today r.engine.state ≡ []
+  pub opens : c.asked.action ≡ Opening → r.answer ≡ Ok tt → bins_today r.engine.state ≡ []
   pub arrives : is_opening c.asked.action ≡ false → Arrives e.state (request_at c.asked.input) r.engine.state
   -- the BIN of each live batch is one of today's
   pub today : Each (λ bin. has bin (bins_today r.engine.state) ≡ true) (live_bins r.engine.state.batches.places)
   -- a close writes the texts of its test, then the 86 texts of the batches that the test left, in the order in which their BINs came
-  pub close : judge e.state c ≡ Done → c.asked.action ≡ Close
+  pub close : judge e.state c ≡ Ok tt → c.asked.action ≡ Close
       → r.out ≡ texts_from e.state.day.texts
       (replies (begun e.state c.asked.clock) (acted e c) (outcome e c)
       ++ unsettled_replies (left (begun e.state c.asked.clock) (acted e c) (outcome e c)) (bins_today r.engine.state))

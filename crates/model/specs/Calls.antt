@@ -1,5 +1,5 @@
 -- One call, step by step; and any number of calls from a fresh start.
-use Rattle.std.specs.Prelude.{ℕ, ◌+◌, Bool, true, false, ◌&&◌, ◌||◌, not, cond, List, [], ◌∷◌, ◌++◌, map, eqb, leb, ltb, length, set}
+use Rattle.std.specs.Prelude.{ℕ, ◌+◌, Bool, true, false, ◌&&◌, ◌||◌, not, cond, List, [], ◌∷◌, ◌++◌, map, eqb, leb, ltb, length, set, Ok, Err}
 use Rattle.chars.specs.declared.Refusal.{Refusal}
 use Rattle.chars.specs.declared.Refusal.TheVariants.{WrongMoment, ShortBuffer}
 use Rattle.dates.specs.Dates.{day_of}
@@ -7,11 +7,10 @@ use Rattle.clock.specs.Clock.{seconds_of_day}
 use Rattle.request_read.specs.whole.Request.{request_at}
 use Rattle.queue.specs.Memory.{wake, forgotten}
 use Rattle.queue.specs.Tests.{Outcome, test, fuel}
+use Rattle.model.specs.Answers.{Answer}
 use Rattle.model.specs.declared.Phase.{Phase}
 use Rattle.model.specs.declared.Phase.TheVariants.{Fresh, Open, Closed}
 use Rattle.model.specs.declared.Action.{Action}
-use Rattle.model.specs.declared.Answer.{Answer}
-use Rattle.model.specs.declared.Answer.TheVariants.{Done, Refused}
 use Rattle.model.specs.State.{Day, Batches, State, fresh, no_memory, no_batches, payments_at, with_clock, with_texts, with_phase}
 use Rattle.model.specs.Replies.{Reply, texts_from}
 use Rattle.model.specs.Kinds.{Kind, kind_of, on_kind, is_opening, is_close, Own, receives, changes_sublimit, changes_status, nothing, own_of}
@@ -89,8 +88,8 @@ rows_needed = 528
 unfoldable pub judge : State → Call → Answer
 judge s c =
     cond (right_clock c.asked.action s.day c.asked.clock && right_day c.asked.action s.day)
-    (cond (leb (room_needed c.asked.action s) c.room && leb rows_needed c.rows) Done (Refused ShortBuffer))
-    (Refused WrongMoment)
+    (cond (leb (room_needed c.asked.action s) c.room && leb rows_needed c.rows) (Ok tt) (Err ShortBuffer))
+    (Err WrongMoment)
 
 -- ---- (a), (b), (c), (d)
 
@@ -109,7 +108,7 @@ unfoldable pub act : State → Own → List ℕ → Acted
 act s (receives sender) input = message s sender (request_at input)
 act s (changes_sublimit code cents) input = sub_limit s code cents
 act s (changes_status code bin letter) input = status s code bin letter
-act s nothing input = leaving s Done [] [] s.batches s.known
+act s nothing input = leaving s (Ok tt) [] [] s.batches s.known
 
 -- what an action wakes
 abbrev pub woke : Waking → List ℕ → List ℕ
@@ -169,7 +168,7 @@ module _ (s : State) (a : Acted) (o : Outcome) where
 
 -- an engine and what it is left by a call that is refused before all others: "nothing changed"
 abbrev pub refused : Engine → Refusal → Result
-refused e r = record { answer = Refused r; out = []; tries = []; engine = e }
+refused e r = record { answer = Err r; out = []; tries = []; engine = e }
 
 unfoldable pub stepped : Engine → Call → Result
 stepped e c =
@@ -181,17 +180,17 @@ stepped e c =
 -- ---- opening and closing book
 
 abbrev pub opened_by : Answer → Engine → Call → Result
-opened_by Done e c = record {
-  answer = Done;
+opened_by (Ok tt) e c = record {
+  answer = Ok tt;
   out = [];
   tries = [];
   engine = record { state = opened e.state c.asked.clock c.asked.input; memory = e.memory };
 }
-opened_by (Refused r) e c = refused e r
+opened_by (Err r) e c = refused e r
 
 abbrev pub book_given : Engine → Call → ℕ → Result
 book_given e c date = record {
-  answer = Done;
+  answer = Ok tt;
   out = closing_text e.state date;
   tries = [];
   engine = record {
@@ -210,8 +209,8 @@ abbrev pub performed : Kind → Engine → Call → Result
 performed k e c = on_kind k (opened_by (opening_answer e.state.day c.asked.input) e c) (stepped e c) (book_given e c)
 
 abbrev pub judged : Answer → Engine → Call → Result
-judged Done e c = performed (kind_of c.asked.action) e c
-judged (Refused r) e c = refused e r
+judged (Ok tt) e c = performed (kind_of c.asked.action) e c
+judged (Err r) e c = refused e r
 
 -- one call on tables that keep the rules
 unfoldable pub call : Engine → Call → Result

@@ -1,5 +1,5 @@
 -- Sub-limit changes and status changes.
-use Rattle.std.specs.Prelude.{ℕ, ◌+◌, ◌*◌, ◌%◌, Bool, false, ◌||◌, cond, List, [], ◌∷◌, eqb, leb}
+use Rattle.std.specs.Prelude.{ℕ, ◌+◌, ◌*◌, ◌%◌, Bool, false, ◌||◌, cond, List, [], ◌∷◌, eqb, leb, Ok}
 use Rattle.chars.specs.Words.{bytes, member}
 use Rattle.chars.specs.declared.Refusal.TheVariants.{NothingThere, OutOfRange, UnknownBank, WrongEsa}
 use Rattle.codes.specs.declared.Code.{Code}
@@ -7,7 +7,6 @@ use Rattle.settle.specs.Payments.{Payment, credit, debit}
 use Rattle.settle.specs.Cover.{first_letter}
 use Rattle.book_read.specs.Book.{most_money}
 use Rattle.queue.specs.Promise.{sublimited}
-use Rattle.model.specs.declared.Answer.TheVariants.{Done}
 use Rattle.model.specs.State.{on_found, Message, Place, free, live, State, place_at, payments_at, with_place}
 use Rattle.model.specs.Messages.{Acted, bank, place, untouched, leaving, bank_place, waiting}
 
@@ -16,7 +15,7 @@ unfoldable pub sub_limit : State → (code cents : ℕ) → Acted
 sub_limit s code cents =
     on_found (bank_place s.house code) (untouched s UnknownBank) (λ p.
     cond (leb cents most_money)
-    (record { answer = Done; replies = []; wakes = bank p ∷ []; books = sublimited s.books p cents; batches = s.batches; known = s.known })
+    (record { answer = Ok tt; replies = []; wakes = bank p ∷ []; books = sublimited s.books p cents; batches = s.batches; known = s.known })
     (untouched s OutOfRange))
 
 -- "a debit of that bank"
@@ -53,6 +52,6 @@ status s code bin letter =
     (on_found (bank_place s.house code) (untouched s UnknownBank) (λ k.
     on_found (waiting s.batches bin) (untouched s NothingThere) (λ p.
     cond (has_debit k (payments_at s.batches p))
-    (leaving s Done [] (place p ∷ []) (with_place s.batches p (with_letter k letter (place_at s.batches p))) s.known)
+    (leaving s (Ok tt) [] (place p ∷ []) (with_place s.batches p (with_letter k letter (place_at s.batches p))) s.known)
     (untouched s NothingThere))))
     (untouched s WrongEsa)

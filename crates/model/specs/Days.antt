@@ -1,22 +1,17 @@
 -- Opening and closing a day.
-use Rattle.std.specs.Prelude.{ℕ, Bool, true, false, ◌||◌, cond, List, ltb, length, replicate}
+use Rattle.std.specs.Prelude.{ℕ, Bool, true, false, ◌||◌, cond, List, ltb, length, replicate, Option, Some, None, Ok, Err}
 use Rattle.std.proofs.lemmas.List.Edits.{sets}
 use Rattle.chars.specs.declared.Refusal.TheVariants.{WrongMoment}
 use Rattle.dates.specs.Dates.{day_of}
-use Rattle.dates.specs.declared.Day.{Day as Date}
-use Rattle.dates.specs.declared.Day.TheVariants.{Number, Untrue}
 use Rattle.book_read.specs.Book.{each, book_check}
 use Rattle.book_write.specs.Closing.{bank_of, book_bytes}
 use Rattle.book_read.specs.Accounts.{Bank, day_in, streams_in, banks_in, column}
-use Rattle.book_read.specs.declared.Answer.{Answer as Check}
-use Rattle.book_read.specs.declared.Answer.TheVariants.{Sound, Fault}
 use Rattle.book_read.specs.declared.Field.{Field}
 use Rattle.book_read.specs.declared.Field.TheVariants.{Code, Flags, Balance, Sublimit}
 use Rattle.settle.specs.Settlement.{Accounts, accounts}
+use Rattle.model.specs.Answers.{Answer}
 use Rattle.model.specs.declared.Phase.{Phase}
 use Rattle.model.specs.declared.Phase.TheVariants.{Fresh, Open, Closed}
-use Rattle.model.specs.declared.Answer.{Answer}
-use Rattle.model.specs.declared.Answer.TheVariants.{Done, Refused}
 use Rattle.model.specs.State.{Day, House, State}
 
 abbrev pub is_fresh : Phase → Bool
@@ -47,23 +42,23 @@ opened s clock book = record {
 abbrev pub is_later : Day → ℕ → Bool
 is_later d day = is_fresh d.phase || ltb d.date day
 
-abbrev pub checked : Check → Answer → Answer
-checked Sound a = a
-checked (Fault r) a = Refused r
+abbrev pub checked : Answer → Answer → Answer
+checked (Ok tt) a = a
+checked (Err r) a = Err r
 
 -- 11 to 15; "an opening's date is tested after 15"
 unfoldable pub opening_answer : Day → List ℕ → Answer
-opening_answer d book = checked (book_check book) (cond (is_later d (day_in book)) Done (Refused WrongMoment))
+opening_answer d book = checked (book_check book) (cond (is_later d (day_in book)) (Ok tt) (Err WrongMoment))
 
 -- "a closing book's date not true, either's date not later than the last opened day's"
-abbrev pub right_date : Day → Date → Bool
-right_date d (Number k) = ltb d.date k
-right_date d Untrue = false
+abbrev pub right_date : Day → Option ℕ → Bool
+right_date d (Some k) = ltb d.date k
+right_date d None = false
 
 -- "A closing book carries the date given": streams, banks, balances and sub-limits as they stand
-abbrev pub on_date : Date → ℕ
-on_date (Number k) = k
-on_date Untrue = 0
+abbrev pub on_date : Option ℕ → ℕ
+on_date (Some k) = k
+on_date None = 0
 
 abbrev pub banks_of : House → Accounts → List Bank
 banks_of h a = each (bank_of h.codes h.flags a.balances a.sublimits) 0 h.banks

@@ -1,8 +1,7 @@
 -- What has happened, call by call, as the omission rule looks back on it: told by the calls and what becomes of the batches, and by no memory.
-use Rattle.std.specs.Prelude.{ℕ, zero, suc, ◌≡◌, Bool, true, false, cond, List, [], ◌∷◌, ◌++◌}
+use Rattle.std.specs.Prelude.{ℕ, zero, suc, ◌≡◌, Bool, true, false, cond, List, [], ◌∷◌, ◌++◌, Ok, Err}
 use Rattle.queue.specs.History.{Event, sublimit_changed, changed, tried_events, Tries}
-use Rattle.model.specs.declared.Answer.{Answer}
-use Rattle.model.specs.declared.Answer.TheVariants.{Done, Refused}
+use Rattle.model.specs.Answers.{Answer}
 use Rattle.model.specs.Kinds.{Kind, opens, steps, gives, kind_of, on_kind, Own, receives, changes_sublimit, changes_status, nothing, own_of}
 use Rattle.model.specs.State.{on_found, Place, free, live, Batches, State, place_at, payments_at}
 use Rattle.model.specs.Messages.{bank_place, waiting}
@@ -11,11 +10,11 @@ use Rattle.model.specs.Answered.{acted}
 
 -- "no accepted sub-limit change, and the batch no accepted status change": what an action that is accepted says of a bank or of a batch
 abbrev pub accepted : State → Own → Answer → List Event
-accepted s x (Refused r) = []
-accepted s (receives sender) Done = []
-accepted s (changes_sublimit code cents) Done = on_found (bank_place s.house code) [] (λ k. sublimit_changed k ∷ [])
-accepted s (changes_status code bin letter) Done = on_found (waiting s.batches bin) [] (λ p. changed p ∷ [])
-accepted s nothing Done = []
+accepted s x (Err r) = []
+accepted s (receives sender) (Ok tt) = []
+accepted s (changes_sublimit code cents) (Ok tt) = on_found (bank_place s.house code) [] (λ k. sublimit_changed k ∷ [])
+accepted s (changes_status code bin letter) (Ok tt) = on_found (waiting s.batches bin) [] (λ p. changed p ∷ [])
+accepted s nothing (Ok tt) = []
 
 -- a place that was ended or newly filled begins anew: among the first n those where a batch stands in one and none in the other
 abbrev pub is_anew : Place → Place → Bool
@@ -42,8 +41,8 @@ module _ (e : Engine) (c : Call) where
       ++ (tried_events c.asked.quick (payments_at (acted e c).batches) (acted e c).books r.tries ++ acted_events)
 
   abbrev pub events_by : Answer → Kind → Result → List Event
-  events_by (Refused q) k r = []
-  events_by Done k r = on_kind k [] (stepped_events r) (λ date. [])
+  events_by (Err q) k r = []
+  events_by (Ok tt) k r = on_kind k [] (stepped_events r) (λ date. [])
 
 -- what has happened after some calls, `es` being what happened before them
 unfoldable pub history : Engine → List Event → List Call → List Event
@@ -58,10 +57,10 @@ pub record TriesByRule (e : Engine) (es : List Event) (c : Call) (r : Result) : 
       r.tries r.engine.state.books queue
 
 abbrev pub ByRuleIn : Answer → Kind → Engine → List Event → Call → Result → Type 0
-ByRuleIn (Refused q) k e es c r = r.tries ≡ []
-ByRuleIn Done opens e es c r = r.tries ≡ []
-ByRuleIn Done steps e es c r = TriesByRule e es c r
-ByRuleIn Done (gives date) e es c r = r.tries ≡ []
+ByRuleIn (Err q) k e es c r = r.tries ≡ []
+ByRuleIn (Ok tt) opens e es c r = r.tries ≡ []
+ByRuleIn (Ok tt) steps e es c r = TriesByRule e es c r
+ByRuleIn (Ok tt) (gives date) e es c r = r.tries ≡ []
 
 abbrev pub ByRule : Engine → List Event → Call → Result → Type 0
 ByRule e es c r = ByRuleIn (judge e.state c) (kind_of c.asked.action) e es c r

@@ -1,5 +1,5 @@
 -- "Refusal numbers", the column "left behind": what a call with steps leaves that answers a number, by the number.
-use Rattle.std.specs.Prelude.{ℕ, ◌≡◌, cond, List, [], ◌∷◌, ◌++◌, eqb, set}
+use Rattle.std.specs.Prelude.{ℕ, ◌≡◌, cond, List, [], ◌∷◌, ◌++◌, eqb, set, Ok, Err}
 use Rattle.chars.specs.Words.{member}
 use Rattle.chars.specs.Refusals.{number_of}
 use Rattle.chars.specs.declared.Refusal.{Refusal}
@@ -10,7 +10,6 @@ use Rattle.request_read.specs.declared.whole.Outcome.TheVariants.{Settlement, Re
 use Rattle.request_read.specs.declared.whole.Reading.{Reading}
 use Rattle.response_write.specs.declared.Outcome.TheVariants.{Rejected}
 use Rattle.response_write.specs.declared.Answer.TheVariants.{Kept}
-use Rattle.model.specs.declared.Answer.TheVariants.{Done, Refused}
 use Rattle.model.specs.Kinds.{steps, kind_of, Own, receives, changes_sublimit, changes_status, nothing, own_of}
 use Rattle.model.specs.State.{on_found, seek, is_free, Message, free, Known, State, place_at, place_messages, place_bin}
 use Rattle.model.specs.Replies.{settlement, recall, replies_to}
@@ -22,7 +21,7 @@ module _ (s : State) (r : Reading) where
   -- are as they were
   abbrev pub batch_ended : Refusal → (p : ℕ) → List Message → Code → Known → Acted
   batch_ended q p messages bin k = record {
-    answer = Refused q;
+    answer = Err q;
     replies = replies_to messages bin (Rejected (number_of q));
     wakes = place p ∷ [];
     books = s.books;
@@ -36,7 +35,7 @@ module _ (s : State) (r : Reading) where
   own_ended q =
       cond (is_known s r)
       (on_found (assembling s.batches (bin s r))
-      (leaving s (Refused q) (settlement (reference s r) (bin s r) (Rejected (number_of q)) ∷ []) [] s.batches (with_reference s r))
+      (leaving s (Err q) (settlement (reference s r) (bin s r) (Rejected (number_of q)) ∷ []) [] s.batches (with_reference s r))
       (λ p. batch_ended q p (place_messages (place_at s.batches p) ++ (arrived s r ∷ [])) (place_bin (place_at s.batches p)) (with_reference s r)))
       (on_found (seek is_free s.batches.places) (untouched s q) (λ p. batch_ended q p (arrived s r ∷ []) (bin s r) (with_bin s r (with_reference s r))))
 
@@ -56,7 +55,7 @@ module _ (s : State) (r : Reading) where
   -- a 133: with 02 its "reference is noted and its 134 written"; all other numbers leave "clock, queue test"
   abbrev pub recall_left : Refusal → Acted
   recall_left q =
-      cond (eqb (number_of q) 2) (leaving s (Refused q) (recall (reference s r) (Kept (number_of q)) ∷ []) [] s.batches (with_reference s r)) (untouched s q)
+      cond (eqb (number_of q) 2) (leaving s (Err q) (recall (reference s r) (Kept (number_of q)) ∷ []) [] s.batches (with_reference s r)) (untouched s q)
 
   -- 80, 81 and 87 of step 1 in a part that is broken after its BIN was read well: "the batch ends with the same code" if its administrator sent it
   abbrev pub part_left : (sender : ℕ) → Refusal → Acted
@@ -82,5 +81,5 @@ abbrev pub finished : Engine → Call → Acted → Result
 finished e c a = goes_on (begun e.state c.asked.clock) a (tested c.asked.quick a e.memory)
 
 abbrev pub LeftBehind : Engine → Call → Result → Type 0
-LeftBehind e c r = judge e.state c ≡ Done → kind_of c.asked.action ≡ steps → (q : Refusal) → r.answer ≡ Refused q
+LeftBehind e c r = judge e.state c ≡ Ok tt → kind_of c.asked.action ≡ steps → (q : Refusal) → r.answer ≡ Err q
     → r ≡ finished e c (left_by (begun e.state c.asked.clock) (request_at c.asked.input) (own_of c.asked.action) q)

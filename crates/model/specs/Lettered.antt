@@ -1,10 +1,9 @@
 -- "else that debit's ESA letter is changed": what an accepted status change changes, and what it leaves as it was.
-use Rattle.std.specs.Prelude.{ℕ, ◌≡◌, ◌⊎◌, cond, List, [], ◌∷◌, eqb, drop}
+use Rattle.std.specs.Prelude.{ℕ, ◌≡◌, ◌⊎◌, cond, List, [], ◌∷◌, eqb, drop, Ok}
 use Rattle.codes.specs.Codes.{short_text}
 use Rattle.codes.specs.declared.Code.{Code}
 use Rattle.settle.specs.Payments.{Payment, credit, debit}
 use Rattle.model.specs.declared.Action.TheVariants.{Status}
-use Rattle.model.specs.declared.Answer.TheVariants.{Done}
 use Rattle.model.specs.State.{at, Message, Batch, Place, free, live, place_at}
 use Rattle.model.specs.Messages.{bank_place, waiting}
 use Rattle.model.specs.Calls.{Call, Engine, Result, begun}
@@ -58,5 +57,5 @@ pub record StatusSet (e : Engine) (clock code : ℕ) (bin : Code) (letter : ℕ)
       → (place_at r.engine.state.batches p ≡ free) ⊎ (place_at r.engine.state.batches p ≡ place_at e.state.batches p)
 
 abbrev pub LettersStay : Engine → Call → Result → Type 0
-LettersStay e c r = (code : ℕ) (bin : Code) (letter : ℕ) → c.asked.action ≡ Status code bin letter → r.answer ≡ Done
+LettersStay e c r = (code : ℕ) (bin : Code) (letter : ℕ) → c.asked.action ≡ Status code bin letter → r.answer ≡ Ok tt
     → StatusSet e c.asked.clock code bin letter r

@@ -1,5 +1,5 @@
 -- "A message's action, first failure decides".
-use Rattle.std.specs.Prelude.{ℕ, ◌/◌, ◌%◌, ◌^◌, Bool, true, false, ◌&&◌, ◌||◌, not, cond, List, [], ◌∷◌, ◌++◌, eqb, leb, length, get_or, take, set}
+use Rattle.std.specs.Prelude.{ℕ, ◌/◌, ◌%◌, ◌^◌, Bool, true, false, ◌&&◌, ◌||◌, not, cond, List, [], ◌∷◌, ◌++◌, eqb, leb, length, get_or, take, set, Ok, Err}
 use Rattle.chars.specs.Words.{member}
 use Rattle.chars.specs.Refusals.{number_of}
 use Rattle.chars.specs.declared.Refusal.{Refusal}
@@ -22,8 +22,7 @@ use Rattle.settle.specs.Settlement.{Accounts}
 use Rattle.settle.specs.Rules.{credits, debits}
 use Rattle.response_write.specs.declared.Outcome.TheVariants.{Rejected}
 use Rattle.response_write.specs.declared.Answer.TheVariants.{Recalled, Kept}
-use Rattle.model.specs.declared.Answer.{Answer}
-use Rattle.model.specs.declared.Answer.TheVariants.{Done, Refused}
+use Rattle.model.specs.Answers.{Answer}
 use Rattle.model.specs.State.{Found, at, nowhere, on_found, seek, House, Message, Batch, free, live, Batches, Known, State, is_free, on_live, place_at, place_messages, payments_of, with_place, batch_of}
 use Rattle.model.specs.Memory.{is_used, vacant, note}
 use Rattle.model.specs.Replies.{Reply, settlement, recall, replies_to}
@@ -53,8 +52,8 @@ abbrev pub rule : Bool → Refusal → Rule
 rule h r = record { holds = h; fault = r }
 
 unfoldable pub first_broken : List Rule → Answer
-first_broken [] = Done
-first_broken (r ∷ rs) = cond r.holds (first_broken rs) (Refused r.fault)
+first_broken [] = Ok tt
+first_broken (r ∷ rs) = cond r.holds (first_broken rs) (Err r.fault)
 
 -- ---- banks and streams
 
@@ -157,11 +156,11 @@ module _ (s : State) where
 
   -- a refusal that touches no batch and notes nothing
   abbrev pub untouched : Refusal → Acted
-  untouched r = leaving (Refused r) [] [] s.batches s.known
+  untouched r = leaving (Err r) [] [] s.batches s.known
 
   -- a batch is ended with a number, and its messages are answered
   abbrev pub rejecting : Refusal → ℕ → Batches → List Message → Code → Known → Acted
-  rejecting r p b messages bin k = leaving (Refused r) (replies_to messages bin (Rejected (number_of r))) (place p ∷ []) (ended b p) k
+  rejecting r p b messages bin k = leaving (Err r) (replies_to messages bin (Rejected (number_of r))) (place p ∷ []) (ended b p) k
 
 -- Steps 1 to 6 in their order. A step that finds no fault goes on with the next, its last argument.
 module _ (s : State) (r : Reading) where
@@ -246,7 +245,7 @@ module _ (s : State) (r : Reading) where
   on_bin k next =
       cond is_known
       (on_found (assembling s.batches bin)
-      (leaving s (Refused Malformed) (settlement reference bin (Rejected (number_of Malformed)) ∷ []) [] s.batches k)
+      (leaving s (Err Malformed) (settlement reference bin (Rejected (number_of Malformed)) ∷ []) [] s.batches k)
       (λ p. on_live (place_at s.batches p) (untouched s Malformed) (next s.batches k p)))
       (on_found (seek is_free s.batches.places) (untouched s NoRoom)
       (λ p. next (with_place s.batches p (live first_batch)) (with_bin k) p first_batch))
@@ -294,8 +293,8 @@ module _ (s : State) (r : Reading) where
 
   -- "Any of these rejects the batch with this message in it."
   abbrev pub on_rules : Answer → Batches → Known → ℕ → Batch → Acted → Acted
-  on_rules Done b k p x next = next
-  on_rules (Refused f) b k p x next = rejecting s f p b x.messages x.bin k
+  on_rules (Ok tt) b k p x next = next
+  on_rules (Err f) b k p x next = rejecting s f p b x.messages x.bin k
 
   -- ---- 6. "When all numbers are there: 01, or pending if its activation minute has not begun, or the queue's tail."
 
@@ -314,17 +313,17 @@ module _ (s : State) (r : Reading) where
   completed b k p x =
       cond (is_complete x)
       (cond (is_even x)
-      (leaving s Done [] (place p ∷ []) (to_tail b x p) k)
+      (leaving s (Ok tt) [] (place p ∷ []) (to_tail b x p) k)
       (rejecting s Unequal p b x.messages x.bin k))
-      (leaving s Done [] (place p ∷ []) (with_place b p (live x)) k)
+      (leaving s (Ok tt) [] (place p ∷ []) (with_place b p (live x)) k)
 
   -- ---- "A recall acts on a pending or queued batch; else its 134 carries 02." "a 134 before the batch it recalls"
 
   unfoldable pub recalling : Known → Acted
   recalling k =
       on_found (waiting s.batches bin)
-      (leaving s (Refused NothingThere) (recall reference (Kept (number_of NothingThere)) ∷ []) [] s.batches k)
-      (λ p. leaving s Done
+      (leaving s (Err NothingThere) (recall reference (Kept (number_of NothingThere)) ∷ []) [] s.batches k)
+      (λ p. leaving s (Ok tt)
       (recall reference Recalled ∷ replies_to (place_messages (place_at s.batches p)) bin (Rejected (number_of WasRecalled)))
       (place p ∷ [])
       (ended s.batches p)

@@ -1,11 +1,10 @@
 -- The words of the three demands, over any calls and clearings from a start. Each is said of what a call leaves, f, so that it can be held against any
 -- engine; `call` keeps them all (proofs/Promises.antt), and the engines that are shut out break one each (crate thm_wrong_engines).
-use Rattle.std.specs.Prelude.{ℕ, suc, ◌+◌, ◌≤◌, ◌<◌, ◌≡◌, Bool, true, false, ◌&&◌, cond, List, [], ◌∷◌, ◌++◌, map, length, get_or, replicate}
+use Rattle.std.specs.Prelude.{ℕ, suc, ◌+◌, ◌≤◌, ◌<◌, ◌≡◌, Bool, true, false, ◌&&◌, cond, List, [], ◌∷◌, ◌++◌, map, length, get_or, replicate, Some, Ok, Err}
 use Rattle.std.proofs.lemmas.List.Edits.{sets}
 use Rattle.chars.specs.declared.Refusal.{Refusal}
 use Rattle.codes.specs.declared.Code.{Code}
 use Rattle.dates.specs.Dates.{day_of}
-use Rattle.dates.specs.declared.Day.TheVariants.{Number}
 use Rattle.request_read.specs.whole.Request.{request_at}
 use Rattle.request_read.specs.declared.whole.Reading.{Reading}
 use Rattle.response_read.specs.Reply.{response_at}
@@ -13,16 +12,14 @@ use Rattle.response_read.specs.declared.Reply.{Reply as Response}
 use Rattle.response_read.specs.declared.Reply.TheVariants.{Settlement, Recall}
 use Rattle.book_read.specs.Book.{book_check}
 use Rattle.book_read.specs.Accounts.{day_in, streams_in, banks_in}
-use Rattle.book_read.specs.declared.Answer.TheVariants.{Sound}
 use Rattle.settle.specs.Payments.{Payment}
 use Rattle.settle.specs.Rules.{sum}
 use Rattle.queue.specs.Tests.{passed_of}
 use Rattle.queue.specs.Promise.{Trail, Stuck, brought_by, taken_by}
+use Rattle.model.specs.Answers.{Answer}
 use Rattle.model.specs.declared.Action.{Action}
 use Rattle.model.specs.declared.Action.TheVariants.{Opening, Message, Tick, ClosingBook}
 use Rattle.model.specs.declared.Phase.TheVariants.{Open}
-use Rattle.model.specs.declared.Answer.{Answer}
-use Rattle.model.specs.declared.Answer.TheVariants.{Done, Refused}
 use Rattle.model.specs.Kinds.{Kind, opens, steps, gives, kind_of, on_kind, is_opens}
 use Rattle.model.specs.State.{at, State, payments_at}
 use Rattle.model.specs.Replies.{Reply, settlement, recall, bin_stream, text_of, texts_from}
@@ -47,8 +44,8 @@ Along P e (c ∷ cs) (r ∷ rs) = P e c r × Along P r.engine cs rs
 
 -- "nothing changed": 05 and 07, and an opening that is refused
 pub record Unchanged (e : Engine) (c : Call) (r : Result) : Type 0 where
-  pub at_once : (q : Refusal) → judge e.state c ≡ Refused q → r ≡ refused e q
-  pub opening : (q : Refusal) → c.asked.action ≡ Opening → r.answer ≡ Refused q → r ≡ refused e q
+  pub at_once : (q : Refusal) → judge e.state c ≡ Err q → r ≡ refused e q
+  pub opening : (q : Refusal) → c.asked.action ≡ Opening → r.answer ≡ Err q → r ≡ refused e q
 
 -- "output buffer .. 33,705 bytes (closing book: .. its own length), try row .. 528 numbers" are enough
 abbrev pub Enough : Engine → Call → Result → Type 0
@@ -58,16 +55,16 @@ Enough e c r = (length r.out ≤ room_needed c.asked.action e.state) × (length 
 
 -- "Each engine call returns 0 or its own action's number."
 abbrev pub numbered_by : Answer → Kind → Engine → Call → Answer
-numbered_by (Refused r) k e c = Refused r
-numbered_by Done k e c = on_kind k (opening_answer e.state.day c.asked.input) (acted e c).answer (λ date. Done)
+numbered_by (Err r) k e c = Err r
+numbered_by (Ok tt) k e c = on_kind k (opening_answer e.state.day c.asked.input) (acted e c).answer (λ date. Ok tt)
 
 abbrev pub Numbered : Engine → Call → Result → Type 0
 Numbered e c r = r.answer ≡ numbered_by (judge e.state c) (kind_of c.asked.action) e c
 
 -- the bytes of a call: its replies' texts, numbered on from those written today, or the closing book
 abbrev pub out_by : Answer → Kind → Engine → Call → List ℕ
-out_by (Refused r) k e c = []
-out_by Done k e c = on_kind k [] (texts_from e.state.day.texts (stepped_replies e c)) (closing_text e.state)
+out_by (Err r) k e c = []
+out_by (Ok tt) k e c = on_kind k [] (texts_from e.state.day.texts (stepped_replies e c)) (closing_text e.state)
 
 unfoldable pub out_of : Engine → Call → List ℕ
 out_of e c = out_by (judge e.state c) (kind_of c.asked.action) e c
@@ -95,9 +92,9 @@ answered ds = answered_after start [] (since ds)
 
 -- what a book tells of the engine's tables
 pub record Tells (s : State) (date : ℕ) (out : List ℕ) : Type 0 where
-  pub accepted : book_check out ≡ Sound
+  pub accepted : book_check out ≡ Ok tt
   -- "A closing book carries the date given"
-  pub dated : day_of date ≡ Number (day_in out)
+  pub dated : day_of date ≡ Some (day_in out)
   pub streams : streams_in out ≡ s.house.streams
   pub banks : banks_in out ≡ banks_of s.house s.books
   -- a day that is opened with it begins with the same house and accounts
@@ -114,18 +111,18 @@ pub record Opens (e : Engine) (clock : ℕ) (book : List ℕ) (s : State) : Type
   pub known : s.known ≡ e.state.known
 
 abbrev pub OpensRight : Engine → Call → Result → Type 0
-OpensRight e c r = c.asked.action ≡ Opening → r.answer ≡ Done → Opens e c.asked.clock c.asked.input r.engine.state
+OpensRight e c r = c.asked.action ≡ Opening → r.answer ≡ Ok tt → Opens e c.asked.clock c.asked.input r.engine.state
 
 -- of a call that gives one
 abbrev pub Closes : Engine → Call → Result → Type 0
-Closes e c r = (date : ℕ) → c.asked.action ≡ ClosingBook date → r.answer ≡ Done → Tells e.state date r.out
+Closes e c r = (date : ℕ) → c.asked.action ≡ ClosingBook date → r.answer ≡ Ok tt → Tells e.state date r.out
 
 -- ---- demand 3
 
 -- "Both report their tries in order": those of the test that was chosen, on the batches that the action left
 abbrev pub tries_by : Answer → Kind → Engine → Call → List ℕ
-tries_by (Refused r) k e c = []
-tries_by Done k e c = on_kind k [] (outcome e c).tries (λ date. [])
+tries_by (Err r) k e c = []
+tries_by (Ok tt) k e c = on_kind k [] (outcome e c).tries (λ date. [])
 
 abbrev pub Tried : Engine → Call → Result → Type 0
 Tried e c r = r.tries ≡ tries_by (judge e.state c) (kind_of c.asked.action) e c
@@ -136,10 +133,10 @@ NonePasses e c r = Stuck (payments_at r.engine.state.batches) r.engine.state.boo
 
 -- "every payer of a settled batch covered its own payment on the balances just before that batch": of the batches whose tries passed
 abbrev pub CoveredBy : Answer → Kind → Engine → Call → Result → Type 0
-CoveredBy (Refused q) k e c r = r.engine.state.books ≡ e.state.books
-CoveredBy Done opens e c r = Unit {0}
-CoveredBy Done steps e c r = Trail (payments_at (acted e c).batches) (acted e c).books (passed_of r.tries) r.engine.state.books
-CoveredBy Done (gives date) e c r = r.engine.state.books ≡ e.state.books
+CoveredBy (Err q) k e c r = r.engine.state.books ≡ e.state.books
+CoveredBy (Ok tt) opens e c r = Unit {0}
+CoveredBy (Ok tt) steps e c r = Trail (payments_at (acted e c).batches) (acted e c).books (passed_of r.tries) r.engine.state.books
+CoveredBy (Ok tt) (gives date) e c r = r.engine.state.books ≡ e.state.books
 
 abbrev pub Covered : Engine → Call → Result → Type 0
 Covered e c r = CoveredBy (judge e.state c) (kind_of c.asked.action) e c r
@@ -154,8 +151,8 @@ abbrev pub no_ledger : Ledger
 no_ledger = record { opening = replicate 64 0; gone = [] }
 
 abbrev pub is_done : Answer → Bool
-is_done Done = true
-is_done (Refused r) = false
+is_done (Ok tt) = true
+is_done (Err r) = false
 
 -- an opening that is done begins both anew: the balances are those of its book, and zero past its banks. Settled are the batches whose tries passed
 abbrev pub ledger_in : Kind → (book : List ℕ) → Acted → Result → Ledger → Ledger

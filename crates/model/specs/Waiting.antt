@@ -1,10 +1,9 @@
 -- The order of the batches that wait, and their minutes.
-use Rattle.std.specs.Prelude.{ℕ, zero, suc, ◌+◌, ◌/◌, ◌≡◌, Bool, true, false, ◌&&◌, not, List, [], ◌++◌, eqb}
+use Rattle.std.specs.Prelude.{ℕ, zero, suc, ◌+◌, ◌/◌, ◌≡◌, Bool, true, false, ◌&&◌, not, List, [], ◌++◌, eqb, Ok, Err}
 use Rattle.clock.specs.Clock.{minutes_of_day, has_begun}
 use Rattle.book_read.specs.Book.{each}
 use Rattle.queue.specs.Promise.{All}
-use Rattle.model.specs.declared.Answer.{Answer}
-use Rattle.model.specs.declared.Answer.TheVariants.{Done, Refused}
+use Rattle.model.specs.Answers.{Answer}
 use Rattle.model.specs.Kinds.{Kind, opens, steps, gives, kind_of}
 use Rattle.model.specs.State.{Batches, is_free, on_live, place_at}
 use Rattle.model.specs.Joining.{place_minute, keep, time, is_due}
@@ -59,10 +58,10 @@ module _ (e : Engine) (c : Call) where
     pub pending : r.engine.state.batches.pending ≡ e.state.batches.pending
 
   abbrev pub OrderedBy : Answer → Kind → Result → Type 0
-  OrderedBy (Refused q) k r = Resting r
-  OrderedBy Done opens r = Resting r
-  OrderedBy Done steps r = OrderKept r
-  OrderedBy Done (gives date) r = Resting r
+  OrderedBy (Err q) k r = Resting r
+  OrderedBy (Ok tt) opens r = Resting r
+  OrderedBy (Ok tt) steps r = OrderKept r
+  OrderedBy (Ok tt) (gives date) r = Resting r
 
 abbrev pub Ordered : Engine → Call → Result → Type 0
 Ordered e c r = OrderedBy e c (judge e.state c) (kind_of c.asked.action) r

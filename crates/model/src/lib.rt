@@ -34,21 +34,12 @@ pub enum Action {
     ClosingBook(u64),
 }
 
-// Whether a call was carried out, or why not.
-#[derive(Clone, Copy)]
-pub enum Answer {
-    Done,
-    Refused(Refusal),
-}
-
-impl Answer {
-    // 0, or document 01's number of the refusal.
-    pub fn number(self) -> u64
-        ensures { result ≡ answer_number self }
-    {
-        match self {
-            Answer::Done => 0,
-            Answer::Refused(r) => r.number(),
-        }
+// 0 for a call that is carried out, or document 01's number of the refusal.
+pub fn number_of(answer: Result<(), Refusal>) -> u64
+    ensures { result ≡ answer_number answer }
+{
+    match answer {
+        Ok(()) => 0,
+        Err(r) => r.number(),
     }
 }

@@ -9,9 +9,9 @@ use lib.Dec.{eqb}
 use lib.ListN.{length, get_or, set, take, drop, replicate, length-set, length-replicate, get_or-eq_default}
 use lib.Seq.{take-suc-set, drop-set-lt, drop-cons, take-length, drop-length, get_or-set_same, get_or-set_other}
 use borrow.Author.Tests.{eq-eqb, ne_eqb, eqb-true, eqb-false}
-use Rattle.settle.specs.Payments.{Payment, credit, debit, payment_at, payments_from, row_payments, bank_of}
+use Rattle.settle.specs.Payments.{Payment, credit, debit, payment_at, row_payments, bank_of}
 use Rattle.settle.specs.Rules.{Ranged}
-use Rattle.settle.proofs.Laws.{is_credit, is_debit, next}
+use Rattle.settle.proofs.Laws.{is_credit, is_debit}
 use Rattle.queue.specs.Memory.{credited_by, credited, marked_by, marked, is_marked, wake}
 
 -- a case split that keeps its equation
@@ -74,14 +74,14 @@ module _ (t : List ℕ) (at : ℕ) (marks : List Bool) where
   unfolding marked_by payment_at
   paid_skips e = rw (is_debit (get_or t at 0) (get_or t (at + 1) 0) (get_or t (at + 2) 0) e)
 
-  module _ (n : ℕ) (x : List Bool) (inv : x ≡ marked (payments_from t at n) marks) where
-    pub marks_turn : 0 < n → (marks' : List Bool) → marks' ≡ marked_by (payment_at t at) marks → x ≡ marked (payments_from t (at + 3) (n - 1)) marks'
+  module _ (rest behind : List Payment) (x : List Bool) (inv : x ≡ marked rest marks) where
+    pub marks_turn : rest ≡ payment_at t at ∷ behind → (marks' : List Bool) → marks' ≡ marked_by (payment_at t at) marks → x ≡ marked behind marks'
     unfolding marked
-    marks_turn more marks' h = inv ∙ ap (λ (ps : List Payment). marked ps marks) (next t at n more) ∙ ap (marked (payments_from t (at + 3) (n - 1))) (sym h)
+    marks_turn cut marks' h = inv ∙ ap (λ (ps : List Payment). marked ps marks) cut ∙ ap (marked behind) (sym h)
 
-    pub marks_done : n ≤ 0 → marks ≡ x
-    unfolding marked payments_from
-    marks_done h = let e : n ≡ 0 = omega arith in sym (inv ∙ ap (λ (j : ℕ). marked (payments_from t at j) marks) e)
+pub marks_done : (rest : List Payment) (marks x : List Bool) → x ≡ marked rest marks → rest ≡ [] → marks ≡ x
+unfolding marked
+marks_done rest marks x inv e = sym (inv ∙ ap (λ (ps : List Payment). marked ps marks) e)
 
 marks_long : (p : Payment) (marks : List Bool) → length (marked_by p marks) ≡ length marks
 unfolding marked_by

@@ -23,10 +23,8 @@ fn woken(held: u64, bank: u64) -> u64
 pub fn wake_bank(memory: &mut [u64], bank: u64)
     ensures { memory.new ≡ map (wake (eqb bank)) memory.old }
 {
-    let mut i = 0;
-    while i < memory.len() {
-        memory[i] = woken(memory[i], bank);
-        i += 1;
+    for held in memory.iter_mut() {
+        *held = woken(*held, bank);
     }
 }
 
@@ -55,12 +53,10 @@ fn mark_credited(marks: &mut [bool], batches: &[u64], place: usize)
     requires { Stands batches.now place × Ranged (row_payments batches.now place) × (length marks.old ≡ 64) }
     ensures { marks.new ≡ marked (row_payments batches.now place) marks.old }
 {
-    let mut at = place * settle::Batch::WIDTH + settle::Batch::PAYMENT;
-    let mut left = batches[place * settle::Batch::WIDTH + settle::Batch::PAYMENTS_THERE];
-    while 0 < left {
-        mark_paid(marks, batches, at);
-        at += settle::Batch::PAYMENT_WIDTH;
-        left -= 1;
+    let first = place * settle::Batch::WIDTH + settle::Batch::PAYMENT;
+    let n = batches[place * settle::Batch::WIDTH + settle::Batch::PAYMENTS_THERE] as usize;
+    for i in 0..n {
+        mark_paid(marks, batches, first + i * settle::Batch::PAYMENT_WIDTH);
     }
 }
 
@@ -72,10 +68,8 @@ fn woken_by(held: u64, marks: &[bool]) -> u64
         return 0;
     }
     let bank = (held - 1) as usize;
-    if bank < marks.len() {
-        if marks[bank] {
-            return 0;
-        }
+    if bank < marks.len() && marks[bank] {
+        return 0;
     }
     held
 }
@@ -84,10 +78,8 @@ fn woken_by(held: u64, marks: &[bool]) -> u64
 fn wake_marked(memory: &mut [u64], marks: &[bool])
     ensures { memory.new ≡ map (wake (is_marked marks.now)) memory.old }
 {
-    let mut i = 0;
-    while i < memory.len() {
-        memory[i] = woken_by(memory[i], marks);
-        i += 1;
+    for held in memory.iter_mut() {
+        *held = woken_by(*held, marks);
     }
 }
 
@@ -114,7 +106,7 @@ fn omits(quick: bool, memory: &[u64], place: usize) -> bool
     requires { place < length memory.now }
     ensures { result ≡ omits quick memory.now place }
 {
-    if quick { 0 < memory[place] } else { false }
+    quick && 0 < memory[place]
 }
 
 // The turn of one batch: it is omitted, or tried and, where it passes, settled. A failed try of the quick test is remembered.
@@ -214,16 +206,14 @@ fn walk(
     requires memory_len { (length memory.old ≡ 32) × (waiting ≤ length queue.old) × (tried + waiting ≤ length tries.old) }
     ensures { Walked (walk quick (row_payments batches.now) (accounts balances.old sublimits.now) memory.old (take waiting queue.old)) sublimits.now queue.old tries.old tried balances.new memory.new queue.new result.waiting tries.new result.tried }
 {
-    let mut i = 0;
     let mut kept = 0;
     let mut at = tried;
-    while i < waiting {
+    for i in 0..waiting {
         let place = queue[i];
         let step = attempt(quick, balances, sublimits, batches, memory, place as usize);
         let reached = note(step, place, queue, kept, tries, at);
         kept = reached.waiting;
         at = reached.tried;
-        i += 1;
     }
     Reached {
         waiting: kept,
@@ -250,6 +240,7 @@ pub fn run(
 {
     let mut left = waiting;
     let mut at = tried;
+    // Kept: nothing is counted here. It ends with a walk that settles nothing.
     loop {
         let reached = walk(
             quick, balances, sublimits, batches, memory, queue, left, tries, at,

@@ -1,10 +1,10 @@
 -- Laws of what holds a batch, in the terms of the code.
+use Rattle.std.specs.Prelude.{Result, Ok, Err}
 use mathlib.Core.Path.{◌≡◌, refl, sym, ap, ◌∙◌}
 use mathlib.Core.Bool.{Bool, true, false, not}
 use mathlib.Core.Logic.{inl, inr}
-use mathlib.Core.List.{List, ◌∷◌}
-use Prim.Native.Nat.{ℕ, zero, suc, ◌+◌, ◌-◌, ◌*◌, ◌≤◌, ◌<◌}
-use native.Mathlib.Omega.{arith}
+use mathlib.Core.List.{List, [], ◌∷◌}
+use Prim.Native.Nat.{ℕ, zero, suc, ◌+◌, ◌*◌, ◌≤◌, ◌<◌}
 use lib.ListN.{length, get_or, get_or-eq_default}
 use types.Run.{OneOf}
 use borrow.Author.Tests.{lt-ltb, le-ltb, le-leb, lt-leb, eq-eqb, ne_eqb, not-true, not-false}
@@ -16,9 +16,7 @@ use Rattle.settle.specs.Payments.{Payment, credit, debit, payment, payment_at, p
 use Rattle.settle.specs.Settlement.{Accounts, accounts, is_covered, uncovered}
 use Rattle.settle.specs.Types.{batch_or}
 use Rattle.settle.specs.declared.Batch.{Batch}
-use Rattle.settle.specs.declared.BatchOr.{BatchOr}
-use Rattle.settle.specs.declared.BatchOr.TheVariants.{Stands, Nowhere}
-use Rattle.settle.proofs.Laws.{batch_stands, batch_nowhere, next, uncovered_credit, uncovered_debit}
+use Rattle.settle.proofs.Laws.{batch_stands, batch_nowhere, uncovered_credit, uncovered_debit}
 use Rattle.queue_explain.specs.declared.Held.{Held}
 use Rattle.queue_explain.specs.declared.Held.TheVariants.{Short, Deferred, Free, Unqueued}
 use Rattle.queue_explain.specs.Holding.{short_of, need_at, debit_of, holds, held_by, held_at}
@@ -75,26 +73,26 @@ stays a k c zero ps e = cc
 stays a k c (suc l) ps e = rw (not-true (is_covered a (record { letters = suc l; bank = k; cents = c })) e)
 
 -- a turn: x is what holds all payments, and those that are left
-module _ (a : Accounts) (t : List ℕ) (at n : ℕ) (more : 0 < n) (x : Held) (inv : x ≡ held_by a (needs_of (payments_from t at n))) (r : Bool) (told : r ≡ uncovered a (payment_at t at)) where
+module _ (a : Accounts) (t : List ℕ) (at : ℕ) (rest behind : List Payment) (cut : rest ≡ payment_at t at ∷ behind) (x : Held) (inv : x ≡ held_by a (needs_of rest)) (r : Bool) (told : r ≡ uncovered a (payment_at t at)) where
   pub held_here : {h : Held} → r ≡ true → h ≡ holds a (need_at t at) → h ≡ x
   unfolding payment_at
-  held_here e f = f ∙ sym (inv ∙ ap (λ (ps : List Payment). held_by a (needs_of ps)) (next t at n more)
-      ∙ stays a (get_or t at 0) (get_or t (at + 1) 0) (get_or t (at + 2) 0) (payments_from t (at + 3) (n - 1)) (sym told ∙ e))
+  held_here e f = f ∙ sym (inv ∙ ap (λ (ps : List Payment). held_by a (needs_of ps)) cut
+      ∙ stays a (get_or t at 0) (get_or t (at + 1) 0) (get_or t (at + 2) 0) behind (sym told ∙ e))
 
-  pub held_on : r ≡ false → x ≡ held_by a (needs_of (payments_from t (at + 3) (n - 1)))
-  held_on e = inv ∙ ap (λ (ps : List Payment). held_by a (needs_of ps)) (next t at n more) ∙ goes a (payment_at t at) (payments_from t (at + 3) (n - 1)) (sym told ∙ e)
+  pub held_on : r ≡ false → x ≡ held_by a (needs_of behind)
+  held_on e = inv ∙ ap (λ (ps : List Payment). held_by a (needs_of ps)) cut ∙ goes a (payment_at t at) behind (sym told ∙ e)
 
-pub held_free : (a : Accounts) (t : List ℕ) (at n : ℕ) (x : Held) → n ≤ 0 → x ≡ held_by a (needs_of (payments_from t at n)) → Free ≡ x
-unfolding held_by needs_of payments_from
-held_free a t at n x h inv = let e : n ≡ 0 = omega arith in rw (inv, e)
+pub held_free : (a : Accounts) (rest : List Payment) (x : Held) → rest ≡ [] → x ≡ held_by a (needs_of rest) → Free ≡ x
+unfolding held_by needs_of
+held_free a rest x e inv = rw (inv, e)
 
 -- the batch at a place
-module _ (a : Accounts) (t : List ℕ) (place : ℕ) {b : BatchOr} (at : b ≡ batch_or place) where
-  pub no_place : {r : Refusal} → b ≡ Nowhere r → Unqueued ≡ held_at a t place
+module _ (a : Accounts) (t : List ℕ) (place : ℕ) {b : Result Batch Refusal} (at : b ≡ batch_or place) where
+  pub no_place : {r : Refusal} → b ≡ Err r → Unqueued ≡ held_at a t place
   unfolding held_at
   no_place n = simp (le-ltb _ _ (batch_nowhere place at n))
 
-  module _ {k : Batch} (stands : b ≡ Stands k) {w : ℕ} (p : w ≡ get_or t k.start 0) where
+  module _ {k : Batch} (stands : b ≡ Ok k) {w : ℕ} (p : w ≡ get_or t k.start 0) where
     phase : w ≡ get_or t (place * 349) 0
     phase = p ∙ ap (λ (i : ℕ). get_or t i 0) (batch_stands place at stands).0
 

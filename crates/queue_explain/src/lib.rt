@@ -6,7 +6,7 @@ ghost use Rattle.settle.specs.Payments.{payment_at, payments_from, table_length,
 ghost use Rattle.settle.specs.Settlement.{accounts, uncovered};
 ghost use Rattle.queue_explain.specs.Holding.{short_of, need_at, holds, held_by, held_at};
 
-use settle::{Batch, BatchOr};
+use settle::Batch;
 
 // A debit: the place of its bank, its ESA letter, its cents.
 #[derive(Clone, Copy)]
@@ -115,14 +115,12 @@ fn held_by(balances: &[u64], sublimits: &[u64], batches: &[u64], first: usize, c
     requires { first + 3 * count ≤ table_length }
     ensures { result ≡ held_by (accounts balances.now sublimits.now) (needs_of (payments_from batches.now first count)) }
 {
-    let mut at = first;
-    let mut left = count;
-    while 0 < left {
+    let n = count as usize;
+    for i in 0..n {
+        let at = first + i * Batch::PAYMENT_WIDTH;
         if uncovered_at(balances, sublimits, batches, at) {
             return holds_at(balances, sublimits, batches, at);
         }
-        at += Batch::PAYMENT_WIDTH;
-        left -= 1;
     }
     Held::Free
 }
@@ -131,7 +129,7 @@ fn held_by(balances: &[u64], sublimits: &[u64], batches: &[u64], first: usize, c
 pub fn held_at(balances: &[u64], sublimits: &[u64], batches: &[u64], place: usize) -> Held
     ensures { result ≡ held_at (accounts balances.now sublimits.now) batches.now place }
 {
-    let BatchOr::Stands(batch) = Batch::at(place) else {
+    let Ok(batch) = Batch::at(place) else {
         return Held::Unqueued;
     };
     let start = batch.start;

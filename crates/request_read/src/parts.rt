@@ -9,93 +9,71 @@ use crate::whole::{Address, Head, Reading};
 pub fn reference_text(s: &[u8], h: Head) -> &[u8]
     ensures { result.now ≡ text_of s.now h.reference.part }
 {
-    let named = h.reference;
-    let part = named.part;
-    text_values::text_of(s, part)
+    text_values::text_of(s, h.reference.part)
 }
 
 pub fn sub_type_text(s: &[u8], h: Head) -> &[u8]
     ensures { result.now ≡ text_of s.now h.subtype.part }
 {
-    let item = h.subtype;
-    let part = item.part;
-    text_values::text_of(s, part)
+    text_values::text_of(s, h.subtype.part)
 }
 
 pub fn stream_text(s: &[u8], a: Address) -> &[u8]
     ensures { result.now ≡ text_of s.now a.stream.part }
 {
-    let item = a.stream;
-    let part = item.part;
-    text_values::text_of(s, part)
+    text_values::text_of(s, a.stream.part)
 }
 
 pub fn bin_text(s: &[u8], a: Address) -> &[u8]
     ensures { result.now ≡ text_of s.now a.bin.part }
 {
-    let named = a.bin;
-    let part = named.part;
-    text_values::text_of(s, part)
+    text_values::text_of(s, a.bin.part)
 }
 
 pub fn numbers_text(s: &[u8], t: Terms) -> &[u8]
     ensures { result.now ≡ text_of s.now t.numbers }
 {
-    let part = t.numbers;
-    text_values::text_of(s, part)
+    text_values::text_of(s, t.numbers)
 }
 
 pub fn date_text(s: &[u8], t: Terms) -> &[u8]
     ensures { result.now ≡ text_of s.now t.date.part }
 {
-    let item = t.date;
-    let part = item.part;
-    text_values::text_of(s, part)
+    text_values::text_of(s, t.date.part)
 }
 
 pub fn activation_text(s: &[u8], t: Terms) -> &[u8]
     ensures { result.now ≡ text_of s.now t.activated }
 {
-    let part = t.activated;
-    text_values::text_of(s, part)
+    text_values::text_of(s, t.activated)
 }
 
 pub fn side_text(s: &[u8], p: Payment) -> &[u8]
     ensures { result.now ≡ text_of s.now p.side.part }
 {
-    let item = p.side;
-    let part = item.part;
-    text_values::text_of(s, part)
+    text_values::text_of(s, p.side.part)
 }
 
 pub fn amount_text(s: &[u8], p: Payment) -> &[u8]
     ensures { result.now ≡ text_of s.now p.amount.part }
 {
-    let item = p.amount;
-    let part = item.part;
-    text_values::text_of(s, part)
+    text_values::text_of(s, p.amount.part)
 }
 
 pub fn letters_text(s: &[u8], p: Payment) -> &[u8]
     ensures { result.now ≡ text_of s.now p.letters.part }
 {
-    let item = p.letters;
-    let part = item.part;
-    text_values::text_of(s, part)
+    text_values::text_of(s, p.letters.part)
 }
 
 pub fn bank_text(s: &[u8], p: Payment) -> &[u8]
     ensures { result.now ≡ text_of s.now p.bank.part }
 {
-    let item = p.bank;
-    let part = item.part;
-    text_values::text_of(s, part)
+    text_values::text_of(s, p.bank.part)
 }
 
 pub fn count_text(s: &[u8], r: Reading) -> &[u8]
     ensures { result.now ≡ text_of s.now r.count.part }
 {
-    let item = r.count;
-    let part = item.part;
-    text_values::text_of(s, part)
+    text_values::text_of(s, r.count.part)
 }

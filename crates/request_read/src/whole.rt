@@ -1,13 +1,13 @@
 // A whole request: 131, which settles, and 133, which recalls.
 ghost use Rattle.std.specs.Prelude.{◌≡◌};
 ghost use Rattle.text_fields.specs.Fields.{nothing};
-ghost use Rattle.request_read.specs.whole.Request.{no_name, named_at, nowhere, to_stream, bare, refusal, address_at, cut_by, settlement_at, recall_at, broken_off, addressed_at, beginning_at, request_at};
+ghost use Rattle.request_read.specs.whole.Request.{no_name, named_at, nowhere, to_stream, bare, refusal, address_at, settlement_at, recall_at, broken_off, addressed_at, beginning_at, request_at};
 
-use crate::payments::{Ending, Payment};
-use crate::terms::{Stated, Terms};
+use crate::payments::Payment;
+use crate::terms::Terms;
 use chars::Refusal;
 use codes::Code;
-use text_fields::{Break, Field, Item};
+use text_fields::{Break, Item};
 use text_scan::Cursor;
 use text_values::Part;
 
@@ -46,13 +46,6 @@ pub struct Address {
     pub bin: Named,
 }
 
-// The address and the cursor past it, or the break and what was read before it.
-#[derive(Clone, Copy)]
-pub enum Addressed {
-    To(Address, Cursor),
-    Lost(Break, Address),
-}
-
 #[derive(Clone, Copy)]
 pub struct Head {
     pub reference: Named,
@@ -81,6 +74,7 @@ pub struct Reading {
 }
 
 // The part and its code.
+#[tactic(auto, unfolding(crate::specs::whole::Request::named_at))]
 fn name_at(s: &[u8], part: Part) -> Named
     ensures { result ≡ named_at s.now part }
 {
@@ -142,68 +136,59 @@ impl Reading {
     }
 }
 
-// 77E, 22A and 119.
-fn read_address(s: &[u8], c: Cursor) -> Addressed
+// 77E, 22A and 119; or the break, and the address so far.
+#[tactic(auto, unfolding(crate::specs::whole::Request::address_at))]
+fn read_address(s: &[u8], c: Cursor) -> Result<(Address, Cursor), (Break, Address)>
     ensures { result ≡ address_at s.now c.at }
 {
-    let f = text_fields::read_empty(s, c);
-    let Field::Good(_, past) = f else {
-        return Addressed::Lost(f.why(), Address::nowhere());
+    let c = match text_fields::read_empty(s, c) {
+        Ok((_, c)) => c,
+        Err(b) => return Err((b, Address::nowhere())),
     };
-    let g = text_fields::read_stream(s, past);
-    let Field::Good(stream, then) = g else {
-        return Addressed::Lost(g.why(), Address::nowhere());
+    let (stream, c) = match text_fields::read_stream(s, c) {
+        Ok(read) => read,
+        Err(b) => return Err((b, Address::nowhere())),
     };
-    let part = stream.part;
-    let h = text_fields::read_bin(s, then, part);
-    let Field::Good(bin, next) = h else {
-        return Addressed::Lost(h.why(), Address::to_stream(stream));
-    };
-    let p = bin.part;
-    Addressed::To(
-        Address {
-            reached: Reached::Bin,
-            stream,
-            bin: name_at(s, p),
-        },
-        next,
-    )
-}
-
-// The break that ends the payments; one of the text's beginning where they end well.
-pub fn cut(e: Ending) -> Break
-    ensures { result ≡ cut_by e }
-{
-    match e {
-        Ending::Done(_) => Break::absent(Cursor::START),
-        Ending::Cut(b) => b,
+    match text_fields::read_bin(s, c, stream.part) {
+        Err(b) => Err((b, Address::to_stream(stream))),
+        Ok((bin, c)) => {
+            let bin = name_at(s, bin.part);
+            let reached = Reached::Bin;
+            let address = Address {
+                reached,
+                stream,
+                bin,
+            };
+            Ok((address, c))
+        }
     }
 }
 
 // After 119 of a 131: the terms, the payments, their number, and nothing more.
+#[tactic(auto, unfolding(crate::specs::whole::Request::settlement_at))]
 fn read_settlement(s: &[u8], c: Cursor, head: Head) -> Reading
     ensures { result ≡ settlement_at s.now c.at head }
 {
     let subtype = head.subtype;
     let address = head.address;
-    let t = crate::terms::read_terms(s, c);
-    let Stated::Whole(terms, past) = t else {
-        return Reading::refused(subtype, t.why(), address);
+    let (terms, c) = match crate::terms::read_terms(s, c) {
+        Ok(read) => read,
+        Err(b) => return Reading::refused(subtype, b, address),
     };
-    let p = crate::payments::read_payments(s, past);
-    let ending = p.ending;
-    let Ending::Done(then) = ending else {
-        return Reading::refused(subtype, cut(ending), address);
+    let read = crate::payments::read_payments(s, c);
+    let n = read.n;
+    let c = match read.ending {
+        Ok(c) => c,
+        Err(b) => return Reading::refused(subtype, b, address),
     };
-    let n = p.n;
-    let f = text_fields::read_count(s, then, n as u64);
-    let Field::Good(count, next) = f else {
-        return Reading::refused(subtype, f.why(), address);
+    let (count, c) = match text_fields::read_count(s, c, n as u64) {
+        Ok(read) => read,
+        Err(b) => return Reading::refused(subtype, b, address),
     };
-    if next.at < s.len() {
-        return Reading::refused(subtype, Break::absent(next.at), address);
+    if c.at < s.len() {
+        return Reading::refused(subtype, Break::absent(c.at), address);
     }
-    let payments = p.items;
+    let payments = read.items;
     Reading {
         outcome: Outcome::Settlement,
         head,
@@ -215,6 +200,7 @@ fn read_settlement(s: &[u8], c: Cursor, head: Head) -> Reading
 }
 
 // After 119 of a 133: nothing more.
+#[tactic(auto, unfolding(crate::specs::whole::Request::recall_at))]
 fn read_recall(s: &[u8], c: Cursor, head: Head) -> Reading
     ensures { result ≡ recall_at s.now c.at head }
 {
@@ -260,12 +246,13 @@ impl Begun {
 }
 
 // After 12, of either sub type.
+#[tactic(auto, unfolding(crate::specs::whole::Request::addressed_at))]
 fn read_addressed(s: &[u8], c: Cursor, reference: Named, subtype: Item) -> Begun
     ensures { result ≡ addressed_at s.now c.at reference subtype }
 {
     match read_address(s, c) {
-        Addressed::Lost(b, address) => Begun::broken(subtype, b, address),
-        Addressed::To(address, next) => {
+        Err((b, address)) => Begun::broken(subtype, b, address),
+        Ok((address, next)) => {
             let head = Head {
                 reference,
                 subtype,
@@ -289,21 +276,20 @@ fn read_addressed(s: &[u8], c: Cursor, reference: Named, subtype: Item) -> Begun
 }
 
 // 20, 12, 77E, 22A and 119.
+#[tactic(auto, unfolding(crate::specs::whole::Request::beginning_at))]
 pub fn read_beginning(s: &[u8]) -> Begun
     ensures { result ≡ beginning_at s.now }
 {
-    let f = text_fields::read_reference(s, Cursor::new());
-    let Field::Good(reference, past) = f else {
-        return Begun::unread(f.why());
+    let (reference, past) = match text_fields::read_reference(s, Cursor::new()) {
+        Ok(read) => read,
+        Err(b) => return Begun::unread(b),
     };
-    let g = text_fields::read_sub_type(s, past);
-    let Field::Good(subtype, next) = g else {
-        return Begun::unread(g.why());
+    let (subtype, next) = match text_fields::read_sub_type(s, past) {
+        Ok(read) => read,
+        Err(b) => return Begun::unread(b),
     };
-    let part = reference.part;
-    let n = subtype.number;
-    match n {
-        131 | 133 => read_addressed(s, next, name_at(s, part), subtype),
+    match subtype.number {
+        131 | 133 => read_addressed(s, next, name_at(s, reference.part), subtype),
         _ => Begun::unread(Break::wrong(past.at, Refusal::OtherSubType)),
     }
 }

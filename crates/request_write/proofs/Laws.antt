@@ -1,12 +1,15 @@
 -- What the functions that write leave behind.
-use Prim.Native.Nat.{ℕ, zero, suc, ◌+◌, ◌-◌, ◌*◌, ◌/◌, ◌%◌, ◌≤◌, ◌<◌}
+use Rattle.chars.specs.declared.Refusal.{Refusal}
+use Rattle.std.specs.Prelude.{Result, Err}
+use Prim.Native.Nat.{ℕ, zero, suc, ◌+◌, ◌*◌, ◌/◌, ◌%◌, ◌≤◌, ◌<◌, min}
 use mathlib.Core.Path.{◌≡◌, refl, ap, sym, ◌∙◌}
-use mathlib.Core.Bool.{Bool, true, false, not}
+use mathlib.Core.Bool.{Bool, true, false, cond}
 use mathlib.Core.List.{List, [], ◌++◌}
+use mathlib.Core.Logic.{◌⊎◌, inl, inr}
 use native.Mathlib.Nat.{add-zero, zero-add}
 use native.Mathlib.Numerals.{add-one}
 use native.Mathlib.Omega.{arith}
-use borrow.Author.Tests.{le-leb, lt-leb, lt-ltb, le-ltb, ltb-true, ltb-false, eq-eqb, ne_eqb, not-true, not-false}
+use borrow.Author.Tests.{lt-ltb, le-ltb, ltb-true, ltb-false, eq-eqb, ne_eqb}
 use lib.Dec.{eqb, ltb}
 use lib.ListN.{length, get_or, drop, take, replicate, length-append, drop_of_length-le}
 use lib.Seq.{sets, sets-eq, take_at, drop-cons}
@@ -27,10 +30,7 @@ use Rattle.request_write.specs.declared.Side.{Side}
 use Rattle.request_write.specs.declared.Side.TheVariants.{Credit, Debit}
 use Rattle.request_write.specs.declared.Order.{Order}
 use Rattle.request_read.specs.declared.terms.Activation.{Activation}
-use Rattle.chars.specs.declared.Refusal.TheVariants.{ShortBuffer}
 use Rattle.response_write.specs.Texts.{written, after}
-use Rattle.response_write.specs.declared.Written.{Written}
-use Rattle.response_write.specs.declared.Written.TheVariants.{End, Unfit}
 use Rattle.text_fields.specs.declared.Break.{Break}
 use Rattle.request_read.specs.whole.Request.{request_at}
 use Rattle.request_read.specs.declared.whole.Reading.{Reading}
@@ -43,10 +43,9 @@ unfolding width_on
 width_small zero m h = refl
 width_small (suc f) m h = simp (lt-ltb m 10 h)
 
-pub width_big : (f m : ℕ) → 0 < f → 10 ≤ m → width_on f m ≡ suc (width_on (f - 1) (m / 10))
+pub width_big : (f m : ℕ) (less : ℕ) → f ≡ suc less → 10 ≤ m → width_on f m ≡ suc (width_on less (m / 10))
 unfolding width_on
-width_big zero m z h = absurd (omega arith)
-width_big (suc f) m z h = let e : suc f - 1 ≡ f = omega arith in simp (le-ltb m 10 h, e)
+width_big f m less e h = rw e (simp (le-ltb m 10 h))
 
 pub width_none : (f m : ℕ) → f ≡ 0 → width_on f m ≡ 1
 unfolding width_on
@@ -57,9 +56,8 @@ same_test : (a b : ℕ) → (t : Bool) → ltb (a / 10) b ≡ t → ltb a (10 * 
 same_test a b true e = lt-ltb a (10 * b) (omega (arith, ltb-true (a / 10) b e))
 same_test a b false e = le-ltb a (10 * b) (omega (arith, ltb-false (a / 10) b e))
 
-pub fits_down : (v i : ℕ) → 0 < i → ltb v (ten i) ≡ ltb (v / 10) (ten (i - 1))
-fits_down v zero h = absurd (omega arith)
-fits_down v (suc i) h = let z : suc i - 1 ≡ i = omega arith in rw z (same_test v (ten i) (ltb (v / 10) (ten i)) refl)
+pub fits_down : (v : ℕ) {i fewer : ℕ} → i ≡ suc fewer → ltb v (ten i) ≡ ltb (v / 10) (ten fewer)
+fits_down v {fewer = fewer} e = rw e (same_test v (ten fewer) (ltb (v / 10) (ten fewer)) refl)
 
 pub fits_none : (v i : ℕ) → i ≡ 0 → ltb v (ten i) ≡ eqb v 0
 fits_none v i e = rw e (go v)
@@ -82,13 +80,13 @@ pub blank_end : (l : List ℕ) (i : ℕ) → length l ≤ i → true ≡ blank (
 unfolding blank
 blank_end l i h = rw (drop_of_length-le l h)
 
-pub proper_on : (l : List ℕ) (i : ℕ) {b : ℕ} {t : Bool} → i < length l → b ≡ get_or l i 0 → t ≡ is_code b → not t ≡ false → proper (drop i l) ≡ proper (drop (i + 1) l)
+pub proper_on : (l : List ℕ) (i : ℕ) {b : ℕ} {t : Bool} → i < length l → b ≡ get_or l i 0 → t ≡ is_code b → t ≡ true → proper (drop i l) ≡ proper (drop (i + 1) l)
 unfolding proper
-proper_on l i {t = t} h p q r = rw (drop-cons l i 0 h, ← p, ← q, not-false t r, add-one)
+proper_on l i {t = t} h p q r = rw (drop-cons l i 0 h, ← p, ← q, r, add-one)
 
-pub proper_stop : (l : List ℕ) (i : ℕ) {b : ℕ} {t : Bool} → i < length l → b ≡ get_or l i 0 → t ≡ is_code b → not t ≡ true → blank (drop i l) ≡ proper (drop i l)
+pub proper_stop : (l : List ℕ) (i : ℕ) {b : ℕ} {t : Bool} → i < length l → b ≡ get_or l i 0 → t ≡ is_code b → t ≡ false → blank (drop i l) ≡ proper (drop i l)
 unfolding proper
-proper_stop l i {t = t} h p q r = rw (drop-cons l i 0 h, ← p, ← q, not-true t r)
+proper_stop l i {t = t} h p q r = rw (drop-cons l i 0 h, ← p, ← q, r)
 
 pub proper_end : (l : List ℕ) (i : ℕ) → length l ≤ i → true ≡ proper (drop i l)
 unfolding proper
@@ -136,22 +134,22 @@ module _ (out : List ℕ) (at v : ℕ) where
   unfolding amount_text
   amount_out h = rw (le-ltb v 1000000000000 h) (nothing_put out at)
 
-  pub number_put : (k : ℕ) {t : Bool} {o : List ℕ} → t ≡ ltb v (ten k) → not t ≡ false → o ≡ sets out at (digits_of k v) → Puts out at (fixed k v) (at + k) o
+  pub number_put : (k : ℕ) {t : Bool} {o : List ℕ} → t ≡ ltb v (ten k) → t ≡ true → o ≡ sets out at (digits_of k v) → Puts out at (fixed k v) (at + k) o
   unfolding fixed
-  number_put k e h p = let z : ltb v (ten k) ≡ true = sym e ∙ not-false _ h in record { past = simp (z, digits_length); there = simp z p }
+  number_put k e h p = let z : ltb v (ten k) ≡ true = sym e ∙ h in record { past = simp (z, digits_length); there = simp z p }
 
-  pub number_out : (k : ℕ) {t : Bool} → t ≡ ltb v (ten k) → not t ≡ true → Puts out at (fixed k v) at out
+  pub number_out : (k : ℕ) {t : Bool} → t ≡ ltb v (ten k) → t ≡ false → Puts out at (fixed k v) at out
   unfolding fixed
-  number_out k e h = let z : ltb v (ten k) ≡ false = sym e ∙ not-true _ h in rw z (nothing_put out at)
+  number_out k e h = let z : ltb v (ten k) ≡ false = sym e ∙ h in rw z (nothing_put out at)
 
 module _ (out : List ℕ) (at : ℕ) (c : Code) {t : Bool} (e : t ≡ proper (spelled c)) where
-  pub name_put : {n : ℕ} {o : List ℕ} → not t ≡ false → o ≡ sets out at (long_text c) → n ≡ length (long_text c) → Puts out at (name_text c) (at + n) o
+  pub name_put : {n : ℕ} {o : List ℕ} → t ≡ true → o ≡ sets out at (long_text c) → n ≡ length (long_text c) → Puts out at (name_text c) (at + n) o
   unfolding name_text
-  name_put h p q = let z : proper (spelled c) ≡ true = sym e ∙ not-false _ h in record { past = simp (z, q); there = simp z p }
+  name_put h p q = let z : proper (spelled c) ≡ true = sym e ∙ h in record { past = simp (z, q); there = simp z p }
 
-  pub name_out : not t ≡ true → Puts out at (name_text c) at out
+  pub name_out : t ≡ false → Puts out at (name_text c) at out
   unfolding name_text
-  name_out h = let z : proper (spelled c) ≡ false = sym e ∙ not-true _ h in rw z (nothing_put out at)
+  name_out h = let z : proper (spelled c) ≡ false = sym e ∙ h in rw z (nothing_put out at)
 
 pub amount_put : (out : List ℕ) (at c : ℕ) {w : ℕ} {o₁ o₂ o₃ o₄ : List ℕ} → c < 1000000000000 → w ≡ width_of (c / 100)
     → o₁ ≡ sets out at (bytes "AUD") → o₂ ≡ sets o₁ (at + 3) (digits_of w (c / 100)) → o₃ ≡ sets o₂ (at + 3 + w) (bytes ",") → o₄ ≡ sets o₃ (at + 3 + w + 1) (digits_of 2 (c % 100))
@@ -204,6 +202,13 @@ module _ {out o₁ o₂ : List ℕ} {at a e : ℕ} (side : Side) (cents bank : �
   unfolding payment_of
   debit_put q f g = rw q (put_then f g)
 
+fewest : (n : ℕ) → cond (ltb n 10) n 10 ≡ min n 10
+fewest n = go (ltb n 10) refl
+  where
+    go : (t : Bool) → ltb n 10 ≡ t → cond t n 10 ≡ min n 10
+    go true e = omega (arith, ltb-true n 10 e)
+    go false e = omega (arith, ltb-false n 10 e)
+
 -- where the loop of payments stands: i of them are written
 pub record Paying (ps : List Payable) (n : ℕ) (first : List ℕ) (at : ℕ) (out : List ℕ) (i a : ℕ) : Type 0 where
   pub inside : i ≤ 10
@@ -227,17 +232,11 @@ module _ {ps : List Payable} {n : ℕ} {first : List ℕ} {at : ℕ} {out : List
     same = rw add-one (put_then g.same f);
   }
 
-  pub paying_stop : i < 10 → n ≤ i → Puts first at (payments_text n ps) a out × (a ≤ at + 920)
-  unfolding payments_text
-  paying_stop k h =
-      let z : i ≡ n = omega (arith, g.few) in
-      (rw (lt-ltb n 10 (omega arith), ← z) g.same, omega (arith, g.small, g.inside))
-
-  pub paying_done : 10 ≤ i → Puts first at (payments_text n ps) a out × (a ≤ at + 920)
+  pub paying_done : min n 10 ≤ i → Puts first at (payments_text n ps) a out × (a ≤ at + 920)
   unfolding payments_text
   paying_done h =
-      let z : i ≡ 10 = omega (arith, g.inside) in
-      (rw (le-ltb n 10 (omega (arith, g.few)), ← z) g.same, omega (arith, g.small, g.inside))
+      let z : i ≡ min n 10 = omega (arith, g.inside, g.few) in
+      (rw (fewest n, ← z) g.same, omega (arith, g.small, g.inside))
 
 module _ (o : Order) where
   pub message_put : {out o₁ o₂ o₃ : List ℕ} {at a b e : ℕ} → Puts out at (terms_text o) a o₁ → Puts o₁ a (payments_text o.n o.payments) b o₂ → Puts o₂ b (line_text (bytes ":203:") (Count o.n)) e o₃
@@ -255,40 +254,23 @@ module _ (o : Order) where
     unfolding order_text head_text
     recall_put q = rw (ne_eqb o.subtype 131 q) (put_then (put_then f g) (nothing_put o₂ b))
 
--- ---- what fits is written whole
-
-module _ (out text : List ℕ) (at : ℕ) where
-  pub too_long : length out < length text → (Unfit ShortBuffer ≡ written out at text) × (out ≡ after out at text)
-  too_long h = let e = lt-leb (at + length text) (length out) (omega arith) in (simp e, simp e)
-
-  pub too_late : length text ≤ length out → length out - length text < at → (Unfit ShortBuffer ≡ written out at text) × (out ≡ after out at text)
-  too_late h k = let e = lt-leb (at + length text) (length out) (omega arith) in (simp e, simp e)
-
-  pub copied : {o : List ℕ} → length text ≤ length out → at ≤ length out - length text → o ≡ sets out at text → (End (at + length text) ≡ written out at text) × (o ≡ after out at text)
-  copied h k p = let e = le-leb (at + length text) (length out) (omega arith) in (simp e, simp e p)
-
 -- the text that was made in the array
 pub made : (text : List ℕ) {n : ℕ} {b : List ℕ} → Puts (replicate 2048 0) 0 text n b → n ≤ 1127 → take n b ≡ text
 made text {n = n} {b = b} f h =
     let z : n ≡ length text = f.past ∙ zero-add _ in
     ap (take n) (f.there ∙ sets-eq text (replicate 2048 0) 0 (omega arith)) ∙ take_at text (drop (0 + length text) (replicate 2048 0)) n (sym z)
 
-pub made_size : (text : List ℕ) {n : ℕ} {b : List ℕ} → Puts (replicate 2048 0) 0 text n b → n ≤ 1127 → n ≡ length (take n b)
-made_size text f h = f.past ∙ zero-add _ ∙ sym (ap length (made text f h))
-
 module _ (out : List ℕ) (at : ℕ) (o : Order) {t : List ℕ} {r : Reading} (m : t ≡ order_text o) (p : r ≡ request_at t) where
-  pub order_refused : {b : Break} → r.outcome ≡ Refused b → Wrote out at o (Unfit b.refusal) out
+  pub order_refused : {b : Break} → r.outcome ≡ Refused b → Wrote out at o (Err b.refusal) out
   order_refused e =
       let z : (request_at (order_text o)).outcome ≡ r.outcome = rw (p, m) in
       record { answer = rw (z, e); result = rw (z, e) }
 
-  module _ {w : Written} {l : List ℕ} (x : (w ≡ written out at t) × (l ≡ after out at t)) where
-    pub settlement_written : r.outcome ≡ Settlement → Wrote out at o w l
-    settlement_written e =
+  module _ {w : Result ℕ Refusal} {l : List ℕ} (x : (w ≡ written out at t) × (l ≡ after out at t)) where
+    pub accepted_written : (r.outcome ≡ Settlement) ⊎ (r.outcome ≡ Recall) → Wrote out at o w l
+    accepted_written (inl e) =
         let z : (request_at (order_text o)).outcome ≡ r.outcome = rw (p, m) in
         record { answer = rw (z, e, ← m) x.0; result = rw (z, e, ← m) x.1 }
-
-    pub recall_written : r.outcome ≡ Recall → Wrote out at o w l
-    recall_written e =
+    accepted_written (inr e) =
         let z : (request_at (order_text o)).outcome ≡ r.outcome = rw (p, m) in
         record { answer = rw (z, e, ← m) x.0; result = rw (z, e, ← m) x.1 }

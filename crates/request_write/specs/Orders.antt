@@ -1,5 +1,6 @@
 -- The text of a request that an administrator writes, and the answer that the reader gives of it.
-use Rattle.std.specs.Prelude.{ℕ, zero, suc, ◌+◌, ◌/◌, ◌%◌, ◌≤◌, ◌≡◌, Bool, true, ◌&&◌, cond, List, [], ◌∷◌, ◌++◌, eqb, ltb, length, get_or}
+use Rattle.chars.specs.declared.Refusal.{Refusal}
+use Rattle.std.specs.Prelude.{ℕ, zero, suc, ◌+◌, ◌/◌, ◌%◌, ◌≤◌, ◌≡◌, Bool, true, ◌&&◌, cond, List, [], ◌∷◌, ◌++◌, eqb, ltb, length, get_or, Result, Err}
 use Rattle.std.proofs.lemmas.List.Edits.{sets}
 use Rattle.chars.specs.Words.{bytes, line}
 use Rattle.chars.specs.Chars.{is_code}
@@ -8,8 +9,6 @@ use Rattle.codes.specs.Codes.{short_end, short_text, long_text, spelled}
 use Rattle.codes.specs.declared.Code.{Code}
 use Rattle.text_put.specs.Digits.{digits_of}
 use Rattle.response_write.specs.Texts.{written, after}
-use Rattle.response_write.specs.declared.Written.{Written}
-use Rattle.response_write.specs.declared.Written.TheVariants.{Unfit}
 use Rattle.text_scan.specs.Scan.{ten}
 use Rattle.request_read.specs.declared.terms.Activation.{Activation}
 use Rattle.request_read.specs.declared.terms.Activation.TheVariants.{AtOnce, Minute}
@@ -148,8 +147,8 @@ pub record Puts (out : List ℕ) (at : ℕ) (text : List ℕ) (end : ℕ) (left 
   pub there : left ≡ sets out at text
 
 -- "The request writer gives the number its reader would give, else 07 if the text does not fit, and then writes nothing."
-abbrev pub answer_of : Outcome → List ℕ → ℕ → List ℕ → Written
-answer_of (Refused b) out at text = Unfit b.refusal
+abbrev pub answer_of : Outcome → List ℕ → ℕ → List ℕ → Result ℕ Refusal
+answer_of (Refused b) out at text = Err b.refusal
 answer_of Settlement out at text = written out at text
 answer_of Recall out at text = written out at text
 
@@ -158,7 +157,7 @@ left_of (Refused b) out at text = out
 left_of Settlement out at text = after out at text
 left_of Recall out at text = after out at text
 
-pub record Wrote (out : List ℕ) (at : ℕ) (o : Order) (w : Written) (left : List ℕ) : Type 0 where
+pub record Wrote (out : List ℕ) (at : ℕ) (o : Order) (w : Result ℕ Refusal) (left : List ℕ) : Type 0 where
   pub answer : w ≡ answer_of (request_at (order_text o)).outcome out at (order_text o)
   pub result : left ≡ left_of (request_at (order_text o)).outcome out at (order_text o)
 

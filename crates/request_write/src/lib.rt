@@ -13,9 +13,8 @@ use chars::Refusal;
 use codes::Code;
 use request_read::terms::Activation;
 use request_read::whole::Outcome;
-use response_write::Written;
 
-// The side of a payment. A debit has four letters, a credit has none.
+// The side of a payment. A debit has four letters, a credit has none. Kept an enum: its variants are the words of the rule.
 #[derive(Clone, Copy)]
 pub enum Side {
     Credit,
@@ -66,30 +65,24 @@ fn width(v: u64) -> usize
     ensures value { result ≡ width_of v }
     ensures small { result ≤ 10 }
 {
-    let mut f: usize = 9;
-    let mut k: usize = 1;
     let mut m = v;
-    while f > 0 {
+    for k in 1..10 {
         if m < 10 {
             return k;
         }
-        m = m / 10;
-        k += 1;
-        f -= 1;
+        m /= 10;
     }
-    k
+    10
 }
 
 // Whether the bytes of a code from one on are zero.
 fn is_blank(c: Code, from: usize) -> bool
     ensures { result ≡ blank (drop from (spelled c)) }
 {
-    let mut i = from;
-    while i < Code::LONGEST {
+    for i in from..Code::LONGEST {
         if c.byte(i) != 0 {
             return false;
         }
-        i += 1;
     }
     true
 }
@@ -98,12 +91,10 @@ fn is_blank(c: Code, from: usize) -> bool
 fn is_proper(c: Code) -> bool
     ensures { result ≡ proper (spelled c) }
 {
-    let mut i = 0;
-    while i < Code::LONGEST {
+    for i in 0..Code::LONGEST {
         if !chars::is_code(c.byte(i)) {
             return is_blank(c, i);
         }
-        i += 1;
     }
     true
 }
@@ -134,14 +125,13 @@ fn put_four(out: &mut [u8], at: usize, v: u64) -> usize
 }
 
 // Whether a number has no more than k digits.
+#[tactic(auto, using(crate::proofs::Laws::fits_down, crate::proofs::Laws::fits_none))]
 fn fits(v: u64, k: usize) -> bool
     ensures { result ≡ ltb v (ten k) }
 {
-    let mut i = k;
     let mut rest = v;
-    while i > 0 {
-        rest = rest / 10;
-        i -= 1;
+    for _ in 0..k {
+        rest /= 10;
     }
     rest == 0
 }
@@ -222,6 +212,7 @@ fn put_side(out: &mut [u8], at: usize, side: &[u8]) -> usize
     at + side.len()
 }
 
+#[tactic(auto, using(crate::proofs::Laws::by_given))]
 fn put_value(out: &mut [u8], at: usize, given: Given) -> usize
     requires { at + 16 ≤ room }
     ensures puts { Puts out.old at (value_text given) result out.new }
@@ -275,6 +266,7 @@ fn put_address(out: &mut [u8], at: usize, stream: u64, bin: Code) -> usize
 }
 
 // 175, whose line may be missing.
+#[tactic(auto, using(crate::proofs::Laws::activation_put, crate::proofs::Laws::nothing_put))]
 fn put_activation(out: &mut [u8], at: usize, activation: Activation) -> usize
     requires { at + 23 ≤ room }
     ensures puts { Puts out.old at (activation_text activation) result out.new }
@@ -294,8 +286,7 @@ fn put_terms(out: &mut [u8], at: usize, o: Order) -> usize
 {
     let a = put_line(out, at, b":16A:", Given::Numbers(o.number, o.count));
     let b = put_line(out, a, b":171:", Given::Date(o.date));
-    let activation = o.activation;
-    put_activation(out, b, activation)
+    put_activation(out, b, o.activation)
 }
 
 // 127 and 32B.
@@ -323,8 +314,7 @@ fn put_payment(out: &mut [u8], at: usize, line: Payable) -> usize
     ensures puts { Puts out.old at (payment_text line) result out.new }
     ensures small { result ≤ at + 92 }
 {
-    let side = line.side;
-    match side {
+    match line.side {
         Side::Credit => {
             let a = put_money(out, at, Given::CreditSide, line.cents);
             put_line(out, a, b":102:", Given::Four(line.bank))
@@ -342,15 +332,9 @@ fn put_payments(out: &mut [u8], at: usize, lines: [Payable; 10], n: usize) -> us
     ensures puts { Puts out.old at (payments_text n lines) result out.new }
     ensures small { result ≤ at + 920 }
 {
-    let mut i = 0;
     let mut a = at;
-    while i < 10 {
-        if n <= i {
-            return a;
-        }
-        let line = lines[i];
-        a = put_payment(out, a, line);
-        i += 1;
+    for i in 0..n.min(10) {
+        a = put_payment(out, a, lines[i]);
     }
     a
 }
@@ -362,8 +346,7 @@ fn put_message(out: &mut [u8], at: usize, o: Order) -> usize
     ensures small { result ≤ at + 1012 }
 {
     let a = put_terms(out, at, o);
-    let payments = o.payments;
-    let b = put_payments(out, a, payments, o.n);
+    let b = put_payments(out, a, o.payments, o.n);
     put_line(out, b, b":203:", Given::Count(o.n as u64))
 }
 
@@ -372,10 +355,8 @@ pub fn put_order(out: &mut [u8], o: Order) -> usize
     ensures puts { Puts out.old 0 (order_text o) result out.new }
     ensures small { result ≤ 1127 }
 {
-    let reference = o.reference;
-    let bin = o.bin;
-    let a = put_opening(out, 0, reference, o.subtype);
-    let b = put_address(out, a, o.stream, bin);
+    let a = put_opening(out, 0, o.reference, o.subtype);
+    let b = put_address(out, a, o.stream, o.bin);
     if o.subtype == 131 {
         return put_message(out, b, o);
     }
@@ -383,34 +364,26 @@ pub fn put_order(out: &mut [u8], o: Order) -> usize
 }
 
 // A text goes to its place whole, or not at all.
-fn write_text(out: &mut [u8], at: usize, text: &[u8]) -> Written
+fn write_text(out: &mut [u8], at: usize, text: &[u8]) -> Result<usize, Refusal>
     ensures { (result ≡ written out.old at text.now) × (out.new ≡ after out.old at text.now) }
 {
     let n = text.len();
-    if out.len() < n {
-        return Written::Unfit(Refusal::ShortBuffer);
-    }
-    if out.len() - n < at {
-        return Written::Unfit(Refusal::ShortBuffer);
+    if out.len() < n || out.len() - n < at {
+        return Err(Refusal::ShortBuffer);
     }
     text_put::bytes(out, at, text);
-    Written::End(at + n)
+    Ok(at + n)
 }
 
 // The text of a request: made in an array, read back, and copied where the reader accepts it.
-pub fn write_request(out: &mut [u8], at: usize, order: Order) -> Written
+pub fn write_request(out: &mut [u8], at: usize, order: Order) -> Result<usize, Refusal>
     ensures { Wrote out.old at order result out.new }
 {
     let mut text = [0u8; 2048];
     let n = put_order(&mut text, order);
     let reading = request_read::whole::read_request(&text[..n]);
-    let outcome = reading.outcome;
-    match outcome {
-        Outcome::Refused(b) => {
-            let refusal = b.refusal;
-            Written::Unfit(refusal)
-        }
-        Outcome::Settlement => write_text(out, at, &text[..n]),
-        Outcome::Recall => write_text(out, at, &text[..n]),
+    match reading.outcome {
+        Outcome::Refused(b) => Err(b.refusal),
+        Outcome::Settlement | Outcome::Recall => write_text(out, at, &text[..n]),
     }
 }

@@ -1,4 +1,8 @@
 -- What is written on a line is found there.
+use Rattle.text_scan.specs.declared.Cursor.{Cursor}
+use Rattle.text_fields.specs.declared.Item.{Item}
+use Rattle.text_fields.specs.declared.Break.{Break}
+use Rattle.std.specs.Prelude.{Some, None, Result, Ok}
 use Prim.Native.Nat.{ℕ, ◌+◌, ◌-◌, ◌≤◌, ◌<◌}
 use mathlib.Core.Path.{◌≡◌, refl, ap, sym, ◌∙◌}
 use mathlib.Core.Bool.{Bool, true, false, cond}
@@ -15,27 +19,22 @@ use Rattle.codes.proofs.Laws.{pack_take}
 use Rattle.text_put.specs.Digits.{digits_of}
 use Rattle.text_put.proofs.Laws.{digits_length}
 use Rattle.text_scan.specs.Scan.{begins, lit_at, number_at, ten}
-use Rattle.text_scan.specs.declared.At.TheVariants.{Next, No}
-use Rattle.text_scan.specs.declared.Fixed.TheVariants.{Value as Digits}
 use Rattle.text_names.specs.rules.Names.{forbidden}
 use Rattle.text_scan.specs.Spelling.{All, value_of}
 use Rattle.text_scan.proofs.Standing.{past, lit_reads, codes_reads, code_reads, number_reads}
 use Rattle.text_values.specs.Values.{text_of, stands, forbidden_at, reference_at, numeral_at, word_at, bin_at}
 use Rattle.text_values.specs.declared.Part.{Part}
-use Rattle.text_values.specs.declared.Value.TheVariants.{Read}
 use Rattle.text_fields.specs.Fields.{item, place, value_at, field_at}
-use Rattle.text_fields.specs.declared.Field.{Field}
-use Rattle.text_fields.specs.declared.Field.TheVariants.{Good}
 use Rattle.text_fields.specs.declared.Kind.{Kind}
 use Rattle.text_fields.specs.declared.Kind.TheVariants.{Empty, Reference, Numeral, Word, Bin}
 use Rattle.response_read.proofs.Digits.{digits_all, value_back, cr_no_code, begins_before}
 
 -- a step found the text v, its number w, and the rest after its line
-pub record Found (s : List ℕ) (f : Field) (v : List ℕ) (w : ℕ) (rest : List ℕ) : Type 0 where
+pub record Found (s : List ℕ) (f : Result (Item × Cursor) Break) (v : List ℕ) (w : ℕ) (rest : List ℕ) : Type 0 where
   pub start : ℕ
   pub stop : ℕ
   pub next : ℕ
-  pub good : f ≡ Good (item start stop w) (place next)
+  pub good : f ≡ Ok (item start stop w, place next)
   pub text : text_of s (record { start = start; end = stop }) ≡ v
   pub left : drop next s ≡ rest
 
@@ -46,7 +45,7 @@ module _ (s : List ℕ) where
 
   -- a value of its kind on its line is found
   pub found : (at : ℕ) (tag v rest : List ℕ) (kind : Kind) (w : ℕ) → drop at s ≡ line tag v ++ rest
-      → (drop (at + length tag) s ≡ v ++ (crlf ++ rest) → value_at s (at + length tag) kind ≡ Read w (at + length tag + length v))
+      → (drop (at + length tag) s ≡ v ++ (crlf ++ rest) → value_at s (at + length tag) kind ≡ Ok (w, at + length tag + length v))
       → Found s (field_at s at tag kind) v w rest
   unfolding field_at
   found at tag v rest kind w h value =
@@ -62,7 +61,7 @@ module _ (s : List ℕ) where
         left = past s (at + length tag + length v) crlf rest h₂;
       }
 
-  numeral_value : (n : ℕ) (v : List ℕ) (a : ℕ) (r : List ℕ) → All is_digit v → length v ≡ n → n ≤ 18 → drop a s ≡ v ++ r → numeral_at s a n ≡ Read (value_of 0 v) (a + length v)
+  numeral_value : (n : ℕ) (v : List ℕ) (a : ℕ) (r : List ℕ) → All is_digit v → length v ≡ n → n ≤ 18 → drop a s ≡ v ++ r → numeral_at s a n ≡ Ok (value_of 0 v, a + length v)
   unfolding numeral_at
   numeral_value n v a r all e m h = rw (← e) (simp (number_reads s a v r h all (omega arith)))
 
@@ -79,25 +78,25 @@ module _ (s : List ℕ) where
   unfolding short_at
   short_there a v r e h = rw h (sym (pack_take 4 0 (v ++ r)) ∙ ap (packed 4) (take_at v r 4 e))
 
-  word_value : (n : ℕ) (v : List ℕ) (a : ℕ) (r : List ℕ) → All is_code v → length v ≡ n → drop a s ≡ v ++ r → word_at s a n ≡ Read (short_at s a) (a + length v)
+  word_value : (n : ℕ) (v : List ℕ) (a : ℕ) (r : List ℕ) → All is_code v → length v ≡ n → drop a s ≡ v ++ r → word_at s a n ≡ Ok (short_at s a, a + length v)
   unfolding word_at
   word_value n v a r all e h = rw (← e) (simp (code_reads s a v r h all))
 
   pub empty_found : (at : ℕ) (tag rest : List ℕ) → drop at s ≡ line tag [] ++ rest → Found s (field_at s at tag Empty) [] 0 rest
-  empty_found at tag rest h = found at tag [] rest Empty 0 h (λ g. ap (Read 0) (omega arith))
+  empty_found at tag rest h = found at tag [] rest Empty 0 h (λ g. ap (λ (e : ℕ). Ok (0, e)) (omega arith))
 
   pub word_found : (at : ℕ) (tag v rest : List ℕ) → length v ≡ 4 → All is_code v → drop at s ≡ line tag v ++ rest → Found s (field_at s at tag (Word 4)) v (packed 4 v) rest
   word_found at tag v rest e all h =
       found at tag v rest (Word 4) (packed 4 v) h
       (λ g. word_value 4 v (at + length tag) (crlf ++ rest) all e g
-      ∙ ap (λ (w : ℕ). Read w (at + length tag + length v)) (short_there (at + length tag) v (crlf ++ rest) e g))
+      ∙ ap (λ (w : ℕ). Ok (w, at + length tag + length v)) (short_there (at + length tag) v (crlf ++ rest) e g))
 
-  bin_value : (a : ℕ) (v d r : List ℕ) (p : Part) → length d ≡ 4 → All is_digit d → text_of s p ≡ v → drop a s ≡ (v ++ d) ++ r → bin_at s a p ≡ Read 0 (a + length (v ++ d))
+  bin_value : (a : ℕ) (v d r : List ℕ) (p : Part) → length d ≡ 4 → All is_digit d → text_of s p ≡ v → drop a s ≡ (v ++ d) ++ r → bin_at s a p ≡ Ok (0, a + length (v ++ d))
   unfolding bin_at
   bin_value a v d r p e all t h =
       let g = h ∙ append_assoc v d r in
-      let n : number_at s (a + length v) 4 ≡ Digits (value_of 0 d) (a + length v + length d) = ap (number_at s (a + length v)) (sym e) ∙ number_reads s (a + length v) d r (past s a v (d ++ r) g) all (omega arith) in
-      simp (t, lit_reads s a v (d ++ r) g, n) (ap (Read 0) (omega (arith, length-append v d)))
+      let n : number_at s (a + length v) 4 ≡ Some (value_of 0 d, a + length v + length d) = ap (number_at s (a + length v)) (sym e) ∙ number_reads s (a + length v) d r (past s a v (d ++ r) g) all (omega arith) in
+      simp (t, lit_reads s a v (d ++ r) g, n) (ap (λ (e : ℕ). Ok (0, e)) (omega (arith, length-append v d)))
 
   pub bin_found : (at : ℕ) (tag v d rest : List ℕ) (p : Part) → length d ≡ 4 → All is_digit d → text_of s p ≡ v → drop at s ≡ line tag (v ++ d) ++ rest → Found s (field_at s at tag (Bin p)) (v ++ d) 0 rest
   bin_found at tag v d rest p e all t h = found at tag (v ++ d) rest (Bin p) 0 h (bin_value (at + length tag) v d (crlf ++ rest) p e all t)
@@ -107,7 +106,7 @@ module _ (s : List ℕ) where
   unfolding lit_at
   stands_begins at p = go (begins p (drop at s))
     where
-      go : (b : Bool) → stands (cond b (Next (at + length p)) No) ≡ b
+      go : (b : Bool) → stands (cond b (Some (at + length p)) None) ≡ b
       go true = refl
       go false = refl
 
@@ -124,7 +123,7 @@ module _ (s : List ℕ) where
         begins_before (bytes "ASXC") v 13 (10 ∷ r) (refl, (refl, (refl, (refl, tt)))),
       )
 
-  reference_value : (a : ℕ) (v r : List ℕ) → 1 ≤ length v → length v ≤ 16 → All is_code v → forbidden v ≡ false → drop a s ≡ v ++ (crlf ++ r) → reference_at s a ≡ Read 0 (a + length v)
+  reference_value : (a : ℕ) (v r : List ℕ) → 1 ≤ length v → length v ≤ 16 → All is_code v → forbidden v ≡ false → drop a s ≡ v ++ (crlf ++ r) → reference_at s a ≡ Ok (0, a + length v)
   unfolding reference_at
   reference_value a v r some few all free h =
       simp (codes_reads s a v 13 (10 ∷ r) 16 h few all cr_no_code, ne_eqb (a + length v) a (omega arith), forbidden_there a v r h, free)

@@ -1,4 +1,6 @@
 -- The answer to a text: it is the only one, and it depends neither on the bytes after the line of the first break nor on any past the first 4,096.
+use Rattle.chars.specs.declared.Refusal.{Refusal}
+use Rattle.std.specs.Prelude.{Option, Some, None, Result, Ok, Err}
 use Prim.Native.Nat.{ℕ, ◌+◌, ◌/◌, ◌%◌, ◌≤◌, ◌<◌}
 use mathlib.Core.Path.{◌≡◌, refl, ap, sym, subst, ◌∙◌}
 use mathlib.Core.List.{List}
@@ -12,25 +14,17 @@ use lib.Seq.{take-take}
 use Rattle.chars.specs.Words.{bytes, crlf}
 use Rattle.chars.specs.declared.Refusal.TheVariants.{OtherSubType}
 use Rattle.clock.specs.Clock.{second_of}
-use Rattle.clock.specs.declared.Second.{Second}
-use Rattle.clock.specs.declared.Second.TheVariants.{Number as Clocked, Untrue as Unclocked}
 use Rattle.dates.specs.Dates.{day_of}
-use Rattle.dates.specs.declared.Day.{Day}
-use Rattle.dates.specs.declared.Day.TheVariants.{Number, Untrue}
 use Rattle.text_scan.specs.Scan.{on_next, lit_at}
 use Rattle.text_scan.specs.declared.Cursor.{Cursor}
 use Rattle.text_scan.proofs.Standing.{lit_next}
 use Rattle.text_scan.proofs.Alike.{Alike, lit_alike, more_alike, by_next, same_next}
 use Rattle.text_values.specs.Values.{on_day, numeral_at}
 use Rattle.text_values.specs.declared.Part.{Part}
-use Rattle.text_values.specs.declared.Value.{Value}
-use Rattle.text_values.specs.declared.Value.TheVariants.{Read, Unread}
 use Rattle.text_values.proofs.Alike.{EndsIn, code_of_alike, numeral_alike, numeral_ends, word_ends}
 use Rattle.text_fields.specs.Fields.{absent, broken, wrong, item, place, on_read, on_good, field_at}
 use Rattle.text_fields.specs.declared.Break.{Break}
 use Rattle.text_fields.specs.declared.Item.{Item}
-use Rattle.text_fields.specs.declared.Field.{Field}
-use Rattle.text_fields.specs.declared.Field.TheVariants.{Good, Bad}
 use Rattle.text_fields.specs.declared.Kind.{Kind}
 use Rattle.text_fields.specs.declared.Kind.TheVariants.{Empty, Reference, Numeral, Word, Bin}
 use Rattle.text_fields.proofs.Alike.{Or, In, Fine, PartIn, field_in, field_near, part_in}
@@ -39,12 +33,6 @@ use Rattle.response_write.specs.declared.Answer.{Answer}
 use Rattle.response_read.specs.Reply.{refused, response_number_at, request_reference_at, batch_at, on_second, settled_at, rejected_at, ended_at, answer_at, on_of, on_how, on_with, ending, settlement_of, recall_of, settlement_at, recall_at, head, response_at}
 use Rattle.response_read.specs.declared.Head.{Head}
 use Rattle.response_read.specs.declared.Batch.{Batch}
-use Rattle.response_read.specs.declared.Batched.{Batched}
-use Rattle.response_read.specs.declared.Batched.TheVariants.{Lost}
-use Rattle.response_read.specs.declared.Ended.{Ended}
-use Rattle.response_read.specs.declared.Ended.TheVariants.{Unclear}
-use Rattle.response_read.specs.declared.Answered.{Answered}
-use Rattle.response_read.specs.declared.Answered.TheVariants.{Without}
 use Rattle.response_read.specs.declared.Reply.{Reply}
 use Rattle.response_read.specs.declared.Reply.TheVariants.{Settlement, Recall, Refused}
 use Rattle.response_read.specs.declared.ReadResponse.{ReadResponse}
@@ -75,36 +63,36 @@ by_both : {A : Type 0} (P : A → A → Type 0) (b : Bool) {x x' y y' : A} → P
 by_both P true p q = p
 by_both P false p q = q
 
-by_day : {A : Type 0} (P : A → Type 0) (x : Day) {d : A} {k : ℕ → A} → P d → ((n : ℕ) → P (k n)) → P (on_day x d k)
-by_day P (Number n) p q = q n
-by_day P Untrue p q = p
+by_day : {A : Type 0} (P : A → Type 0) (x : Option ℕ) {d : A} {k : ℕ → A} → P d → ((n : ℕ) → P (k n)) → P (on_day x d k)
+by_day P (Some n) p q = q n
+by_day P None p q = p
 
-by_second : {A : Type 0} (P : A → Type 0) (x : Second) {d : A} {k : ℕ → A} → P d → ((n : ℕ) → P (k n)) → P (on_second x d k)
-by_second P (Clocked n) p q = q n
-by_second P Unclocked p q = p
+by_second : {A : Type 0} (P : A → Type 0) (x : Option ℕ) {d : A} {k : ℕ → A} → P d → ((n : ℕ) → P (k n)) → P (on_second x d k)
+by_second P (Some n) p q = q n
+by_second P None p q = p
 
 -- a line and what is made of it: `h` makes a refusal of a break
-good_reads : {A : Type 0} (n at : ℕ) (x y : Field) (h h' : A → ReadResponse) (d : Break → A) (k k' : Item → Cursor → A) → at ≤ 228 → Or n x y at → ((b : Break) → x ≡ Bad b → b.at ≡ at) → ((b : Break) → h (d b) ≡ refused b) → ((b : Break) → h' (d b) ≡ refused b) → ((i : Item) (c : Cursor) → x ≡ Good i c → Reads n at (h (k i c)) (h' (k' i c))) → Reads n at (h (on_good x d k)) (h' (on_good y d k'))
-good_reads n at (Good i c) y h h' d k k' w (inl q) u e e' g = rw (← q) (g i c refl)
-good_reads n at (Good i c) y h h' d k k' w (inr q) u e e' g = let r = g i c refl in record { from = r.from; within = r.within; same = inr (omega (arith, q, r.from)) }
-good_reads n at (Bad b) y h h' d k k' w (inl q) u e e' g = rw (← q, e b, e' b) (refused_reads n at b (omega (arith, u b refl)) (omega (arith, u b refl)))
-good_reads n at (Bad b) y h h' d k k' w (inr q) u e e' g = rw (e b) (record { from = omega (arith, u b refl); within = omega (arith, u b refl); same = inr (omega (arith, q, u b refl)) })
+good_reads : {A : Type 0} (n at : ℕ) (x y : Result (Item × Cursor) Break) (h h' : A → ReadResponse) (d : Break → A) (k k' : Item → Cursor → A) → at ≤ 228 → Or n x y at → ((b : Break) → x ≡ Err b → b.at ≡ at) → ((b : Break) → h (d b) ≡ refused b) → ((b : Break) → h' (d b) ≡ refused b) → ((i : Item) (c : Cursor) → x ≡ Ok (i, c) → Reads n at (h (k i c)) (h' (k' i c))) → Reads n at (h (on_good x d k)) (h' (on_good y d k'))
+good_reads n at (Ok (i, c)) y h h' d k k' w (inl q) u e e' g = rw (← q) (g i c refl)
+good_reads n at (Ok (i, c)) y h h' d k k' w (inr q) u e e' g = let r = g i c refl in record { from = r.from; within = r.within; same = inr (omega (arith, q, r.from)) }
+good_reads n at (Err b) y h h' d k k' w (inl q) u e e' g = rw (← q, e b, e' b) (refused_reads n at b (omega (arith, u b refl)) (omega (arith, u b refl)))
+good_reads n at (Err b) y h h' d k k' w (inr q) u e e' g = rw (e b) (record { from = omega (arith, u b refl); within = omega (arith, u b refl); same = inr (omega (arith, q, u b refl)) })
 
 -- 20: its tag, and a field `B` after it, which ends within 32 bytes
-abbrev NumberIn : Field → Type 0
-NumberIn (Good i c) = c.at ≤ 32
-NumberIn (Bad b) = b.at ≡ 0
+abbrev NumberIn : Result (Item × Cursor) Break → Type 0
+NumberIn (Ok (i, c)) = c.at ≤ 32
+NumberIn (Err b) = b.at ≡ 0
 
 number_in : (s : List ℕ) → NumberIn (response_number_at s)
 unfolding response_number_at
 number_in s = by_next NumberIn (lit_at s 0 (bytes ":20:")) refl (λ a q. go a (lit_next s 0 (bytes ":20:") q) (field_at s a (bytes "B") (Numeral 7)) (field_in s a (bytes "B") (Numeral 7) (omega arith) (omega arith)))
   where
-    go : (a : ℕ) → a ≡ 0 + length (bytes ":20:") → (x : Field) → In a x → NumberIn (on_good x (λ b. Bad (wrong 0)) (λ i c. Good (item a i.part.end i.number) c))
-    go a e (Good i c) h = omega (arith, e, h.1)
-    go a e (Bad b) h = refl
+    go : (a : ℕ) → a ≡ 0 + length (bytes ":20:") → (x : Result (Item × Cursor) Break) → In a x → NumberIn (on_good x (λ b. Err (wrong 0)) (λ i c. Ok (item a i.part.end i.number, c)))
+    go a e (Ok (i, c)) h = omega (arith, e, h.1)
+    go a e (Err b) h = refl
 
 -- the stream of a BIN stands before it
-stream_fine : (s : List ℕ) (at : ℕ) (i : Item) (c : Cursor) → field_at s at (bytes ":22A:") (Word 4) ≡ Good i c → c.at ≡ i.part.end + 2 → Fine c.at (Bin i.part)
+stream_fine : (s : List ℕ) (at : ℕ) (i : Item) (c : Cursor) → field_at s at (bytes ":22A:") (Word 4) ≡ Ok (i, c) → c.at ≡ i.part.end + 2 → Fine c.at (Bin i.part)
 stream_fine s at i c q e =
     let w : i.part.end ≤ i.part.start + 4 = subst (PartIn 4) q (part_in s at (bytes ":22A:") (Word 4) 4 (λ a. word_ends s a 4)) in
     (omega (arith, e), omega (arith, w))
@@ -120,17 +108,17 @@ recall_stop s h i x p q = refl
 module _ {n : ℕ} {s t : List ℕ} (a : Alike n s t) where
   b_same : (at : ℕ) → at + 25 ≤ n → field_at s at (bytes "B") (Numeral 7) ≡ field_at t at (bytes "B") (Numeral 7)
   unfolding field_at
-  b_same at w = rw (lit_alike a at (bytes "B") (omega arith)) (same_next (lit_at t at (bytes "B")) (Bad (absent at)) _ _ (λ b q.
+  b_same at w = rw (lit_alike a at (bytes "B") (omega arith)) (same_next (lit_at t at (bytes "B")) (Err (absent at)) _ _ (λ b q.
       let i = lit_next t at (bytes "B") q in
       rw (numeral_alike a b (omega (arith, i)) 7 (omega arith)) (go b i (numeral_at t b 7) (numeral_ends t b 7))))
     where
-      go : (b : ℕ) → b ≡ at + 1 → (v : Value) → EndsIn b 7 v → on_read v (λ r. Bad (broken at r)) (λ v e. on_next (lit_at s e crlf) (Bad (wrong at)) (λ m. Good (item b e v) (place m))) ≡ on_read v (λ r. Bad (broken at r)) (λ v e. on_next (lit_at t e crlf) (Bad (wrong at)) (λ m. Good (item b e v) (place m)))
-      go b i (Read v e) j = rw (lit_alike a e crlf (omega (arith, i, j.1)))
-      go b i (Unread r) j = refl
+      go : (b : ℕ) → b ≡ at + 1 → (v : Result (ℕ × ℕ) Refusal) → EndsIn b 7 v → on_read {A = Result (Item × Cursor) Break} v (λ r. Err (broken at r)) (λ v e. on_next (lit_at s e crlf) (Err (wrong at)) (λ m. Ok (item b e v, place m))) ≡ on_read v (λ r. Err (broken at r)) (λ v e. on_next (lit_at t e crlf) (Err (wrong at)) (λ m. Ok (item b e v, place m)))
+      go b i (Ok (v, e)) j = rw (lit_alike a e crlf (omega (arith, i, j.1)))
+      go b i (Err r) j = refl
 
   number_same : 32 ≤ n → response_number_at s ≡ response_number_at t
   unfolding response_number_at
-  number_same w = rw (lit_alike a 0 (bytes ":20:") (omega arith)) (same_next (lit_at t 0 (bytes ":20:")) (Bad (absent 0)) _ _ (λ b q.
+  number_same w = rw (lit_alike a 0 (bytes ":20:") (omega arith)) (same_next (lit_at t 0 (bytes ":20:")) (Err (absent 0)) _ _ (λ b q.
       rw (b_same b (omega (arith, lit_next t 0 (bytes ":20:") q)))))
 
   number_near : Or n (response_number_at s) (response_number_at t) 0
@@ -140,7 +128,7 @@ module _ {n : ℕ} {s t : List ℕ} (a : Alike n s t) where
       go true q = inl (number_same (leb-true 32 n q))
       go false q = inr (omega (arith, leb-false 32 n q))
 
-  line_reads : {A : Type 0} (at : ℕ) (tag : List ℕ) (kind : Kind) (h h' : A → ReadResponse) (d : Break → A) (k k' : Item → Cursor → A) → length tag ≤ 5 → Fine at kind → at ≤ 228 → ((b : Break) → h (d b) ≡ refused b) → ((b : Break) → h' (d b) ≡ refused b) → ((i : Item) (c : Cursor) → field_at s at tag kind ≡ Good i c → In at (Good i c) → Reads n at (h (k i c)) (h' (k' i c))) → Reads n at (h (on_good (field_at s at tag kind) d k)) (h' (on_good (field_at t at tag kind) d k'))
+  line_reads : {A : Type 0} (at : ℕ) (tag : List ℕ) (kind : Kind) (h h' : A → ReadResponse) (d : Break → A) (k k' : Item → Cursor → A) → length tag ≤ 5 → Fine at kind → at ≤ 228 → ((b : Break) → h (d b) ≡ refused b) → ((b : Break) → h' (d b) ≡ refused b) → ((i : Item) (c : Cursor) → field_at s at tag kind ≡ Ok (i, c) → In at (Ok (i, c)) → Reads n at (h (k i c)) (h' (k' i c))) → Reads n at (h (on_good (field_at s at tag kind) d k)) (h' (on_good (field_at t at tag kind) d k'))
   line_reads at tag kind h h' d k k' l f w e e' g = good_reads n at (field_at s at tag kind) (field_at t at tag kind) h h' d k k' w
       (field_near a at tag kind l f)
       (λ b q. subst (In at) q (field_in s at tag kind l f))
@@ -175,7 +163,7 @@ module _ {n : ℕ} {s t : List ℕ} (a : Alike n s t) where
   reference_reads : (at : ℕ) (k k' : Item → Cursor → ReadResponse) → at ≤ 172 → ((i : Item) (c : Cursor) → at ≤ c.at → c.at ≤ at + 56 → i.part.end ≤ c.at → Reads n c.at (k i c) (k' i c)) → Reads n at (on_good (request_reference_at s at) refused k) (on_good (request_reference_at t at) refused k')
   unfolding request_reference_at
   reference_reads at k k' w g =
-      line_reads at (bytes ":77E:") Empty (λ (x : Field). on_good x refused k) (λ (x : Field). on_good x refused k') Bad _ _ (omega arith) tt (omega arith) (λ b. refl) (λ b. refl) (λ empty c q i.
+      line_reads at (bytes ":77E:") Empty (λ (x : Result (Item × Cursor) Break). on_good x refused k) (λ (x : Result (Item × Cursor) Break). on_good x refused k') Err _ _ (omega arith) tt (omega arith) (λ b. refl) (λ b. refl) (λ empty c q i.
       sooner at c.at i.0 (line_reads c.at (bytes ":21:") Reference (λ (r : ReadResponse). r) (λ (r : ReadResponse). r) refused k k' (omega arith) tt (omega (arith, i.1)) (λ b. refl) (λ b. refl) (λ reference d r j.
       sooner c.at d.at j.0 (g reference d (omega (arith, i.0, j.0)) (omega (arith, i.1, j.1)) (omega (arith, j.2))))))
 
@@ -183,13 +171,13 @@ module _ {n : ℕ} {s t : List ℕ} (a : Alike n s t) where
   batch_reads : (at : ℕ) (k k' : Batch → Cursor → ReadResponse) → at ≤ 172 → ((b : Batch) (c : Cursor) → at ≤ c.at → c.at ≤ at + 56 → b.bin.part.end ≤ c.at → Reads n c.at (k b c) (k' b c)) → Reads n at (on_of (batch_at s at) refused k) (on_of (batch_at t at) refused k')
   unfolding batch_at
   batch_reads at k k' w g =
-      line_reads at (bytes ":22A:") (Word 4) (λ (x : Batched). on_of x refused k) (λ (x : Batched). on_of x refused k') Lost _ _ (omega arith) (omega arith) (omega arith) (λ b. refl) (λ b. refl) (λ stream c q i.
-      sooner at c.at i.0 (line_reads c.at (bytes ":119:") (Bin stream.part) (λ (x : Batched). on_of x refused k) (λ (x : Batched). on_of x refused k') Lost _ _ (omega arith) (stream_fine s at stream c q i.2) (omega (arith, i.1)) (λ b. refl) (λ b. refl) (λ bin d r j.
+      line_reads at (bytes ":22A:") (Word 4) (λ (x : Result (Batch × Cursor) Break). on_of x refused k) (λ (x : Result (Batch × Cursor) Break). on_of x refused k') Err _ _ (omega arith) (omega arith) (omega arith) (λ b. refl) (λ b. refl) (λ stream c q i.
+      sooner at c.at i.0 (line_reads c.at (bytes ":119:") (Bin stream.part) (λ (x : Result (Batch × Cursor) Break). on_of x refused k) (λ (x : Result (Batch × Cursor) Break). on_of x refused k') Err _ _ (omega arith) (stream_fine s at stream c q i.2) (omega (arith, i.1)) (λ b. refl) (λ b. refl) (λ bin d r j.
       sooner c.at d.at j.0 (g (record { stream = stream; bin = bin }) d (omega (arith, i.0, j.0)) (omega (arith, i.1, j.1)) (omega (arith, j.2))))))
 
   -- 451, and 13E or 432
   module _ (k k' : Outcome → Part → Part → Cursor → ReadResponse) where
-    abbrev Ends : ℕ → Ended → Ended → Type 0
+    abbrev Ends : ℕ → Result (Outcome × Part × Part × Cursor) Break → Result (Outcome × Part × Part × Cursor) Break → Type 0
     Ends at x y = Reads n at (on_how x refused k) (on_how y refused k')
 
     -- what follows is read alike from wherever these lines end
@@ -199,21 +187,21 @@ module _ {n : ℕ} {s t : List ℕ} (a : Alike n s t) where
     settled_reads : (at : ℕ) (status : Part) → at ≤ 200 → Onward at 28 → Ends at (settled_at s at status) (settled_at t at status)
     unfolding settled_at
     settled_reads at status w g =
-        line_reads at (bytes ":13E:") (Numeral 12) (λ (x : Ended). on_how x refused k) (λ (x : Ended). on_how x refused k') Unclear _ _ (omega arith) (omega arith) (omega arith) (λ b. refl) (λ b. refl) (λ i c q j.
-        by_day (λ (x : Ended). Ends at x x) (day_of (i.number / 1000000)) (refused_reads n at (wrong at) (omega arith) (omega arith)) (λ day.
-        by_second (λ (x : Ended). Ends at x x) (second_of (i.number % 1000000)) (refused_reads n at (wrong at) (omega arith) (omega arith)) (λ second.
+        line_reads at (bytes ":13E:") (Numeral 12) (λ (x : Result (Outcome × Part × Part × Cursor) Break). on_how x refused k) (λ (x : Result (Outcome × Part × Part × Cursor) Break). on_how x refused k') Err _ _ (omega arith) (omega arith) (omega arith) (λ b. refl) (λ b. refl) (λ i c q j.
+        by_day (λ (x : Result (Outcome × Part × Part × Cursor) Break). Ends at x x) (day_of (i.number / 1000000)) (refused_reads n at (wrong at) (omega arith) (omega arith)) (λ day.
+        by_second (λ (x : Result (Outcome × Part × Part × Cursor) Break). Ends at x x) (second_of (i.number % 1000000)) (refused_reads n at (wrong at) (omega arith) (omega arith)) (λ second.
         sooner at c.at j.0 (g _ status i.part c j.0 j.1))))
 
     rejected_reads : (at : ℕ) (status : Part) → at ≤ 200 → Onward at 28 → Ends at (rejected_at s at status) (rejected_at t at status)
     unfolding rejected_at
     rejected_reads at status w g =
-        line_reads at (bytes ":432:") (Numeral 2) (λ (x : Ended). on_how x refused k) (λ (x : Ended). on_how x refused k') Unclear _ _ (omega arith) (omega arith) (omega arith) (λ b. refl) (λ b. refl) (λ i c q j.
+        line_reads at (bytes ":432:") (Numeral 2) (λ (x : Result (Outcome × Part × Part × Cursor) Break). on_how x refused k) (λ (x : Result (Outcome × Part × Part × Cursor) Break). on_how x refused k') Err _ _ (omega arith) (omega arith) (omega arith) (λ b. refl) (λ b. refl) (λ i c q j.
         sooner at c.at j.0 (g _ status i.part c j.0 j.1))
 
     ended_reads : (at : ℕ) → at ≤ 172 → Onward at 56 → Ends at (ended_at s at) (ended_at t at)
     unfolding ended_at
     ended_reads at w g =
-        line_reads at (bytes ":451:") (Numeral 1) (λ (x : Ended). on_how x refused k) (λ (x : Ended). on_how x refused k') Unclear _ _ (omega arith) (omega arith) (omega arith) (λ b. refl) (λ b. refl) (λ i c q j.
+        line_reads at (bytes ":451:") (Numeral 1) (λ (x : Result (Outcome × Part × Part × Cursor) Break). on_how x refused k) (λ (x : Result (Outcome × Part × Part × Cursor) Break). on_how x refused k') Err _ _ (omega arith) (omega arith) (omega arith) (λ b. refl) (λ b. refl) (λ i c q j.
         let g' : Onward c.at 28 = λ o p q d u v. g o p q d (omega (arith, j.0, u)) (omega (arith, j.1, v)) in
         by_both (Ends at) (eqb i.number 0) (sooner at c.at j.0 (settled_reads c.at i.part (omega (arith, j.1)) g'))
         (by_both (Ends at) (eqb i.number 1) (sooner at c.at j.0 (rejected_reads c.at i.part (omega (arith, j.1)) g'))
@@ -221,16 +209,16 @@ module _ {n : ℕ} {s t : List ℕ} (a : Alike n s t) where
 
   -- 451, and 432 after 1
   module _ (k k' : Answer → Part → Part → Cursor → ReadResponse) where
-    abbrev Answers : ℕ → Answered → Answered → Type 0
+    abbrev Answers : ℕ → Result (Answer × Part × Part × Cursor) Break → Result (Answer × Part × Part × Cursor) Break → Type 0
     Answers at x y = Reads n at (on_with x refused k) (on_with y refused k')
 
     answer_reads : (at : ℕ) → at ≤ 172 → ((x : Answer) (p q : Part) (c : Cursor) → at ≤ c.at → c.at ≤ at + 56 → Reads n c.at (k x p q c) (k' x p q c)) → Answers at (answer_at s at) (answer_at t at)
     unfolding answer_at
     answer_reads at w g =
-        line_reads at (bytes ":451:") (Numeral 1) (λ (x : Answered). on_with x refused k) (λ (x : Answered). on_with x refused k') Without _ _ (omega arith) (omega arith) (omega arith) (λ b. refl) (λ b. refl) (λ i c q j.
+        line_reads at (bytes ":451:") (Numeral 1) (λ (x : Result (Answer × Part × Part × Cursor) Break). on_with x refused k) (λ (x : Result (Answer × Part × Part × Cursor) Break). on_with x refused k') Err _ _ (omega arith) (omega arith) (omega arith) (λ b. refl) (λ b. refl) (λ i c q j.
         by_both (Answers at) (eqb i.number 0) (sooner at c.at j.0 (g _ _ _ c j.0 (omega (arith, j.1))))
         (by_both (Answers at) (eqb i.number 1)
-        (sooner at c.at j.0 (line_reads c.at (bytes ":432:") (Numeral 2) (λ (x : Answered). on_with x refused k) (λ (x : Answered). on_with x refused k') Without _ _ (omega arith) (omega arith) (omega (arith, j.1)) (λ b. refl) (λ b. refl) (λ m d r l.
+        (sooner at c.at j.0 (line_reads c.at (bytes ":432:") (Numeral 2) (λ (x : Result (Answer × Part × Part × Cursor) Break). on_with x refused k) (λ (x : Result (Answer × Part × Part × Cursor) Break). on_with x refused k') Err _ _ (omega arith) (omega arith) (omega (arith, j.1)) (λ b. refl) (λ b. refl) (λ m d r l.
         sooner c.at d.at l.0 (g _ _ _ d (omega (arith, j.0, l.0)) (omega (arith, j.1, l.1))))))
         (refused_reads n at (wrong at) (omega arith) (omega arith))))
 

@@ -1,4 +1,5 @@
 -- A response that is written reads back as the same response.
+use Rattle.std.specs.Prelude.{Ok}
 use Prim.Native.Nat.{ℕ, ◌+◌, ◌*◌, ◌-◌, ◌/◌, ◌%◌, ◌≤◌, ◌<◌}
 use mathlib.Core.Path.{◌≡◌, refl, ap, sym, ◌∙◌}
 use mathlib.Core.Bool.{true}
@@ -23,7 +24,6 @@ use Rattle.text_scan.proofs.Standing.{past, lit_reads}
 use Rattle.text_values.specs.Values.{no_part, text_of, code_of}
 use Rattle.text_values.specs.declared.Part.{Part}
 use Rattle.text_fields.specs.Fields.{place}
-use Rattle.text_fields.specs.declared.Field.TheVariants.{Good}
 use Rattle.response_write.specs.Texts.{head_text, batch_text, settled_text, rejected_text, outcome_text, settlement_text, answer_text, recall_text}
 use Rattle.response_write.specs.Values.{is_outcome, is_answer, is_settlement, is_recall, written_if, after_if}
 use Rattle.response_write.proofs.ValueLaws.{written_held, written_whole}
@@ -34,14 +34,10 @@ use Rattle.response_write.specs.declared.Answer.{Answer}
 use Rattle.response_write.specs.declared.Answer.TheVariants.{Recalled, Kept}
 use Rattle.response_write.specs.declared.Settlement.{Settlement as Response132}
 use Rattle.response_write.specs.declared.Recall.{Recall as Response134}
-use Rattle.response_write.specs.declared.Written.TheVariants.{End}
 use Rattle.response_read.specs.Reply.{response_number_at, request_reference_at, batch_at, ended_at, answer_at, settlement_of, recall_of, response_at}
-use Rattle.response_read.specs.declared.Batched.TheVariants.{Of}
-use Rattle.response_read.specs.declared.Ended.TheVariants.{How}
-use Rattle.response_read.specs.declared.Answered.TheVariants.{With}
 use Rattle.response_read.specs.declared.Reply.TheVariants.{Settlement, Recall}
 use Rattle.response_read.specs.declared.ReadResponse.{ReadResponse}
-use Rattle.response_read.proofs.Laws.{number_3, reference_2, batch_3, settled_4, rejected_2, ended_2, ended_3, answer_2, answer_4, settlement_5, recall_4, response_3, response_4}
+use Rattle.response_read.proofs.Laws.{number_is, reference_is, batch_is, settled_is, rejected_is, ended_settled, ended_rejected, answer_recalled, answer_kept, settlement_is, recall_is, response_settlement, response_recall}
 use Rattle.response_read.proofs.Digits.{all_append, value_append, value_digits, value_back, digits_all}
 use Rattle.response_read.specs.Sound.{Referred, Named, Sound, SoundRecall}
 use Rattle.response_read.proofs.Allowed.{referred_text, stream_text, bin_text, settlement_sound, recall_sound}
@@ -51,7 +47,7 @@ use Rattle.response_read.proofs.Lines.{Found, digits_found, numeral_found, empty
 record Numbered (s : List ℕ) (n : ℕ) (rest : List ℕ) : Type 0 where
   part : Part
   next : ℕ
-  good : response_number_at s ≡ Good (record { part = part; number = n }) (place next)
+  good : response_number_at s ≡ Ok (record { part = part; number = n }, place next)
   left : drop next s ≡ rest
 
 -- 22A and 119
@@ -59,7 +55,7 @@ record Addressed (s : List ℕ) (at stream : ℕ) (bin : Code) (rest : List ℕ)
   sp : Part
   bp : Part
   next : ℕ
-  good : batch_at s at ≡ Of (record { stream = record { part = sp; number = stream }; bin = record { part = bp; number = 0 } }) (place next)
+  good : batch_at s at ≡ Ok (record { stream = record { part = sp; number = stream }; bin = record { part = bp; number = 0 } }, place next)
   code : code_of s bp ≡ bin
   left : drop next s ≡ rest
 
@@ -68,14 +64,14 @@ record Closed (s : List ℕ) (at : ℕ) (o : Outcome) : Type 0 where
   status : Part
   detail : Part
   next : ℕ
-  good : ended_at s at ≡ How o status detail (place next)
+  good : ended_at s at ≡ Ok (o, status, detail, place next)
   left : drop next s ≡ []
 
 record Replied (s : List ℕ) (at : ℕ) (a : Answer) : Type 0 where
   status : Part
   detail : Part
   next : ℕ
-  good : answer_at s at ≡ With a status detail (place next)
+  good : answer_at s at ≡ Ok (a, status, detail, place next)
   left : drop next s ≡ []
 
 -- where nothing is left the text is at its end
@@ -116,7 +112,7 @@ module _ (s : List ℕ) where
       record {
         part = record { start = 4; end = f.stop };
         next = f.next;
-        good = sym (number_3 s refl (lit_reads s 0 (bytes ":20:") (line (bytes "B") (digits_of 7 n) ++ rest) h) refl f.good);
+        good = sym (number_is s refl (lit_reads s 0 (bytes ":20:") (line (bytes "B") (digits_of 7 n) ++ rest) h) refl f.good);
         left = f.left;
       }
 
@@ -125,7 +121,7 @@ module _ (s : List ℕ) where
     referred r h =
         let f = empty_found s at (bytes ":77E:") (line (bytes ":21:") (long_text _) ++ rest) h in
         let g = reference_found s f.next (bytes ":21:") r.name rest r.some r.few r.codes r.free (f.left ∙ ap (λ (l : List ℕ). line (bytes ":21:") l ++ rest) (referred_text r)) in
-        record { start = g.start; stop = g.stop; next = g.next; good = sym (reference_2 s at refl f.good refl) ∙ g.good; text = g.text; left = g.left }
+        record { start = g.start; stop = g.stop; next = g.next; good = sym (reference_is s at refl f.good refl) ∙ g.good; text = g.text; left = g.left }
 
     addressed : {stream : ℕ} {bin : Code} → Named stream bin → drop at s ≡ line (bytes ":22A:") (short_text stream) ++ (line (bytes ":119:") (long_text bin) ++ rest) → Addressed s at stream bin rest
     addressed {stream = stream} {bin = bin} n h =
@@ -135,7 +131,7 @@ module _ (s : List ℕ) where
           sp = record { start = f.start; end = f.stop };
           bp = record { start = g.start; end = g.stop };
           next = g.next;
-          good = sym (batch_3 s at refl f.good refl g.good) ∙ ap (λ (v : ℕ). Of (record { stream = record { part = record { start = f.start; end = f.stop }; number = v }; bin = record { part = record { start = g.start; end = g.stop }; number = 0 } }) (place g.next)) (sym n.short);
+          good = sym (batch_is s at refl f.good refl g.good) ∙ ap (λ (v : ℕ). Ok (record { stream = record { part = record { start = f.start; end = f.stop }; number = v }; bin = record { part = record { start = g.start; end = g.stop }; number = 0 } }, place g.next)) (sym n.short);
           code = code_there (record { start = g.start; end = g.stop }) g.text n.long;
           left = g.left;
         }
@@ -160,8 +156,8 @@ module _ (s : List ℕ) where
         status = status;
         detail = record { start = g.start; end = g.stop };
         next = g.next;
-        good = sym (ended_2 s at refl f.good refl
-            (settled_4 s f.next status refl g.good
+        good = sym (ended_settled s at refl f.good refl
+            (settled_is s f.next status refl g.good
             refl (ap (λ (n : ℕ). day_of (n / 1000000)) v ∙ ap day_of (moment_day (date_of day) (hhmmss_of second) ts) ∙ date_back day in-century)
             refl (ap (λ (n : ℕ). second_of (n % 1000000)) v ∙ ap second_of (moment_time (date_of day) (hhmmss_of second) ts) ∙ digits_back second in-day)));
         left = g.left;
@@ -175,7 +171,7 @@ module _ (s : List ℕ) where
         status = status;
         detail = record { start = g.start; end = g.stop };
         next = g.next;
-        good = sym (ended_3 s at refl f.good refl (rejected_2 s f.next status refl g.good));
+        good = sym (ended_rejected s at refl f.good refl (rejected_is s f.next status refl g.good));
         left = g.left;
       }
 
@@ -187,7 +183,7 @@ module _ (s : List ℕ) where
         status = record { start = f.start; end = f.stop };
         detail = no_part;
         next = f.next;
-        good = sym (answer_2 s at refl f.good refl refl);
+        good = sym (answer_recalled s at refl f.good refl refl);
         left = f.left;
       }
   replied at (Kept n) b h =
@@ -198,7 +194,7 @@ module _ (s : List ℕ) where
         status = record { start = f.start; end = f.stop };
         detail = record { start = g.start; end = g.stop };
         next = g.next;
-        good = sym (answer_4 s at refl f.good refl refl g.good);
+        good = sym (answer_kept s at refl f.good refl refl g.good);
         left = g.left;
       }
 
@@ -219,7 +215,7 @@ reads_132 s r k h =
     let b = addressed s i.next _ k.batch i.left in
     let o = closed s b.next r.outcome k.outcome b.left in
     ap (λ (x : ReadResponse). x.reply)
-    (sym (response_3 s refl f.good refl g.good refl (settlement_5 s g.next _ refl i.good refl b.good refl o.good (at_end s o.next o.left) refl)))
+    (sym (response_settlement s refl f.good refl g.good refl (settlement_is s g.next _ refl i.good refl b.good refl o.good (at_end s o.next o.left) refl)))
     ∙ ap (λ (c : Code). Settlement (record { number = r.number; reference = c; stream = r.stream; bin = code_of s b.bp; outcome = r.outcome })) (code_there s _ i.text k.reference.code)
     ∙ ap (λ (c : Code). Settlement (record { number = r.number; reference = r.reference; stream = r.stream; bin = c; outcome = r.outcome })) b.code
 
@@ -232,7 +228,7 @@ reads_134 s r k h =
     let i = referred s g.next _ k.reference g.left in
     let o = replied s i.next r.answer k.answer i.left in
     ap (λ (x : ReadResponse). x.reply)
-    (sym (response_4 s refl f.good refl g.good refl (recall_4 s g.next _ refl i.good refl o.good (at_end s o.next o.left) refl)))
+    (sym (response_recall s refl f.good refl g.good refl (recall_is s g.next _ refl i.good refl o.good (at_end s o.next o.left) refl)))
     ∙ ap (λ (c : Code). Recall (record { number = r.number; reference = c; answer = r.answer })) (code_there s _ i.text k.reference.code)
 
 -- "Their reader wants fields as in a request": what a text can hold is read from it, a 132 and a 134
@@ -244,13 +240,13 @@ recall_reads r h = reads_134 (recall_text r) r (recall_sound r h) refl
 
 -- each response that is written reads back, from the part of the buffer where it was written
 module _ (out : List ℕ) (at : ℕ) {e : ℕ} where
-  pub settlement_reads_back : (r : Response132) → written_if (is_settlement r) out at (settlement_text r) ≡ End e
+  pub settlement_reads_back : (r : Response132) → written_if (is_settlement r) out at (settlement_text r) ≡ Ok e
       → (response_at (take (e - at) (drop at (after_if (is_settlement r) out at (settlement_text r))))).reply ≡ Settlement r
   settlement_reads_back r w =
       let h = written_held (is_settlement r) out at (settlement_text r) w in
       ap (λ (s : List ℕ). (response_at s).reply) (written_whole (is_settlement r) out at (settlement_text r) w) ∙ settlement_reads r h
 
-  pub recall_reads_back : (r : Response134) → written_if (is_recall r) out at (recall_text r) ≡ End e
+  pub recall_reads_back : (r : Response134) → written_if (is_recall r) out at (recall_text r) ≡ Ok e
       → (response_at (take (e - at) (drop at (after_if (is_recall r) out at (recall_text r))))).reply ≡ Recall r
   recall_reads_back r w =
       let h = written_held (is_recall r) out at (recall_text r) w in

@@ -1,11 +1,9 @@
 -- The reading of a response, 132 or 134: "Their reader wants fields as in a request and a true time, and gives 87 at the first break,
 -- 88 for another sub type."
-use Rattle.std.specs.Prelude.{ℕ, ◌/◌, ◌%◌, cond, List, ltb, eqb, length}
+use Rattle.std.specs.Prelude.{ℕ, ◌/◌, ◌%◌, cond, List, ltb, eqb, length, Option, Some, None, Result, Ok, Err}
 use Rattle.chars.specs.Words.{bytes}
 use Rattle.chars.specs.declared.Refusal.TheVariants.{OtherSubType}
 use Rattle.clock.specs.Clock.{second_of}
-use Rattle.clock.specs.declared.Second.{Second}
-use Rattle.clock.specs.declared.Second.TheVariants.{Number as Clocked, Untrue as Unclocked}
 use Rattle.dates.specs.Dates.{day_of}
 use Rattle.text_scan.specs.Scan.{on_next, lit_at}
 use Rattle.text_scan.specs.declared.Cursor.{Cursor}
@@ -14,8 +12,6 @@ use Rattle.text_values.specs.declared.Part.{Part}
 use Rattle.text_fields.specs.Fields.{absent, broken, wrong, item, on_good, field_at}
 use Rattle.text_fields.specs.declared.Break.{Break}
 use Rattle.text_fields.specs.declared.Item.{Item}
-use Rattle.text_fields.specs.declared.Field.{Field}
-use Rattle.text_fields.specs.declared.Field.TheVariants.{Good, Bad}
 use Rattle.text_fields.specs.declared.Kind.TheVariants.{Empty, Reference, Numeral, Word, Bin}
 use Rattle.response_write.specs.declared.Outcome.{Outcome}
 use Rattle.response_write.specs.declared.Outcome.TheVariants.{Settled, Rejected}
@@ -23,12 +19,6 @@ use Rattle.response_write.specs.declared.Answer.{Answer}
 use Rattle.response_write.specs.declared.Answer.TheVariants.{Recalled, Kept}
 use Rattle.response_read.specs.declared.Head.{Head}
 use Rattle.response_read.specs.declared.Batch.{Batch}
-use Rattle.response_read.specs.declared.Batched.{Batched}
-use Rattle.response_read.specs.declared.Batched.TheVariants.{Of, Lost}
-use Rattle.response_read.specs.declared.Ended.{Ended}
-use Rattle.response_read.specs.declared.Ended.TheVariants.{How, Unclear}
-use Rattle.response_read.specs.declared.Answered.{Answered}
-use Rattle.response_read.specs.declared.Answered.TheVariants.{With, Without}
 use Rattle.response_read.specs.declared.Reply.TheVariants.{Settlement, Recall, Refused}
 use Rattle.response_read.specs.declared.Parts.{Parts}
 use Rattle.response_read.specs.declared.ReadResponse.{ReadResponse}
@@ -41,86 +31,73 @@ abbrev pub refused : Break → ReadResponse
 refused b = record { reply = Refused b; parts = no_parts }
 
 -- "20 (`B` and seven digits ..)": the part holds its `B`
-unfoldable pub response_number_at : List ℕ → Field
+unfoldable pub response_number_at : List ℕ → Result (Item × Cursor) Break
 response_number_at s =
-    on_next (lit_at s 0 (bytes ":20:")) (Bad (absent 0)) (λ a.
-    on_good (field_at s a (bytes "B") (Numeral 7)) (λ b. Bad (wrong 0)) (λ i c.
-    Good (item a i.part.end i.number) c))
+    on_next (lit_at s 0 (bytes ":20:")) (Err (absent 0)) (λ a.
+    on_good (field_at s a (bytes "B") (Numeral 7)) (λ b. Err (wrong 0)) (λ i c.
+    Ok (item a i.part.end i.number, c)))
 
 -- "77E, 21 (the request's reference)"
-unfoldable pub request_reference_at : List ℕ → ℕ → Field
+unfoldable pub request_reference_at : List ℕ → ℕ → Result (Item × Cursor) Break
 request_reference_at s at =
-    on_good (field_at s at (bytes ":77E:") Empty) Bad (λ empty c.
+    on_good (field_at s at (bytes ":77E:") Empty) Err (λ empty c.
     field_at s c.at (bytes ":21:") Reference)
 
 -- "22A, 119"
-unfoldable pub batch_at : List ℕ → ℕ → Batched
+unfoldable pub batch_at : List ℕ → ℕ → Result (Batch × Cursor) Break
 batch_at s at =
-    on_good (field_at s at (bytes ":22A:") (Word 4)) Lost (λ stream c.
-    on_good (field_at s c.at (bytes ":119:") (Bin stream.part)) Lost (λ bin d.
-    Of (record { stream = stream; bin = bin }) d))
+    on_good (field_at s at (bytes ":22A:") (Word 4)) Err (λ stream c.
+    on_good (field_at s c.at (bytes ":119:") (Bin stream.part)) Err (λ bin d.
+    Ok (record { stream = stream; bin = bin }, d)))
 
-abbrev pub on_second : {A : Type 0} → Second → A → (ℕ → A) → A
-on_second (Clocked n) d k = k n
-on_second Unclocked d k = d
+abbrev pub on_second : {A : Type 0} → Option ℕ → A → (ℕ → A) → A
+on_second (Some n) d k = k n
+on_second None d k = d
 
 -- "13E (date, HHMMSS)": "a true date of 2000 to 2099" and "a true time"
-unfoldable pub settled_at : List ℕ → ℕ → Part → Ended
+unfoldable pub settled_at : List ℕ → ℕ → Part → Result (Outcome × Part × Part × Cursor) Break
 settled_at s at status =
-    on_good (field_at s at (bytes ":13E:") (Numeral 12)) Unclear (λ i c.
-    on_day (day_of (i.number / 1000000)) (Unclear (wrong at)) (λ day.
-    on_second (second_of (i.number % 1000000)) (Unclear (wrong at)) (λ second.
-    How (Settled day second) status i.part c)))
+    on_good (field_at s at (bytes ":13E:") (Numeral 12)) Err (λ i c.
+    on_day (day_of (i.number / 1000000)) (Err (wrong at)) (λ day.
+    on_second (second_of (i.number % 1000000)) (Err (wrong at)) (λ second.
+    Ok (Settled day second, status, i.part, c))))
 
 -- "432 (two digits)"
-unfoldable pub rejected_at : List ℕ → ℕ → Part → Ended
+unfoldable pub rejected_at : List ℕ → ℕ → Part → Result (Outcome × Part × Part × Cursor) Break
 rejected_at s at status =
-    on_good (field_at s at (bytes ":432:") (Numeral 2)) Unclear (λ i c.
-    How (Rejected i.number) status i.part c)
+    on_good (field_at s at (bytes ":432:") (Numeral 2)) Err (λ i c.
+    Ok (Rejected i.number, status, i.part, c))
 
 -- "451 (0 or 1)": what follows after 0, after 1, and after another digit
 abbrev pub by_status : {A : Type 0} → ℕ → A → A → A → A
 by_status n zero one other = cond (eqb n 0) zero (cond (eqb n 1) one other)
 
 -- of a 132: "451 (0 or 1), then 13E after 0 or 432 after 1"
-unfoldable pub ended_at : List ℕ → ℕ → Ended
+unfoldable pub ended_at : List ℕ → ℕ → Result (Outcome × Part × Part × Cursor) Break
 ended_at s at =
-    on_good (field_at s at (bytes ":451:") (Numeral 1)) Unclear (λ i c.
-    by_status i.number (settled_at s c.at i.part) (rejected_at s c.at i.part) (Unclear (wrong at)))
+    on_good (field_at s at (bytes ":451:") (Numeral 1)) Err (λ i c.
+    by_status i.number (settled_at s c.at i.part) (rejected_at s c.at i.part) (Err (wrong at)))
 
 -- of a 134: "451, and 432 after 1"
-unfoldable pub answer_at : List ℕ → ℕ → Answered
+unfoldable pub answer_at : List ℕ → ℕ → Result (Answer × Part × Part × Cursor) Break
 answer_at s at =
-    on_good (field_at s at (bytes ":451:") (Numeral 1)) Without (λ i c.
+    on_good (field_at s at (bytes ":451:") (Numeral 1)) Err (λ i c.
     by_status i.number
-    (With Recalled i.part no_part c)
-    (on_good (field_at s c.at (bytes ":432:") (Numeral 2)) Without (λ n d. With (Kept n.number) i.part n.part d))
-    (Without (wrong at)))
+    (Ok (Recalled, i.part, no_part, c))
+    (on_good (field_at s c.at (bytes ":432:") (Numeral 2)) Err (λ n d. Ok (Kept n.number, i.part, n.part, d)))
+    (Err (wrong at)))
 
-abbrev pub on_of : {A : Type 0} → Batched → (Break → A) → (Batch → Cursor → A) → A
-on_of (Of b c) d k = k b c
-on_of (Lost b) d k = d b
+abbrev pub on_of : {A : Type 0} → Result (Batch × Cursor) Break → (Break → A) → (Batch → Cursor → A) → A
+on_of (Ok (b, c)) d k = k b c
+on_of (Err b) d k = d b
 
-abbrev pub on_how : {A : Type 0} → Ended → (Break → A) → (Outcome → Part → Part → Cursor → A) → A
-on_how (How o p q c) d k = k o p q c
-on_how (Unclear b) d k = d b
+abbrev pub on_how : {A : Type 0} → Result (Outcome × Part × Part × Cursor) Break → (Break → A) → (Outcome → Part → Part → Cursor → A) → A
+on_how (Ok (o, p, q, c)) d k = k o p q c
+on_how (Err b) d k = d b
 
-abbrev pub on_with : {A : Type 0} → Answered → (Break → A) → (Answer → Part → Part → Cursor → A) → A
-on_with (With a p q c) d k = k a p q c
-on_with (Without b) d k = d b
-
--- what a step broke on
-abbrev pub why_lost : Batched → Break
-why_lost (Of b c) = absent 0
-why_lost (Lost b) = b
-
-abbrev pub why_unclear : Ended → Break
-why_unclear (How o p q c) = absent 0
-why_unclear (Unclear b) = b
-
-abbrev pub why_without : Answered → Break
-why_without (With a p q c) = absent 0
-why_without (Without b) = b
+abbrev pub on_with : {A : Type 0} → Result (Answer × Part × Part × Cursor) Break → (Break → A) → (Answer → Part → Part → Cursor → A) → A
+on_with (Ok (a, p, q, c)) d k = k a p q c
+on_with (Err b) d k = d b
 
 -- nothing may follow the last field
 abbrev pub ending : List ℕ → ℕ → ReadResponse → ReadResponse

@@ -1,15 +1,11 @@
 -- The lines of a response: their lengths, and how the pieces that are written make them up.
-use Prim.Native.Nat.{ℕ, ◌+◌, ◌-◌, ◌≤◌, ◌<◌}
-use mathlib.Core.Path.{◌≡◌, refl, sym, ◌∙◌}
-use mathlib.Core.Bool.{Bool, true, false, not}
-use mathlib.Core.List.{List, [], ◌++◌, append_assoc}
+use Prim.Native.Nat.{ℕ, ◌+◌, ◌≤◌}
+use mathlib.Core.Path.{◌≡◌, refl}
+use mathlib.Core.List.{List, ◌++◌, append_assoc}
 use native.Mathlib.Omega.{arith}
-use borrow.Author.Tests.{le-leb, lt-leb, leb-true, leb-false, not-true, not-false}
-use lib.Dec.{leb}
 use lib.ListN.{length, length-append}
 use lib.Seq.{sets}
-use Rattle.chars.specs.Words.{bytes, crlf, line}
-use Rattle.chars.specs.declared.Refusal.TheVariants.{ShortBuffer}
+use Rattle.chars.specs.Words.{bytes, crlf}
 use Rattle.codes.specs.Codes.{short_text, long_text}
 use Rattle.codes.specs.declared.Code.{Code}
 use Rattle.codes.proofs.Laws.{unpack_length}
@@ -17,14 +13,13 @@ use Rattle.dates.specs.Dates.{date_of}
 use Rattle.clock.specs.Clock.{hhmmss_of}
 use Rattle.text_put.specs.Digits.{digits_of}
 use Rattle.text_put.proofs.Laws.{then, three, digits_length}
-use Rattle.response_write.specs.Texts.{head_text, batch_text, settled_text, rejected_text, outcome_text, settlement_text, answer_text, recall_text, written, after}
+use Rattle.response_write.specs.Texts.{head_text, batch_text, settled_text, rejected_text, outcome_text, settlement_text, answer_text, recall_text}
 use Rattle.response_write.specs.declared.Outcome.{Outcome}
 use Rattle.response_write.specs.declared.Outcome.TheVariants.{Settled, Rejected}
 use Rattle.response_write.specs.declared.Answer.{Answer}
 use Rattle.response_write.specs.declared.Answer.TheVariants.{Recalled, Kept}
 use Rattle.response_write.specs.declared.Settlement.{Settlement}
 use Rattle.response_write.specs.declared.Recall.{Recall}
-use Rattle.response_write.specs.declared.Written.TheVariants.{End, Unfit}
 
 -- ---- lengths
 
@@ -50,28 +45,9 @@ rejected_length number = simp (length-append, digits_length)
 
 -- ---- pieces
 
-pub sub_type_pieces : (d : List ℕ) → bytes ":12:" ++ (d ++ bytes "\r\n:77E:\r\n") ≡ line (bytes ":12:") d ++ line (bytes ":77E:") []
-sub_type_pieces d = simp append_assoc
-
 pub settled_pieces : (day second : ℕ) → (bytes ":451:0\r\n:13E:" ++ (digits_of 6 (date_of day) ++ digits_of 6 (hhmmss_of second))) ++ crlf ≡ settled_text day second
 unfolding settled_text
 settled_pieces day second = simp append_assoc
-
-pub head_pieces : (number kind : ℕ) (reference : Code) → line (bytes ":20:B") (digits_of 7 number) ++ ((line (bytes ":12:") (digits_of 3 kind) ++ line (bytes ":77E:") []) ++ line (bytes ":21:") (long_text reference)) ≡ head_text number kind reference
-unfolding head_text
-head_pieces number kind reference = simp append_assoc
-
--- ---- room
-
-pub room_short : (at n k : ℕ) → k < n → false ≡ leb (at + n) k
-room_short at n k h = sym (lt-leb (at + n) k (omega arith))
-
-pub room_same : (at n k : ℕ) → n ≤ k → leb at (k - n) ≡ leb (at + n) k
-room_same at n k h = go (leb at (k - n)) refl
-  where
-    go : (t : Bool) → leb at (k - n) ≡ t → leb at (k - n) ≡ leb (at + n) k
-    go true e = e ∙ sym (le-leb (at + n) k (omega (arith, leb-true at (k - n) e)))
-    go false e = e ∙ sym (lt-leb (at + n) k (omega (arith, leb-false at (k - n) e)))
 
 -- ---- how a text ends
 
@@ -86,21 +62,6 @@ recalled_end a e = rw e
 
 pub kept_end : (a : Answer) {n : ℕ} → a ≡ Kept n → length (answer_text a) ≡ 17
 kept_end a {n = n} e = rw e (rejected_length n)
-
--- a text that fits is written whole
-module _ (out text : List ℕ) (at : ℕ) {k : ℕ} {b : Bool} (room : b ≡ leb (at + k) (length out)) (size : k ≡ length text) where
-  pub room_enough : not b ≡ false → at + k ≤ length out
-  room_enough h = leb-true (at + k) (length out) (sym room ∙ not-false b h)
-
-  pub no_room : not b ≡ true → (Unfit ShortBuffer ≡ written out at text) × (out ≡ after out at text)
-  no_room h =
-      let e : leb (at + length text) (length out) ≡ false = rw (← size) (sym room ∙ not-true b h) in
-      (simp e, simp e)
-
-  pub enough : {o : List ℕ} {e : ℕ} → not b ≡ false → e ≡ at + length text → o ≡ sets out at text → (End e ≡ written out at text) × (o ≡ after out at text)
-  enough h z p =
-      let f : leb (at + length text) (length out) ≡ true = rw (← size) (sym room ∙ not-false b h) in
-      (simp (f, z), simp f p)
 
 pub settlement_length : (r : Settlement) {n m k : ℕ} → n ≡ length (long_text r.reference) → m ≡ length (long_text r.bin) → k ≡ length (outcome_text r.outcome)
     → 36 + n + (18 + m) + k ≡ length (settlement_text r)

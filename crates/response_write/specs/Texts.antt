@@ -1,5 +1,6 @@
 -- The texts of responses, line by line as document 01 has them.
-use Rattle.std.specs.Prelude.{ℕ, ◌+◌, Bool, cond, List, [], ◌++◌, leb, length}
+use Rattle.chars.specs.declared.Refusal.{Refusal}
+use Rattle.std.specs.Prelude.{ℕ, ◌+◌, Bool, cond, List, [], ◌++◌, leb, length, Result, Ok, Err}
 use Rattle.std.proofs.lemmas.List.Edits.{sets}
 use Rattle.chars.specs.Words.{bytes, line}
 use Rattle.chars.specs.declared.Refusal.TheVariants.{ShortBuffer}
@@ -14,8 +15,6 @@ use Rattle.response_write.specs.declared.Answer.{Answer}
 use Rattle.response_write.specs.declared.Answer.TheVariants.{Recalled, Kept}
 use Rattle.response_write.specs.declared.Settlement.{Settlement}
 use Rattle.response_write.specs.declared.Recall.{Recall}
-use Rattle.response_write.specs.declared.Written.{Written}
-use Rattle.response_write.specs.declared.Written.TheVariants.{End, Unfit}
 
 -- "20 (`B` and seven digits ..), 12, 77E, 21 (the request's reference)"
 unfoldable pub head_text : ℕ → ℕ → Code → List ℕ
@@ -58,8 +57,8 @@ recall_text r = head_text r.number 134 r.reference ++ answer_text r.answer
 abbrev pub fits : List ℕ → ℕ → List ℕ → Bool
 fits out at text = leb (at + length text) (length out)
 
-abbrev pub written : List ℕ → ℕ → List ℕ → Written
-written out at text = cond (fits out at text) (End (at + length text)) (Unfit ShortBuffer)
+abbrev pub written : List ℕ → ℕ → List ℕ → Result ℕ Refusal
+written out at text = cond (fits out at text) (Ok (at + length text)) (Err ShortBuffer)
 
 abbrev pub after : List ℕ → ℕ → List ℕ → List ℕ
 after out at text = cond (fits out at text) (sets out at text) out

@@ -1,5 +1,6 @@
 -- The responses that a text can hold: those that its reader would take.
-use Rattle.std.specs.Prelude.{ℕ, ◌≡◌, Bool, true, ◌&&◌, cond, List, eqb, ltb}
+use Rattle.chars.specs.declared.Refusal.{Refusal}
+use Rattle.std.specs.Prelude.{ℕ, ◌≡◌, Bool, true, ◌&&◌, cond, List, eqb, ltb, Result, Err}
 use Rattle.chars.specs.declared.Refusal.TheVariants.{Malformed}
 use Rattle.clock.specs.Clock.{seconds_of_day}
 use Rattle.dates.specs.Dates.{days_of_century}
@@ -11,8 +12,6 @@ use Rattle.response_write.specs.declared.Answer.{Answer}
 use Rattle.response_write.specs.declared.Answer.TheVariants.{Recalled, Kept}
 use Rattle.response_write.specs.declared.Settlement.{Settlement}
 use Rattle.response_write.specs.declared.Recall.{Recall}
-use Rattle.response_write.specs.declared.Written.{Written}
-use Rattle.response_write.specs.declared.Written.TheVariants.{Unfit}
 
 -- "seven digits"
 abbrev pub is_number : ℕ → Bool
@@ -45,12 +44,12 @@ unfoldable pub is_recall : Recall → Bool
 is_recall r = is_number r.number && (is_reference r.reference && is_answer r.answer)
 
 -- what no text can hold is 87, and nothing is written
-abbrev pub written_if : Bool → List ℕ → ℕ → List ℕ → Written
-written_if holds out at text = cond holds (written out at text) (Unfit Malformed)
+abbrev pub written_if : Bool → List ℕ → ℕ → List ℕ → Result ℕ Refusal
+written_if holds out at text = cond holds (written out at text) (Err Malformed)
 
 abbrev pub after_if : Bool → List ℕ → ℕ → List ℕ → List ℕ
 after_if holds out at text = cond holds (after out at text) out
 
 -- what a writer answers and leaves of a text
-abbrev pub Wrote : Bool → List ℕ → ℕ → List ℕ → Written → List ℕ → Type 0
+abbrev pub Wrote : Bool → List ℕ → ℕ → List ℕ → Result ℕ Refusal → List ℕ → Type 0
 Wrote holds out at text w o = (w ≡ written_if holds out at text) × (o ≡ after_if holds out at text)

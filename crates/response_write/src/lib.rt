@@ -13,7 +13,7 @@ use chars::Refusal;
 use clock::Clock;
 use codes::Code;
 
-// How a batch ended: settled on a day at a second of it, or rejected with a number.
+// How a batch ended: settled on a day at a second of it, or rejected with a number. Kept an enum: a rejection is no error of the writer.
 #[derive(Clone, Copy)]
 pub enum Outcome {
     Settled(u64, u64),
@@ -30,7 +30,7 @@ pub struct Settlement {
     pub outcome: Outcome,
 }
 
-// How a recall ended: the batch is recalled, or nothing was, with a number.
+// How a recall ended: the batch is recalled, or nothing was, with a number. Kept an enum: that is no error of the writer.
 #[derive(Clone, Copy)]
 pub enum Answer {
     Recalled,
@@ -43,13 +43,6 @@ pub struct Recall {
     pub number: u64,
     pub reference: Code,
     pub answer: Answer,
-}
-
-// The place after a written text, or why none was written.
-#[derive(Clone, Copy)]
-pub enum Written {
-    End(usize),
-    Unfit(Refusal),
 }
 
 // A tag of two characters between its colons, one of three, and CR LF.
@@ -72,19 +65,19 @@ const STATUS: usize = 1;
 
 const REFUSAL: usize = 2;
 
-// In the line of each: the number, which a `B` stands before, and the ends of it, of the sub type and of the stream.
-const NUMBER_AT: usize = SHORT_TAG + 1;
-
-const NUMBER_END: usize = NUMBER_AT + NUMBER;
+// In the line of each: the ends of the number, which a `B` stands before, of the sub type and of the stream.
+const NUMBER_END: usize = SHORT_TAG + 1 + NUMBER;
 
 const SUB_TYPE_END: usize = SHORT_TAG + SUB_TYPE;
 
 const STREAM_END: usize = TAG + Code::SHORT;
 
-// The head is 20, 12, 77E and 21: where 12 and 21 begin in it, and how long it is without the reference.
+// The head is 20, 12, 77E and 21: where 12, 77E and 21 begin in it, and how long it is without the reference.
 const SUB_TYPE_AT: usize = NUMBER_END + LINE_END;
 
-const REFERENCE_AT: usize = SUB_TYPE_AT + SUB_TYPE_END + LINE_END + TAG + LINE_END;
+const EMPTY_AT: usize = SUB_TYPE_AT + SUB_TYPE_END + LINE_END;
+
+const REFERENCE_AT: usize = EMPTY_AT + TAG + LINE_END;
 
 const HEAD: usize = REFERENCE_AT + SHORT_TAG + LINE_END;
 
@@ -93,7 +86,7 @@ const BIN_AT: usize = STREAM_END + LINE_END;
 
 const BATCH: usize = BIN_AT + TAG + LINE_END;
 
-// The end is 451 alone, or 451 and 13E, or 451 and 432: how long each is, and where the second value stands in it.
+// The end is 451 alone, or 451 and 13E, or 451 and 432: how long each is, and where the date and the time stand in it.
 const RECALLED: usize = TAG + STATUS + LINE_END;
 
 const DATE_AT: usize = RECALLED + TAG;
@@ -104,11 +97,7 @@ const TIME_END: usize = TIME_AT + TIME;
 
 const SETTLED: usize = TIME_END + LINE_END;
 
-const REFUSAL_AT: usize = RECALLED + TAG;
-
-const REFUSAL_END: usize = REFUSAL_AT + REFUSAL;
-
-const REJECTED: usize = REFUSAL_END + LINE_END;
+const REJECTED: usize = RECALLED + TAG + REFUSAL + LINE_END;
 
 // How many characters a BIN has.
 const BIN: usize = 8;
@@ -130,34 +119,24 @@ const SETTLEMENT: u64 = 132;
 
 const RECALL: u64 = 134;
 
-// 20: the number of the response.
-fn put_number(out: &mut [u8], at: usize, number: u64)
-    requires { at + 14 ≤ length out.old }
-    ensures { out.new ≡ sets out.old at (line (bytes ":20:B") (digits_of 7 number)) }
+// A line of a tag and the last k digits of a number.
+fn put_digits(out: &mut [u8], at: usize, tag: &[u8], v: u64, k: usize)
+    requires { at + (length tag.now + (k + 2)) ≤ length out.old }
+    ensures { out.new ≡ sets out.old at (line tag.now (digits_of k v)) }
 {
-    text_put::bytes(out, at, b":20:B");
-    text_put::digits(out, at + NUMBER_AT, number, NUMBER);
-    text_put::bytes(out, at + NUMBER_END, b"\r\n");
+    text_put::bytes(out, at, tag);
+    text_put::digits(out, at + tag.len(), v, k);
+    text_put::bytes(out, at + tag.len() + k, b"\r\n");
 }
 
-// 12 and 77E.
-fn put_sub_type(out: &mut [u8], at: usize, kind: u64)
-    requires { at + 16 ≤ length out.old }
-    ensures { out.new ≡ sets out.old at (line (bytes ":12:") (digits_of 3 kind) ++ line (bytes ":77E:") []) }
+// A line of a tag and a code of n characters.
+fn put_code(out: &mut [u8], at: usize, tag: &[u8], code: Code, n: usize)
+    requires { (n ≡ length (long_text code)) × (at + (length tag.now + (n + 2)) ≤ length out.old) }
+    ensures { out.new ≡ sets out.old at (line tag.now (long_text code)) }
 {
-    text_put::bytes(out, at, b":12:");
-    text_put::digits(out, at + SHORT_TAG, kind, SUB_TYPE);
-    text_put::bytes(out, at + SUB_TYPE_END, b"\r\n:77E:\r\n");
-}
-
-// 21: the reference of the request.
-fn put_reference(out: &mut [u8], at: usize, reference: Code, n: usize)
-    requires { (n ≡ length (long_text reference)) × (at + (6 + n) ≤ length out.old) }
-    ensures { out.new ≡ sets out.old at (line (bytes ":21:") (long_text reference)) }
-{
-    text_put::bytes(out, at, b":21:");
-    text_put::long_code(out, at + SHORT_TAG, reference);
-    text_put::bytes(out, at + SHORT_TAG + n, b"\r\n");
+    text_put::bytes(out, at, tag);
+    text_put::long_code(out, at + tag.len(), code);
+    text_put::bytes(out, at + tag.len() + n, b"\r\n");
 }
 
 // 22A: the stream.
@@ -168,16 +147,6 @@ fn put_stream(out: &mut [u8], at: usize, stream: u64)
     text_put::bytes(out, at, b":22A:");
     text_put::short_code(out, at + TAG, stream);
     text_put::bytes(out, at + STREAM_END, b"\r\n");
-}
-
-// 119: the BIN.
-fn put_bin(out: &mut [u8], at: usize, bin: Code, n: usize)
-    requires { (n ≡ length (long_text bin)) × (at + (7 + n) ≤ length out.old) }
-    ensures { out.new ≡ sets out.old at (line (bytes ":119:") (long_text bin)) }
-{
-    text_put::bytes(out, at, b":119:");
-    text_put::long_code(out, at + TAG, bin);
-    text_put::bytes(out, at + TAG + n, b"\r\n");
 }
 
 // 451 and 13E of a settled batch.
@@ -192,13 +161,13 @@ fn put_settled(out: &mut [u8], at: usize, day: u64, second: u64)
 }
 
 // 451 and 432 of a refusal.
+#[tactic(auto, using(text_put::proofs::Laws::then), unfolding(crate::specs::Texts::rejected_text))]
 fn put_rejected(out: &mut [u8], at: usize, number: u64)
     requires { at + 17 ≤ length out.old }
     ensures { out.new ≡ sets out.old at (rejected_text number) }
 {
-    text_put::bytes(out, at, b":451:1\r\n:432:");
-    text_put::digits(out, at + REFUSAL_AT, number, REFUSAL);
-    text_put::bytes(out, at + REFUSAL_END, b"\r\n");
+    text_put::bytes(out, at, b":451:1\r\n");
+    put_digits(out, at + RECALLED, b":432:", number, REFUSAL);
 }
 
 // The lines that both responses begin with; n is the length of the reference.
@@ -206,9 +175,10 @@ fn put_head(out: &mut [u8], at: usize, number: u64, kind: u64, reference: Code, 
     requires { (n ≡ length (long_text reference)) × (at + (36 + n) ≤ length out.old) }
     ensures { out.new ≡ sets out.old at (head_text number kind reference) }
 {
-    put_number(out, at, number);
-    put_sub_type(out, at + SUB_TYPE_AT, kind);
-    put_reference(out, at + REFERENCE_AT, reference, n);
+    put_digits(out, at, b":20:B", number, NUMBER);
+    put_digits(out, at + SUB_TYPE_AT, b":12:", kind, SUB_TYPE);
+    text_put::bytes(out, at + EMPTY_AT, b":77E:\r\n");
+    put_code(out, at + REFERENCE_AT, b":21:", reference, n);
 }
 
 fn put_batch(out: &mut [u8], at: usize, stream: u64, bin: Code, n: usize)
@@ -216,20 +186,18 @@ fn put_batch(out: &mut [u8], at: usize, stream: u64, bin: Code, n: usize)
     ensures { out.new ≡ sets out.old at (batch_text stream bin) }
 {
     put_stream(out, at, stream);
-    put_bin(out, at + BIN_AT, bin, n);
+    put_code(out, at + BIN_AT, b":119:", bin, n);
 }
 
 // Whether n bytes fit from a place on.
 fn has_room(out: &[u8], at: usize, n: usize) -> bool
     ensures { result ≡ leb (at + n) (length out.now) }
 {
-    if out.len() < n {
-        return false;
-    }
-    at <= out.len() - n
+    n <= out.len() && at <= out.len() - n
 }
 
 // The lines that tell how a batch ended.
+#[tactic(auto, using(crate::proofs::Laws::settled_end, crate::proofs::Laws::rejected_end))]
 fn put_outcome(out: &mut [u8], at: usize, outcome: Outcome)
     requires { at + length (outcome_text outcome) ≤ length out.old }
     ensures { out.new ≡ sets out.old at (outcome_text outcome) }
@@ -240,6 +208,7 @@ fn put_outcome(out: &mut [u8], at: usize, outcome: Outcome)
     }
 }
 
+#[tactic(auto, using(crate::proofs::Laws::settled_length, crate::proofs::Laws::rejected_length))]
 fn outcome_length(outcome: Outcome) -> usize
     ensures value { result ≡ length (outcome_text outcome) }
     ensures small { result ≤ 27 }
@@ -251,16 +220,15 @@ fn outcome_length(outcome: Outcome) -> usize
 }
 
 // How long a 132 is.
+#[tactic(auto, using(crate::proofs::Laws::settlement_length))]
 fn settlement_length(r: Settlement) -> usize
     ensures { result ≡ length (settlement_text r) }
 {
-    let n = r.reference.len();
-    let m = r.bin.len();
-    let outcome = r.outcome;
-    HEAD + n + (BATCH + m) + outcome_length(outcome)
+    HEAD + r.reference.len() + (BATCH + r.bin.len()) + outcome_length(r.outcome)
 }
 
 // 132 into a buffer that has room for it; the place after it.
+#[tactic(auto, using(crate::proofs::Laws::settlement_length, crate::proofs::Laws::settlement_pieces))]
 pub fn put_settlement(out: &mut [u8], at: usize, r: Settlement) -> usize
     requires { at + length (settlement_text r) ≤ length out.old }
     ensures { (result ≡ at + length (settlement_text r)) × (out.new ≡ sets out.old at (settlement_text r)) }
@@ -269,15 +237,15 @@ pub fn put_settlement(out: &mut [u8], at: usize, r: Settlement) -> usize
     let m = r.bin.len();
     let b = HEAD + n;
     let e = b + (BATCH + m);
-    let outcome = r.outcome;
-    let k = e + outcome_length(outcome);
+    let k = e + outcome_length(r.outcome);
     put_head(out, at, r.number, SETTLEMENT, r.reference, n);
     put_batch(out, at + b, r.stream, r.bin, m);
-    put_outcome(out, at + e, outcome);
+    put_outcome(out, at + e, r.outcome);
     at + k
 }
 
 // "13E (date, HHMMSS) after 0 or 432 (two digits) after 1"
+#[tactic(auto, unfolding(crate::specs::Values::is_outcome))]
 fn is_outcome(outcome: Outcome) -> bool
     ensures { result ≡ is_outcome outcome }
 {
@@ -288,40 +256,32 @@ fn is_outcome(outcome: Outcome) -> bool
 }
 
 // Whether a text can hold a 132.
+#[tactic(auto, unfolding(crate::specs::Values::is_settlement))]
 fn is_settlement(r: Settlement) -> bool
     ensures { result ≡ is_settlement r }
 {
-    if NUMBERS <= r.number {
-        return false;
-    }
-    if !text_names::rules::is_reference(r.reference) {
-        return false;
-    }
-    if !text_names::rules::is_bin(r.bin) {
-        return false;
-    }
-    if r.stream != text_names::rules::stream_of(r.bin) {
-        return false;
-    }
-    let outcome = r.outcome;
-    is_outcome(outcome)
+    r.number < NUMBERS
+        && text_names::rules::is_reference(r.reference)
+        && text_names::rules::is_bin(r.bin)
+        && r.stream == text_names::rules::stream_of(r.bin)
+        && is_outcome(r.outcome)
 }
 
 // 132: written whole from a place on, or not at all: 87 for what no text can hold, then 07.
-pub fn write_settlement(out: &mut [u8], at: usize, r: Settlement) -> Written
+pub fn write_settlement(out: &mut [u8], at: usize, r: Settlement) -> Result<usize, Refusal>
     ensures { Wrote (is_settlement r) out.old at (settlement_text r) result out.new }
 {
     if !is_settlement(r) {
-        return Written::Unfit(Refusal::Malformed);
+        return Err(Refusal::Malformed);
     }
-    let k = settlement_length(r);
-    if !has_room(out, at, k) {
-        return Written::Unfit(Refusal::ShortBuffer);
+    if !has_room(out, at, settlement_length(r)) {
+        return Err(Refusal::ShortBuffer);
     }
-    Written::End(put_settlement(out, at, r))
+    Ok(put_settlement(out, at, r))
 }
 
 // The lines that tell how a recall ended.
+#[tactic(auto, using(crate::proofs::Laws::kept_end))]
 fn put_answer(out: &mut [u8], at: usize, answer: Answer)
     requires { at + length (answer_text answer) ≤ length out.old }
     ensures { out.new ≡ sets out.old at (answer_text answer) }
@@ -332,6 +292,7 @@ fn put_answer(out: &mut [u8], at: usize, answer: Answer)
     }
 }
 
+#[tactic(auto, using(crate::proofs::Laws::rejected_length))]
 fn answer_length(answer: Answer) -> usize
     ensures value { result ≡ length (answer_text answer) }
     ensures small { result ≤ 17 }
@@ -343,29 +304,29 @@ fn answer_length(answer: Answer) -> usize
 }
 
 // How long a 134 is.
+#[tactic(auto, using(crate::proofs::Laws::recall_length))]
 fn recall_length(r: Recall) -> usize
     ensures { result ≡ length (recall_text r) }
 {
-    let n = r.reference.len();
-    let answer = r.answer;
-    HEAD + n + answer_length(answer)
+    HEAD + r.reference.len() + answer_length(r.answer)
 }
 
 // 134 into a buffer that has room for it; the place after it.
+#[tactic(auto, using(crate::proofs::Laws::recall_length, crate::proofs::Laws::recall_pieces))]
 pub fn put_recall(out: &mut [u8], at: usize, r: Recall) -> usize
     requires { at + length (recall_text r) ≤ length out.old }
     ensures { (result ≡ at + length (recall_text r)) × (out.new ≡ sets out.old at (recall_text r)) }
 {
     let n = r.reference.len();
     let b = HEAD + n;
-    let answer = r.answer;
-    let k = b + answer_length(answer);
+    let k = b + answer_length(r.answer);
     put_head(out, at, r.number, RECALL, r.reference, n);
-    put_answer(out, at + b, answer);
+    put_answer(out, at + b, r.answer);
     at + k
 }
 
 // "and 432 after 1"
+#[tactic(auto, unfolding(crate::specs::Values::is_answer))]
 fn is_answer(answer: Answer) -> bool
     ensures { result ≡ is_answer answer }
 {
@@ -376,29 +337,23 @@ fn is_answer(answer: Answer) -> bool
 }
 
 // Whether a text can hold a 134.
+#[tactic(auto, unfolding(crate::specs::Values::is_recall))]
 fn is_recall(r: Recall) -> bool
     ensures { result ≡ is_recall r }
 {
-    if NUMBERS <= r.number {
-        return false;
-    }
-    if !text_names::rules::is_reference(r.reference) {
-        return false;
-    }
-    let answer = r.answer;
-    is_answer(answer)
+    r.number < NUMBERS && text_names::rules::is_reference(r.reference) && is_answer(r.answer)
 }
 
 // 134: written whole from a place on, or not at all: 87 for what no text can hold, then 07.
-pub fn write_recall(out: &mut [u8], at: usize, r: Recall) -> Written
+// Kept beside `write_settlement`: one function would be passed the test, the length and the writer of each.
+pub fn write_recall(out: &mut [u8], at: usize, r: Recall) -> Result<usize, Refusal>
     ensures { Wrote (is_recall r) out.old at (recall_text r) result out.new }
 {
     if !is_recall(r) {
-        return Written::Unfit(Refusal::Malformed);
+        return Err(Refusal::Malformed);
     }
-    let k = recall_length(r);
-    if !has_room(out, at, k) {
-        return Written::Unfit(Refusal::ShortBuffer);
+    if !has_room(out, at, recall_length(r)) {
+        return Err(Refusal::ShortBuffer);
     }
-    Written::End(put_recall(out, at, r))
+    Ok(put_recall(out, at, r))
 }

@@ -2,29 +2,12 @@
 // day number, and whether it is the same after it was read and written again.
 #![tactic(auto)]
 
-ghost use Rattle.std.specs.Prelude.{◌<◌};
-
-use book_read::{Answer, Reading};
-use book_write::Writing;
 use std::io;
-use std::io::{ErrorKind, Read};
+use std::io::Read;
 
 // Whether the first n bytes of a buffer are a book.
 fn same(a: &[u8], n: usize, b: &[u8]) -> bool {
-    if a.len() < n {
-        return false;
-    }
-    if b.len() != n {
-        return false;
-    }
-    let mut i = 0;
-    while i < n {
-        if a[i] != b[i] {
-            return false;
-        }
-        i += 1;
-    }
-    true
+    n <= a.len() && &a[..n] == b
 }
 
 // The line of a sound book.
@@ -34,7 +17,7 @@ fn tell_sound(line: &mut [u8], text: &[u8]) {
     let mut flags = [0u64; 64];
     let mut balances = [0u64; 64];
     let mut sublimits = [0u64; 64];
-    let Reading::Held(b) = book_read::read(
+    let Ok(b) = book_read::read(
         text,
         &mut streams,
         &mut codes,
@@ -48,9 +31,8 @@ fn tell_sound(line: &mut [u8], text: &[u8]) {
     text_put::digits(line, 6, b.streams as u64, 2);
     text_put::digits(line, 9, b.day, 5);
     let mut out = [0u8; 2560];
-    let Writing::Written(n) = book_write::write(
-        &mut out, b, &streams, &codes, &flags, &balances, &sublimits,
-    ) else {
+    let Ok(n) = book_write::write(&mut out, b, &streams, &codes, &flags, &balances, &sublimits)
+    else {
         return;
     };
     if same(&out, n, text) {
@@ -62,61 +44,44 @@ fn tell(rt: &impl Print, text: &[u8]) -> io::Result<()> {
     let mut line = [b' '; 20];
     line[19] = b'\n';
     match book_read::check(text) {
-        Answer::Sound => {
+        Ok(()) => {
             text_put::digits(&mut line, 0, 0, 2);
             tell_sound(&mut line, text);
             rt.write_all(&line)
         }
-        Answer::Fault(f) => {
+        Err(f) => {
             text_put::digits(&mut line, 0, f.number(), 2);
             rt.write_all(&line)
         }
     }
 }
 
-// Whether the input had as many bytes more as the buffer; what it had stands at the beginning.
-fn take_all(from: &mut impl Read, buf: &mut [u8]) -> io::Result<bool> {
-    match from.read_exact(buf) {
-        Ok(()) => Ok(true),
-        Err(why) if why.kind() == ErrorKind::UnexpectedEof => Ok(false),
-        Err(why) => Err(why),
-    }
-}
-
 // One book of the length of a buffer.
 fn tell_read(rt: &impl Print, from: &mut impl Read, text: &mut [u8]) -> io::Result<()> {
-    take_all(from, text)?;
+    cli_files::take_all(from, text)?;
     tell(rt, text)
 }
 
 // One book, if there is one more.
 fn tell_next(rt: &impl Print, from: &mut impl Read) -> io::Result<bool> {
     let mut head = [0u8; 2];
-    if !take_all(from, &mut head)? {
+    if !cli_files::take_all(from, &mut head)? {
         return Ok(false);
     }
-    let n = wide(head[0]) + 256 * wide(head[1]);
-    if 4096 < n {
-        return Ok(false);
-    }
+    let n = usize::from(u16::from_le_bytes(head));
     let mut text = [0u8; 4096];
-    tell_read(rt, from, &mut text[..n])?;
+    let Some(book) = text.get_mut(..n) else {
+        return Ok(false);
+    };
+    tell_read(rt, from, book)?;
     Ok(true)
 }
 
-fn wide(b: u8) -> usize
-    ensures { result < 256 }
-{
-    b as usize
-}
-
 fn main(rt: HostRuntime) -> io::Result<()> {
-    let mut left: u64 = 1000;
-    while left > 0 {
+    for _ in 0..1000 {
         if !tell_next(&rt, &mut rt.stdin())? {
             return Ok(());
         }
-        left -= 1;
     }
     Ok(())
 }

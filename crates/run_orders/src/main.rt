@@ -8,12 +8,12 @@
 
 ghost use Rattle.std.specs.Prelude.{◌≤◌};
 
+use chars::Refusal;
 use codes::Code;
 use request_read::terms::Activation;
 use request_write::{Order, Payable, Side};
-use response_write::Written;
 use std::io;
-use std::io::{ErrorKind, Read};
+use std::io::Read;
 
 const RECORD: usize = 717;
 
@@ -57,10 +57,8 @@ fn lines(s: &[u8]) -> [Payable; 10] {
         bank: 0,
     };
     let mut all = [none; 10];
-    let mut i = 0;
-    while i < 10 {
-        all[i] = line(s, 176 + 54 * i);
-        i += 1;
+    for (i, payable) in all.iter_mut().enumerate() {
+        *payable = line(s, 176 + 54 * i);
     }
     all
 }
@@ -84,18 +82,11 @@ fn order(s: &[u8]) -> Order {
     }
 }
 
-fn tell(rt: &impl Print, written: Written) -> io::Result<()> {
+fn tell(rt: &impl Print, written: Result<usize, Refusal>) -> io::Result<()> {
     match written {
-        Written::End(e) => {
-            rt.write_all(b"written to ")?;
-            rt.print(e as u64)?;
-        }
-        Written::Unfit(why) => {
-            rt.write_all(b"refused ")?;
-            rt.print(why.number())?;
-        }
+        Ok(e) => println!(rt; "written to {e}"),
+        Err(why) => println!(rt; "refused {}", why.number()),
     }
-    rt.write_all(b"\n")
 }
 
 fn show(rt: &impl Print, s: &[u8], out: &mut [u8]) -> io::Result<()> {
@@ -104,41 +95,24 @@ fn show(rt: &impl Print, s: &[u8], out: &mut [u8]) -> io::Result<()> {
     rt.write_all(b"\n")
 }
 
-// Into the first n bytes.
-fn show_in(rt: &impl Print, s: &[u8], out: &mut [u8], n: usize) -> io::Result<()> {
-    if n <= out.len() {
-        show(rt, s, &mut out[..n])?;
-    }
-    Ok(())
-}
-
-// Whether the input had as many bytes more as the buffer.
-fn take_all(from: &mut impl Read, buf: &mut [u8]) -> io::Result<bool> {
-    match from.read_exact(buf) {
-        Ok(()) => Ok(true),
-        Err(why) if why.kind() == ErrorKind::UnexpectedEof => Ok(false),
-        Err(why) => Err(why),
-    }
-}
-
 // The next order; whether there was one.
 fn one_order(rt: &impl Print, from: &mut impl Read) -> io::Result<bool> {
     let mut record = [0u8; RECORD];
-    if !take_all(from, &mut record)? {
+    if !cli_files::take_all(from, &mut record)? {
         return Ok(false);
     }
     let mut out = [b'.'; 1200];
-    show_in(rt, &record, &mut out, number(&record, 158) as usize)?;
+    if let Some(place) = out.get_mut(..number(&record, 158) as usize) {
+        show(rt, &record, place)?;
+    }
     Ok(true)
 }
 
 fn main(rt: HostRuntime) -> io::Result<()> {
-    let mut turns: u64 = 1000;
-    while turns > 0 {
+    for _ in 0..1000 {
         if !one_order(&rt, &mut rt.stdin())? {
             return Ok(());
         }
-        turns -= 1;
     }
     Ok(())
 }

@@ -21,6 +21,10 @@ use Rattle.run_queue.specs.Sums.{credit_of, debit_of}
 pub no : {X : Type 0} → false ≡ true → X
 no e = absurd (false≢true e)
 
+-- what is left after one more turn
+pub less_one : (n i : ℕ) → n - i - 1 ≡ n - (i + 1)
+less_one n i = omega arith
+
 -- the total
 module _ (b : List ℕ) (i total x : ℕ) (inv : x ≡ total + sum (drop i b)) where
   pub total_turn : i < length b → x ≡ total + get_or b i 0 + sum (drop (i + 1) b)

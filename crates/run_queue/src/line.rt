@@ -36,10 +36,8 @@ fn read_byte(reading: Reading, byte: u8, numbers: &mut [u64]) -> Reading {
 // The numbers of a text; answers how many.
 pub fn read(text: &[u8], numbers: &mut [u64]) -> usize {
     let mut reading = Reading { value: 0, count: 0 };
-    let mut i = 0;
-    while i < text.len() {
-        reading = read_byte(reading, text[i], numbers);
-        i += 1;
+    for &byte in text {
+        reading = read_byte(reading, byte, numbers);
     }
     reading.count
 }
@@ -48,12 +46,8 @@ pub fn read(text: &[u8], numbers: &mut [u64]) -> usize {
 pub fn write(rt: &impl Print, letter: u8, row: &[u64], count: usize) -> io::Result<()> {
     let start = [letter];
     rt.write_all(&start)?;
-    let mut i = 0;
-    while i < count {
-        if i < row.len() {
-            print!(rt; " {}", row[i])?;
-        }
-        i += 1;
+    for number in row.iter().take(count) {
+        print!(rt; " {number}")?;
     }
     rt.write_all(b"\n")
 }

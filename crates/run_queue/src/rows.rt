@@ -24,16 +24,8 @@ fn index(x: u64) -> usize
 }
 
 fn put(row: &mut [u64], i: usize, value: u64) {
-    if i < row.len() {
-        row[i] = value;
-    }
-}
-
-fn zero(row: &mut [u64]) {
-    let mut i = 0;
-    while i < row.len() {
-        row[i] = 0;
-        i += 1;
+    if let Some(place) = row.get_mut(i) {
+        *place = value;
     }
 }
 
@@ -46,16 +38,14 @@ fn join(
     place: usize,
 ) -> Standing {
     let waiting = standing.waiting;
-    if place < Batch::LIVE {
-        if waiting < Batch::LIVE {
-            put(batches, place * Batch::WIDTH + Batch::PAYMENTS_THERE, 0);
-            queue::wake_batch(memory, place);
-            put(queue, waiting, place as u64);
-            return Standing {
-                waiting: waiting + 1,
-                last: place,
-            };
-        }
+    if place < Batch::LIVE && waiting < Batch::LIVE {
+        put(batches, place * Batch::WIDTH + Batch::PAYMENTS_THERE, 0);
+        queue::wake_batch(memory, place);
+        put(queue, waiting, place as u64);
+        return Standing {
+            waiting: waiting + 1,
+            last: place,
+        };
     }
     standing
 }
@@ -72,7 +62,7 @@ fn letters(letter: u64) -> u64 {
 }
 
 fn read(row: &[u64], i: usize) -> u64 {
-    if i < row.len() { row[i] } else { 0 }
+    row.get(i).copied().unwrap_or(0)
 }
 
 // One more payment of the batch at a place.
@@ -92,24 +82,16 @@ fn pay(batches: &mut [u64], place: usize, bank: u64, cents: u64, letter: u64) {
 
 // The letter of a debit of the bank is changed.
 fn restate(batches: &mut [u64], at: usize, bank: u64, letter: u64) {
-    if read(batches, at) != bank {
-        return;
-    }
-    if at < 100_000 {
-        if read(batches, at + 2) != 0 {
-            put(batches, at + 2, letters(letter));
-        }
+    if read(batches, at) == bank && at < 100_000 && read(batches, at + 2) != 0 {
+        put(batches, at + 2, letters(letter));
     }
 }
 
 fn status(batches: &mut [u64], place: usize, bank: u64, letter: u64) {
     if place < Batch::LIVE {
-        let mut at = place * Batch::WIDTH + Batch::PAYMENT;
-        let mut left = Batch::PAYMENTS;
-        while 0 < left {
-            restate(batches, at, bank, letter);
-            at += Batch::PAYMENT_WIDTH;
-            left -= 1;
+        let first = place * Batch::WIDTH + Batch::PAYMENT;
+        for i in 0..Batch::PAYMENTS {
+            restate(batches, first + Batch::PAYMENT_WIDTH * i, bank, letter);
         }
     }
 }
@@ -233,9 +215,9 @@ fn step(
     let op = line.op;
     match op {
         1 => {
-            zero(balances);
-            zero(sublimits);
-            zero(memory);
+            balances.fill(0);
+            sublimits.fill(0);
+            memory.fill(0);
             Ok(Standing {
                 waiting: 0,
                 last: 0,
@@ -273,8 +255,7 @@ pub fn run(rt: &impl Print, numbers: &[u64], count: usize) -> io::Result<()> {
         last: 0,
     };
     let lines = count / 4;
-    let mut i = 0;
-    while i < lines {
+    for i in 0..lines {
         let line = line_at(numbers, i);
         standing = step(
             rt,
@@ -287,7 +268,6 @@ pub fn run(rt: &impl Print, numbers: &[u64], count: usize) -> io::Result<()> {
             &mut queue,
             &mut tries,
         )?;
-        i += 1;
     }
     Ok(())
 }

@@ -11,14 +11,11 @@ pub fn total_fits(balances: &[u64]) -> bool
     ensures { result ≡ true → sum balances.now ≤ 6400000000000000 }
 {
     let mut total = 0;
-    let mut i = 0;
-    while i < balances.len() {
-        let balance = balances[i];
+    for &balance in balances {
         if settle::Bank::RICHEST - total < balance {
             return false;
         }
         total += balance;
-        i += 1;
     }
     true
 }
@@ -28,8 +25,7 @@ fn ranged(batches: &[u64], from: usize, count: u64) -> bool
     ensures { result ≡ true → Ranged (payments_from batches.now from count) }
 {
     let mut at = from;
-    let mut left = count;
-    while 0 < left {
+    for i in 0..count {
         if 63 < batches[at] {
             return false;
         }
@@ -37,7 +33,6 @@ fn ranged(batches: &[u64], from: usize, count: u64) -> bool
             return false;
         }
         at += 3;
-        left -= 1;
     }
     true
 }
@@ -47,13 +42,11 @@ fn apart(batches: &[u64], from: usize, count: u64, bank: u64) -> bool
     ensures { result ≡ true → Apart bank (payments_from batches.now from count) }
 {
     let mut at = from;
-    let mut left = count;
-    while 0 < left {
+    for i in 0..count {
         if batches[at] == bank {
             return false;
         }
         at += 3;
-        left -= 1;
     }
     true
 }
@@ -63,12 +56,10 @@ fn distinct(batches: &[u64], from: usize, count: u64) -> bool
     ensures { result ≡ true → Distinct (payments_from batches.now from count) }
 {
     let mut at = from;
-    let mut left = count;
-    while 0 < left {
+    for i in 0..count {
         let bank = batches[at];
         at += 3;
-        left -= 1;
-        if !apart(batches, at, left, bank) {
+        if !apart(batches, at, count - i - 1, bank) {
             return false;
         }
     }
@@ -102,14 +93,12 @@ fn even(batches: &[u64], from: usize, count: u64) -> bool
     ensures { result ≡ true → credits (payments_from batches.now from count) ≡ debits (payments_from batches.now from count) }
 {
     let mut at = from;
-    let mut left = count;
     let mut brought = 0;
     let mut taken = 0;
-    while 0 < left {
+    for i in 0..count {
         brought += credit_of(batches, at);
         taken += debit_of(batches, at);
         at += 3;
-        left -= 1;
     }
     brought == taken
 }
@@ -141,13 +130,11 @@ pub fn all_good(batches: &[u64], queue: &[u64], waiting: usize) -> bool
     requires { waiting ≤ length queue.now }
     ensures { result ≡ true → AllGood batches.now (take waiting queue.now) }
 {
-    let mut i = 0;
-    while i < waiting {
+    for i in 0..waiting {
         let place = queue[i] as usize;
         if !good(batches, place) {
             return false;
         }
-        i += 1;
     }
     true
 }

@@ -2,38 +2,14 @@
 // line names the tables as they are now, and is written again with 0, or with 06 where they break the rules.
 #![tactic(auto)]
 
-ghost use Rattle.std.specs.Prelude.{◌≡◌, ◌+◌, ◌≤◌, ◌<◌, length};
+ghost use Rattle.std.specs.Prelude.{◌≡◌, length};
 ghost use Rattle.tables_as_row.specs.RowWords.{row_words};
 
+use cli_files::numbers;
 use std::io;
+use std::io::{Print, Stdout};
 
 const WORDS: usize = 20_608;
-
-// A number that is being read, and the one before it.
-#[derive(Clone, Copy)]
-pub struct Pair {
-    pub before: u64,
-    pub value: u64,
-}
-
-// One more byte: a digit goes on with the number, another byte ends it.
-fn read_byte(pair: Pair, byte: u8) -> Pair {
-    let value = pair.value;
-    if !chars::is_digit(byte) {
-        return Pair {
-            before: value,
-            value: 0,
-        };
-    }
-    if value < 1_844_674_407_370_955_161 {
-        let digit = chars::digit_value(byte);
-        return Pair {
-            before: pair.before,
-            value: value * 10 + digit,
-        };
-    }
-    pair
-}
 
 fn index(x: u64) -> usize {
     x as usize
@@ -41,18 +17,9 @@ fn index(x: u64) -> usize {
 
 // An index and a value.
 fn set_word(line: &[u8], words: &mut [u64]) {
-    let mut pair = Pair {
-        before: 0,
-        value: 0,
-    };
-    let mut i = 0;
-    while i < line.len() {
-        pair = read_byte(pair, line[i]);
-        i += 1;
-    }
-    let at = index(pair.before);
-    if at < words.len() {
-        words[at] = pair.value;
+    let n = numbers::last(line);
+    if let Some(word) = words.get_mut(index(n.d)) {
+        *word = n.e;
     }
 }
 
@@ -65,21 +32,6 @@ fn judge(rt: &impl Print, name: &[u8], words: &[u64]) -> io::Result<()>
     } else {
         rt.write_all(b" 06\n")
     }
-}
-
-// Where the line from a place on ends, before its line feed.
-fn line_end(text: &[u8], at: usize) -> usize
-    requires { at ≤ length text.now }
-    ensures { (at ≤ result) × (result ≤ length text.now) }
-{
-    let mut i = at;
-    while i < text.len() {
-        if text[i] == b'\n' {
-            return i;
-        }
-        i += 1;
-    }
-    i
 }
 
 fn read_line(rt: &impl Print, line: &[u8], words: &mut [u64]) -> io::Result<()>
@@ -95,13 +47,11 @@ fn read_line(rt: &impl Print, line: &[u8], words: &mut [u64]) -> io::Result<()>
     judge(rt, line, words)
 }
 
-fn run(rt: &impl Print, text: &[u8]) -> io::Result<()> {
+// The check refuses the iterator of `split` in a function over any writer, so this one names standard output.
+fn run(out: &Stdout, text: &[u8]) -> io::Result<()> {
     let mut words = [0u64; WORDS];
-    let mut at = 0;
-    while at < text.len() {
-        let e = line_end(text, at);
-        read_line(rt, &text[at..e], &mut words)?;
-        at = e + 1;
+    for line in text.split(|&byte| byte == b'\n') {
+        read_line(out, line, &mut words)?;
     }
     Ok(())
 }
@@ -109,5 +59,5 @@ fn run(rt: &impl Print, text: &[u8]) -> io::Result<()> {
 fn main(rt: HostRuntime) -> io::Result<()> {
     let mut text = [0u8; 65536];
     let length = cli_files::read_full(&mut rt.stdin(), &mut text);
-    run(&rt, &text[..length])
+    run(&rt.stdout(), &text[..length])
 }

@@ -1,8 +1,9 @@
 -- Laws of cover and settlement, in the terms of the code.
+use Rattle.std.specs.Prelude.{Result, Ok, Err}
 use mathlib.Core.Path.{◌≡◌, refl, sym, ap, ◌∙◌}
 use mathlib.Core.Bool.{Bool, true, false, not, cond}
 use mathlib.Core.Logic.{inl, inr}
-use mathlib.Core.List.{List, ◌∷◌}
+use mathlib.Core.List.{List, [], ◌∷◌}
 use Prim.Native.Nat.{ℕ, zero, suc, ◌+◌, ◌-◌, ◌*◌, ◌^◌, ◌≤◌, ◌<◌}
 use native.Mathlib.Omega.{arith}
 use lib.Dec.{leb, ltb}
@@ -21,24 +22,22 @@ use Rattle.settle.specs.Settlement.{Accounts, accounts, is_covered, uncovered, f
 use Rattle.settle.specs.Rules.{Ranged, Fits, Payable, AllPayable}
 use Rattle.settle.specs.Types.{batch_or}
 use Rattle.settle.specs.declared.Batch.{Batch}
-use Rattle.settle.specs.declared.BatchOr.{BatchOr}
-use Rattle.settle.specs.declared.BatchOr.TheVariants.{Stands, Nowhere}
 use Rattle.settle.specs.declared.Verdict.{Verdict}
 use Rattle.settle.specs.declared.Verdict.TheVariants.{Passes, Stops}
 
 -- what the answer of a batch's constructor tells
-module _ (place : ℕ) {b : BatchOr} (e : b ≡ batch_or place) where
-  pub batch_stands : {k : Batch} → b ≡ Stands k → (k.start ≡ place * 349) × (place < 32)
+module _ (place : ℕ) {b : Result Batch Refusal} (e : b ≡ batch_or place) where
+  pub batch_stands : {k : Batch} → b ≡ Ok k → (k.start ≡ place * 349) × (place < 32)
   batch_stands {k = k} f = go (ltb place 32) refl (sym f ∙ e)
     where
-      go : (t : Bool) → ltb place 32 ≡ t → Stands k ≡ cond t (Stands (record { start = place * 349 })) (Nowhere BrokenTables) → (k.start ≡ place * 349) × (place < 32)
+      go : (t : Bool) → ltb place 32 ≡ t → Ok k ≡ cond t (Ok (record { start = place * 349 })) (Err BrokenTables) → (k.start ≡ place * 349) × (place < 32)
       go true h g = let z : k ≡ record { start = place * 349 } = cc in (ap (λ (x : Batch). x.start) z, ltb-true place 32 h)
       go false h g = let z : ◌≡◌ {A = ℕ} 0 1 = cc in absurd (omega arith)
 
-  pub batch_nowhere : {r : Refusal} → b ≡ Nowhere r → 32 ≤ place
+  pub batch_nowhere : {r : Refusal} → b ≡ Err r → 32 ≤ place
   batch_nowhere {r = r} f = go (ltb place 32) refl (sym f ∙ e)
     where
-      go : (t : Bool) → ltb place 32 ≡ t → Nowhere r ≡ cond t (Stands (record { start = place * 349 })) (Nowhere BrokenTables) → 32 ≤ place
+      go : (t : Bool) → ltb place 32 ≡ t → ◌≡◌ {A = Result Batch Refusal} (Err r) (cond t (Ok (record { start = place * 349 })) (Err BrokenTables)) → 32 ≤ place
       go true h g = let z : ◌≡◌ {A = ℕ} 0 1 = cc in absurd (omega arith)
       go false h g = ltb-false place 32 h
 
@@ -114,41 +113,42 @@ module _ (t : List ℕ) (at : ℕ) where
     unfolding uncovered payment_at
     uncovered_debit k r e f h = rw (h, f, is_debit (get_or t at 0) (get_or t (at + 1) 0) (get_or t (at + 2) 0) e)
 
-  module _ (n : ℕ) (more : 0 < n) where
-    pub next : payments_from t at n ≡ payment_at t at ∷ payments_from t (at + 3) (n - 1)
-    unfolding payments_from
-    next = ap (payments_from t at) (step_down n more)
+  pub next : (n : ℕ) → 0 < n → payments_from t at n ≡ payment_at t at ∷ payments_from t (at + 3) (n - 1)
+  unfolding payments_from
+  next n more = ap (payments_from t at) (step_down n more)
 
-    pub ranged_head : Ranged (payments_from t at n) → get_or t at 0 < 64
+  -- the payment at `at`, and those behind it
+  module _ (rest behind : List Payment) (cut : rest ≡ payment_at t at ∷ behind) where
+    pub ranged_head : Ranged rest → get_or t at 0 < 64
     unfolding Ranged
-    ranged_head h = rw bank_at_lem at (rw next at h).0.0
+    ranged_head h = rw bank_at_lem at (rw cut at h).0.0
 
-    pub ranged_tail : Ranged (payments_from t at n) → Ranged (payments_from t (at + 3) (n - 1))
+    pub ranged_tail : Ranged rest → Ranged behind
     unfolding Ranged
-    ranged_tail h = (rw next at h).1
+    ranged_tail h = (rw cut at h).1
 
     -- a turn of the search: x is the verdict on all payments, and on those that are left
-    module _ (a : Accounts) (x : Verdict) (inv : x ≡ first_uncovered a (needs_of (payments_from t at n))) (r : Bool) (told : r ≡ uncovered a (payment_at t at)) where
+    module _ (a : Accounts) (x : Verdict) (inv : x ≡ first_uncovered a (needs_of rest)) (r : Bool) (told : r ≡ uncovered a (payment_at t at)) where
       pub first_stops : r ≡ true → Stops (get_or t at 0) ≡ x
-      first_stops e = sym (inv ∙ ap (λ (ps : List Payment). first_uncovered a (needs_of ps)) next ∙ stops a (payment_at t at) (payments_from t (at + 3) (n - 1)) (sym told ∙ e) ∙ ap Stops bank_at_lem)
+      first_stops e = sym (inv ∙ ap (λ (ps : List Payment). first_uncovered a (needs_of ps)) cut ∙ stops a (payment_at t at) behind (sym told ∙ e) ∙ ap Stops bank_at_lem)
 
-      pub first_goes : r ≡ false → x ≡ first_uncovered a (needs_of (payments_from t (at + 3) (n - 1)))
-      first_goes e = inv ∙ ap (λ (ps : List Payment). first_uncovered a (needs_of ps)) next ∙ goes a (payment_at t at) (payments_from t (at + 3) (n - 1)) (sym told ∙ e)
+      pub first_goes : r ≡ false → x ≡ first_uncovered a (needs_of behind)
+      first_goes e = inv ∙ ap (λ (ps : List Payment). first_uncovered a (needs_of ps)) cut ∙ goes a (payment_at t at) behind (sym told ∙ e)
 
     -- a turn of the settlement
     module _ (b : List ℕ) where
-      pub payable_head : AllPayable b (payments_from t at n) → Payable b (payment_at t at)
+      pub payable_head : AllPayable b rest → Payable b (payment_at t at)
       unfolding AllPayable
-      payable_head h = (rw next at h).0
+      payable_head h = (rw cut at h).0
 
       module _ (b' : List ℕ) (told : b' ≡ paid b (payment_at t at)) where
-        pub payable_tail : AllPayable b (payments_from t at n) → AllPayable b' (payments_from t (at + 3) (n - 1))
+        pub payable_tail : AllPayable b rest → AllPayable b' behind
         unfolding AllPayable
-        payable_tail h = rw told (rw next at h).1
+        payable_tail h = rw told (rw cut at h).1
 
-        pub settled_goes : (x : List ℕ) → x ≡ settled b (payments_from t at n) → x ≡ settled b' (payments_from t (at + 3) (n - 1))
+        pub settled_goes : (x : List ℕ) → x ≡ settled b rest → x ≡ settled b' behind
         unfolding settled
-        settled_goes x inv = rw (inv, next, told)
+        settled_goes x inv = rw (inv, cut, told)
 
   -- one payment
   module _ (b : List ℕ) (h : Payable b (payment_at t at)) where
@@ -174,14 +174,33 @@ module _ (t : List ℕ) (at : ℕ) where
   unfolding paid payment_at
   paid_debit b e = rw (is_debit (get_or t at 0) (get_or t (at + 1) 0) (get_or t (at + 2) 0) e)
 
--- nothing is left
-pub first_none : (a : Accounts) (t : List ℕ) (at n : ℕ) (x : Verdict) → n ≤ 0 → x ≡ first_uncovered a (needs_of (payments_from t at n)) → Passes ≡ x
-unfolding first_uncovered needs_of payments_from
-first_none a t at n x h inv = let e : n ≡ 0 = omega arith in rw (inv, e)
+-- the payments from the i-th of n on, the first of which stands at a word of the table
+abbrev pub left_from : List ℕ → (first n i : ℕ) → List Payment
+left_from t first n i = payments_from t (first + i * 3) (n - i)
 
-pub settled_none : (b t : List ℕ) (at n : ℕ) (x : List ℕ) → n ≤ 0 → x ≡ settled b (payments_from t at n) → b ≡ x
-unfolding settled payments_from
-settled_none b t at n x h inv = let e : n ≡ 0 = omega arith in rw (inv, e)
+module _ (t : List ℕ) (first n : ℕ) where
+  pub left_all : left_from t first n 0 ≡ payments_from t first n
+  left_all = let e : first + 0 * 3 ≡ first = omega arith in let f : n - 0 ≡ n = omega arith in cc
+
+  pub left_next : (i : ℕ) → i < n → left_from t first n i ≡ payment_at t (first + i * 3) ∷ left_from t first n (i + 1)
+  left_next i h =
+      let e : first + i * 3 + 3 ≡ first + (i + 1) * 3 = omega arith in
+      let f : n - i - 1 ≡ n - (i + 1) = omega arith in
+      let g : left_from t first n i ≡ payment_at t (first + i * 3) ∷ payments_from t (first + i * 3 + 3) (n - i - 1) = next t (first + i * 3) (n - i) (omega arith) in
+      cc
+
+  pub left_none : (i : ℕ) → n ≤ i → left_from t first n i ≡ []
+  unfolding payments_from
+  left_none i h = let e : n - i ≡ 0 = omega arith in ap (payments_from t (first + i * 3)) e
+
+-- nothing is left
+pub first_none : (a : Accounts) (rest : List Payment) (x : Verdict) → rest ≡ [] → x ≡ first_uncovered a (needs_of rest) → Passes ≡ x
+unfolding first_uncovered needs_of
+first_none a rest x e inv = rw (inv, e)
+
+pub settled_none : (b : List ℕ) (rest : List Payment) (x : List ℕ) → rest ≡ [] → x ≡ settled b rest → b ≡ x
+unfolding settled
+settled_none b rest x e inv = rw (inv, e)
 
 pub paid_length : (b : List ℕ) (p : Payment) → length (paid b p) ≡ length b
 unfolding paid

@@ -8,6 +8,8 @@ ghost use Rattle.settle.specs.Settlement.{accounts, uncovered, first_uncovered, 
 ghost use Rattle.settle.specs.Rules.{Payable, Laid, Ready};
 ghost use Rattle.settle.specs.Types.{bank_or, batch_or};
 
+use chars::Refusal;
+
 // A bank's two amounts of money, in cents.
 #[derive(Clone, Copy)]
 pub struct Bank {
@@ -15,26 +17,18 @@ pub struct Bank {
     pub sublimit: u64,
 }
 
-#[derive(Clone, Copy)]
-pub enum BankOr {
-    Is(Bank),
-    Not(chars::Refusal),
-}
-
 impl Bank {
     pub const MOST: usize = 64;
     // Balances, their total and sub-limits run from 0 to this many cents.
     pub const RICHEST: u64 = 6_400_000_000_000_000;
 
-    pub fn new(balance: u64, sublimit: u64) -> BankOr
+    pub fn new(balance: u64, sublimit: u64) -> Result<Bank, Refusal>
         ensures { result ≡ bank_or balance sublimit }
     {
-        if balance <= Bank::RICHEST {
-            if sublimit <= Bank::RICHEST {
-                return BankOr::Is(Bank { balance, sublimit });
-            }
+        if balance <= Bank::RICHEST && sublimit <= Bank::RICHEST {
+            return Ok(Bank { balance, sublimit });
         }
-        BankOr::Not(chars::Refusal::OutOfRange)
+        Err(Refusal::OutOfRange)
     }
 }
 
@@ -42,12 +36,6 @@ impl Bank {
 #[derive(Clone, Copy)]
 pub struct Batch {
     pub start: usize,
-}
-
-#[derive(Clone, Copy)]
-pub enum BatchOr {
-    Stands(Batch),
-    Nowhere(chars::Refusal),
 }
 
 impl Batch {
@@ -86,15 +74,15 @@ impl Batch {
 
     pub const PAYMENT_WIDTH: usize = 3;
 
-    pub fn at(place: usize) -> BatchOr
+    pub fn at(place: usize) -> Result<Batch, Refusal>
         ensures { result ≡ batch_or place }
     {
         if place < Batch::LIVE {
-            BatchOr::Stands(Batch {
+            Ok(Batch {
                 start: place * Batch::WIDTH,
             })
         } else {
-            BatchOr::Nowhere(chars::Refusal::BrokenTables)
+            Err(Refusal::BrokenTables)
         }
     }
 }
@@ -108,18 +96,12 @@ pub fn covered(letters: u64, balance: u64, sublimit: u64, cents: u64) -> bool
 {
     match letters / FIRST_LETTER {
         80 => cents <= balance,
-        32 | 65 => {
-            if sublimit <= balance {
-                cents <= balance - sublimit
-            } else {
-                false
-            }
-        }
+        32 | 65 => sublimit <= balance && cents <= balance - sublimit,
         _ => false,
     }
 }
 
-// What a try of a batch finds: nothing uncovered, or the bank of the first uncovered debit.
+// What a try of a batch finds: nothing uncovered, or the bank of the first uncovered debit. Kept an enum: a batch that stops is no error.
 #[derive(Clone, Copy)]
 pub enum Verdict {
     Passes,
@@ -159,15 +141,13 @@ pub fn first_uncovered(
     ensures { result ≡ first_uncovered (accounts balances.now sublimits.now) (needs_of (row_payments batches.now place)) }
 {
     let first = place * Batch::WIDTH + Batch::PAYMENT;
-    let mut at = first;
-    let mut left = batches[place * Batch::WIDTH + Batch::PAYMENTS_THERE];
-    while 0 < left {
+    let n = batches[place * Batch::WIDTH + Batch::PAYMENTS_THERE] as usize;
+    for i in 0..n {
+        let at = first + i * Batch::PAYMENT_WIDTH;
         if uncovered_at(balances, sublimits, batches, at) {
             let bank = batches[at];
             return Verdict::Stops(bank);
         }
-        at += Batch::PAYMENT_WIDTH;
-        left -= 1;
     }
     Verdict::Passes
 }
@@ -192,11 +172,9 @@ pub fn settle(balances: &mut [u64], batches: &[u64], place: usize)
     requires { Ready balances.old batches.now place }
     ensures { balances.new ≡ settled balances.old (row_payments batches.now place) }
 {
-    let mut at = place * Batch::WIDTH + Batch::PAYMENT;
-    let mut unpaid = batches[place * Batch::WIDTH + Batch::PAYMENTS_THERE];
-    while 0 < unpaid {
-        pay_at(balances, batches, at);
-        at += Batch::PAYMENT_WIDTH;
-        unpaid -= 1;
+    let first = place * Batch::WIDTH + Batch::PAYMENT;
+    let n = batches[place * Batch::WIDTH + Batch::PAYMENTS_THERE] as usize;
+    for done in 0..n {
+        pay_at(balances, batches, first + done * Batch::PAYMENT_WIDTH);
     }
 }

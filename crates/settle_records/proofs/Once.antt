@@ -1,8 +1,8 @@
 -- Two outcomes of a settlement on one row are equal.
+use Rattle.model.specs.Answers.{Answer}
 use mathlib.Core.Path.{◌≡◌, refl, sym, ◌∙◌}
 use Prim.Native.Nat.{ℕ}
 use mathlib.Core.List.{List}
-use Rattle.model.specs.declared.Answer.{Answer}
 use Rattle.call_records.specs.declared.Account.{Account}
 use Rattle.call_records.specs.Records.{codes_of, flags_of, balances_of, sublimits_of, waiting_of, row_of}
 use Rattle.call_records.proofs.Determined.{row_back}

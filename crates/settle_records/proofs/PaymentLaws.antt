@@ -7,6 +7,7 @@ use lib.ListN.{length, get_or, set, length-map, length-set, get_or-map}
 use Rattle.settle.specs.Payments.{Payment, credit, debit, payment, payment_at, payments_from, row_payments, how_many, bank_of}
 use Rattle.settle.specs.Settlement.{paid, settled}
 use Rattle.settle.specs.Rules.{Fits, Payable, AllPayable, Ready}
+use Rattle.settle.proofs.Laws.{payable_head, payable_tail, settled_goes, settled_none}
 use Rattle.call_records.specs.declared.Account.{Account}
 use Rattle.call_records.specs.Records.{codes_of, flags_of, balances_of, sublimits_of, waiting_of}
 use Rattle.settle_records.specs.Payments.{balance_after, Bears, Stored}
@@ -106,21 +107,19 @@ stored_then x y = record {
 
 -- ---- the payments of a batch: some are paid, and what is left of them, paid too, gives what the whole batch gives
 
-pub record Settling (ys : List Account) (ws : List ℕ) (place at left : ℕ) (z : List Account) : Type 0 where
+pub record Settling (ys : List Account) (ws : List ℕ) (place : ℕ) (rest : List Payment) (z : List Account) : Type 0 where
   pub long : length z ≡ length ys
-  pub within : at + 3 * left ≤ length ws
-  pub payable : AllPayable (balances_of z) (payments_from ws at left)
-  pub same : settled (balances_of z) (payments_from ws at left) ≡ settled (balances_of ys) (row_payments ws place)
+  pub payable : AllPayable (balances_of z) rest
+  pub same : settled (balances_of z) rest ≡ settled (balances_of ys) (row_payments ws place)
   pub codes_kept : codes_of z ≡ codes_of ys
   pub flags_kept : flags_of z ≡ flags_of ys
   pub sublimits_kept : sublimits_of z ≡ sublimits_of ys
   pub waiting_kept : waiting_of z ≡ waiting_of ys
 
 module _ (ys : List Account) (ws : List ℕ) (place : ℕ) where
-  pub settle_start : Ready (balances_of ys) ws place → Settling ys ws place (place * 349 + 49) (how_many ws place) ys
+  pub settle_start : Ready (balances_of ys) ws place → Settling ys ws place (row_payments ws place) ys
   settle_start r = record {
     long = refl;
-    within = omega (arith, r.t_long, r.placed, r.few);
     payable = r.payable;
     same = refl;
     codes_kept = refl;
@@ -132,28 +131,26 @@ module _ (ys : List Account) (ws : List ℕ) (place : ℕ) where
   abbrev pub line_at : ℕ → Payment
   line_at at = payment (get_or ws at 0) (get_or ws (at + 1) 0) (get_or ws (at + 2) 0)
 
-  module _ (at n : ℕ) (z : List Account) where
-    pub settle_pays : Settling ys ws place at (suc n) z → Payable (balances_of z) (line_at at)
-    unfolding AllPayable payments_from payment_at
-    settle_pays s = s.payable.0
+  module _ (at : ℕ) (rest behind : List Payment) (cut : rest ≡ payment_at ws at ∷ behind) (z : List Account) where
+    pub settle_pays : Settling ys ws place rest z → Payable (balances_of z) (line_at at)
+    unfolding payment_at
+    settle_pays s = payable_head ws at rest behind cut (balances_of z) s.payable
 
-    pub settle_turn : (z' : List Account) → Settling ys ws place at (suc n) z → length z' ≡ length z → Stored z z' (paid (balances_of z) (line_at at)) → Settling ys ws place (at + 3) n z'
-    unfolding AllPayable payments_from payment_at settled
+    pub settle_turn : (z' : List Account) → Settling ys ws place rest z → length z' ≡ length z → Stored z z' (paid (balances_of z) (line_at at)) → Settling ys ws place behind z'
+    unfolding payment_at
     settle_turn z' s e st = record {
       long = e ∙ s.long;
-      within = omega (arith, s.within);
-      payable = subst (λ (b : List ℕ). AllPayable b (payments_from ws (at + 3) n)) (sym st.balances_are) s.payable.1;
-      same = ap (λ (b : List ℕ). settled b (payments_from ws (at + 3) n)) st.balances_are ∙ s.same;
+      payable = payable_tail ws at rest behind cut (balances_of z) (balances_of z') st.balances_are s.payable;
+      same = sym (settled_goes ws at rest behind cut (balances_of z) (balances_of z') st.balances_are (settled (balances_of ys) (row_payments ws place)) (sym s.same));
       codes_kept = st.codes_kept ∙ s.codes_kept;
       flags_kept = st.flags_kept ∙ s.flags_kept;
       sublimits_kept = st.sublimits_kept ∙ s.sublimits_kept;
       waiting_kept = st.waiting_kept ∙ s.waiting_kept;
     }
 
-  pub settle_end : (at : ℕ) (z : List Account) → Settling ys ws place at 0 z → Stored ys z (settled (balances_of ys) (row_payments ws place))
-  unfolding payments_from settled
-  settle_end at z s = record {
-    balances_are = s.same;
+  pub settle_end : (rest : List Payment) (z : List Account) → rest ≡ [] → Settling ys ws place rest z → Stored ys z (settled (balances_of ys) (row_payments ws place))
+  settle_end rest z e s = record {
+    balances_are = settled_none (balances_of z) rest _ e (sym s.same);
     codes_kept = s.codes_kept;
     flags_kept = s.flags_kept;
     sublimits_kept = s.sublimits_kept;

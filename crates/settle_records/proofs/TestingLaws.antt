@@ -1,4 +1,5 @@
 -- Whether a batch can be settled: its payments are tried one after another on a copy of the balances.
+use Rattle.std.specs.Prelude.{Ok, Err}
 use mathlib.Core.Path.{◌≡◌, refl, ap, ◌∙◌}
 use Prim.Native.Nat.{ℕ, zero, suc, ◌+◌, ◌-◌, ◌*◌, ◌^◌, ◌≤◌, ◌<◌}
 use native.Mathlib.Omega.{arith}
@@ -15,8 +16,6 @@ use Rattle.chars.specs.declared.Refusal.TheVariants.{BrokenTables}
 use Rattle.settle.specs.Payments.{Payment, payment, payment_at, payments_from, row_payments, how_many}
 use Rattle.settle.specs.Settlement.{paid, settled}
 use Rattle.settle.specs.Rules.{Fits, Payable, AllPayable, Ready}
-use Rattle.settle.proofs.Laws.{next}
-use Rattle.model.specs.declared.Answer.TheVariants.{Done, Refused}
 use Rattle.tables.proofs.TestLaws.{Both, says_no, says_yes, says_map}
 use Rattle.call_records.specs.declared.Account.{Account}
 use Rattle.call_records.specs.Records.{balances_of}
@@ -91,30 +90,29 @@ module _ (b : List ℕ) (k c l : ℕ) where
 
 -- ---- the payments of a batch: Q says that all of them can be made, and so do those that are left
 
-module _ (t : List ℕ) (at n : ℕ) (more : 0 < n) (b : List ℕ) {Q : Type 0} (x : Both Q (AllPayable b (payments_from t at n))) where
+module _ (t : List ℕ) (at : ℕ) (rest behind : List Payment) (next : rest ≡ payment_at t at ∷ behind) (b : List ℕ) {Q : Type 0} (x : Both Q (AllPayable b rest)) where
   abbrev line : Payment
   line = payment (get_or t at 0) (get_or t (at + 1) 0) (get_or t (at + 2) 0)
 
-  cut : payments_from t at n ≡ line ∷ payments_from t (at + 3) (n - 1)
+  cut : rest ≡ line ∷ behind
   unfolding payment_at
-  cut = next t at n more
+  cut = next
 
   pub try_stops : (r : Bool) → Says (Payable b line) r → not r ≡ true → Q → ⊥
   unfolding AllPayable
   try_stops r s e q = says_no r s e (rw cut at (x.to q)).0
 
   pub try_goes : (r : Bool) (b' : List ℕ) → Says (Payable b line) r → not r ≡ false → b' ≡ paid b line
-      → Both Q (AllPayable b' (payments_from t (at + 3) (n - 1)))
+      → Both Q (AllPayable b' behind)
   unfolding AllPayable
   try_goes r b' s f e = record {
     to = λ q. rw e (rw cut at (x.to q)).1;
     back = λ y. x.back (rw cut (says_yes r s f, rw e at y));
   }
 
-pub try_ends : (t : List ℕ) (at n : ℕ) (b b₀ : List ℕ) (place : ℕ) → n ≤ 0 → Both (AllPayable b₀ (row_payments t place)) (AllPayable b (payments_from t at n))
-    → AllPayable b₀ (row_payments t place)
-unfolding AllPayable payments_from
-try_ends t at n b b₀ place h x = let e : n ≡ 0 = omega (arith, h) in x.back (rw e tt)
+pub try_ends : {Q : Type 0} (rest : List Payment) (b : List ℕ) → rest ≡ [] → Both Q (AllPayable b rest) → Q
+unfolding AllPayable
+try_ends rest b e x = x.back (rw e tt)
 
 -- ---- the first i balances are copied
 
@@ -153,11 +151,11 @@ module _ (row : List Account) (ws : List ℕ) (place : ℕ) where
       says_map r (λ x. record { t_long = l; placed = p; few = f; payable = rw e at x }) (λ x. rw e x.payable) s
 
   module _ (r : Bool) (s : Says (Ready (balances_of row) ws place) r) where
-    pub batch_refused : not r ≡ true → Settles row ws place (Refused BrokenTables) row
+    pub batch_refused : not r ≡ true → Settles row ws place (Err BrokenTables) row
     batch_refused e = refuses (says_no r s e)
 
     pub batch_ready : not r ≡ false → Ready (balances_of row) ws place
     batch_ready e = says_yes r s e
 
-    pub batch_settled : (after : List Account) → not r ≡ false → Stored row after (settled (balances_of row) (row_payments ws place)) → Settles row ws place Done after
+    pub batch_settled : (after : List Account) → not r ≡ false → Stored row after (settled (balances_of row) (row_payments ws place)) → Settles row ws place (Ok tt) after
     batch_settled after e x = settles (says_yes r s e) x

@@ -1,11 +1,10 @@
 -- What a payment does to the balance of its bank's record, and what it leaves of the row.
-use Rattle.std.specs.Prelude.{ℕ, zero, suc, ◌+◌, ◌-◌, ◌^◌, ◌≤◌, ◌<◌, ◌≡◌, List, [], ◌∷◌}
+use Rattle.model.specs.Answers.{Answer}
+use Rattle.std.specs.Prelude.{ℕ, zero, suc, ◌+◌, ◌-◌, ◌^◌, ◌≤◌, ◌<◌, ◌≡◌, List, [], ◌∷◌, Ok, Err}
 use Rattle.chars.specs.declared.Refusal.TheVariants.{BrokenTables}
 use Rattle.settle.specs.Payments.{Payment, row_payments}
 use Rattle.settle.specs.Settlement.{settled}
 use Rattle.settle.specs.Rules.{Ready}
-use Rattle.model.specs.declared.Answer.{Answer}
-use Rattle.model.specs.declared.Answer.TheVariants.{Done, Refused}
 use Rattle.call_records.specs.declared.Account.{Account}
 use Rattle.call_records.specs.Records.{codes_of, flags_of, balances_of, sublimits_of, waiting_of}
 
@@ -30,8 +29,8 @@ pub record Stored (before after : List Account) (balances : List ℕ) : Type 0 w
 -- the batch at a place, settled where a settlement can be made; else 06, "with nothing changed"
 pub data Settles (row : List Account) (batches : List ℕ) (place : ℕ) : Answer → List Account → Type 0 where
   settles : {after : List Account} → Ready (balances_of row) batches place
-      → Stored row after (settled (balances_of row) (row_payments batches place)) → Settles row batches place Done after
-  refuses : (Ready (balances_of row) batches place → ⊥) → Settles row batches place (Refused BrokenTables) row
+      → Stored row after (settled (balances_of row) (row_payments batches place)) → Settles row batches place (Ok tt) after
+  refuses : (Ready (balances_of row) batches place → ⊥) → Settles row batches place (Err BrokenTables) row
 
 -- the batches at these places, settled on the row one after another
 pub data InOrder (batch : ℕ → List Payment) : List Account → List ℕ → List Account → Type 0 where

@@ -12,7 +12,6 @@ ghost use Rattle.settle_records.specs.Payments.{balance_after, Bears, Stored, Se
 
 use call_records::Account;
 use chars::Refusal;
-use model::Answer;
 use settle::Batch;
 
 // The balance of an account after one payment. A credit has no letters.
@@ -41,15 +40,14 @@ fn settle(row: &mut [Account], batches: &[u64], place: usize)
     requires { Ready (balances_of row.old) batches.now place }
     ensures { Stored row.old row.new (settled (balances_of row.old) (row_payments batches.now place)) }
 {
-    let mut at = place * Batch::WIDTH + Batch::PAYMENT;
-    let mut unpaid = batches[place * Batch::WIDTH + Batch::PAYMENTS_THERE];
-    while 0 < unpaid {
+    let first = place * Batch::WIDTH + Batch::PAYMENT;
+    let n = batches[place * Batch::WIDTH + Batch::PAYMENTS_THERE] as usize;
+    for i in 0..n {
+        let at = first + i * Batch::PAYMENT_WIDTH;
         let bank = batches[at] as usize;
         let cents = batches[at + 1];
         let letters = batches[at + 2];
         pay(row, bank, cents, letters);
-        at += Batch::PAYMENT_WIDTH;
-        unpaid -= 1;
     }
 }
 
@@ -65,7 +63,7 @@ fn settle_row(mut row: [Account; 64], batches: &[u64], place: usize) -> [Account
 // What a settlement answers, and the row that it leaves.
 #[derive(Clone, Copy)]
 pub struct RowSettled {
-    pub answer: Answer,
+    pub answer: Result<(), Refusal>,
     pub row: [Account; 64],
 }
 
@@ -76,13 +74,13 @@ pub fn settle_batch(row: [Account; 64], batches: &[u64], place: usize) -> RowSet
 {
     if !testing::ready(row, batches, place) {
         return RowSettled {
-            answer: Answer::Refused(Refusal::BrokenTables),
+            answer: Err(Refusal::BrokenTables),
             row,
         };
     }
     let after = settle_row(row, batches, place);
     RowSettled {
-        answer: Answer::Done,
+        answer: Ok(()),
         row: after,
     }
 }

@@ -55,9 +55,10 @@ fn all_payable(balances: &mut [u64], batches: &[u64], place: usize) -> bool
     requires place_bound_2 { how_many batches.now place ≤ 100 }
     ensures { Says (AllPayable balances.old (row_payments batches.now place)) result }
 {
-    let mut at = place * Batch::WIDTH + Batch::PAYMENT;
-    let mut left = batches[place * Batch::WIDTH + Batch::PAYMENTS_THERE];
-    while 0 < left {
+    let first = place * Batch::WIDTH + Batch::PAYMENT;
+    let n = batches[place * Batch::WIDTH + Batch::PAYMENTS_THERE] as usize;
+    for i in 0..n {
+        let at = first + i * Batch::PAYMENT_WIDTH;
         let bank = batches[at] as usize;
         let cents = batches[at + 1];
         let letters = batches[at + 2];
@@ -65,8 +66,6 @@ fn all_payable(balances: &mut [u64], batches: &[u64], place: usize) -> bool
             return false;
         }
         pay(balances, bank, cents, letters);
-        at += Batch::PAYMENT_WIDTH;
-        left -= 1;
     }
     true
 }
@@ -75,11 +74,10 @@ fn all_payable(balances: &mut [u64], batches: &[u64], place: usize) -> bool
 fn balances_of(row: [Account; 64]) -> [u64; 64]
     ensures { result ≡ balances_of row }
 {
+    // Kept: under `row.map(..)` the goal on the returned row stays open.
     let mut balances = [0u64; 64];
-    let mut i = 0;
-    while i < Account::ROW {
+    for i in 0..Account::ROW {
         balances[i] = row[i].balance;
-        i += 1;
     }
     balances
 }

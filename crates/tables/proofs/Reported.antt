@@ -1,4 +1,5 @@
 -- "In every other call both are as before past their reported lengths": what buffer and row hold after a call.
+use Rattle.std.specs.Prelude.{Ok, Err}
 use Prim.Native.Nat.{ℕ, ◌+◌, ◌≤◌}
 use mathlib.Core.Path.{◌≡◌, refl, sym, ap, subst, ◌∙◌}
 use mathlib.Core.Bool.{Bool, true, false, ◌&&◌, cond}
@@ -10,9 +11,8 @@ use lib.Seq.{sets, sets-eq, take-append_seam, drop-append_seam}
 use borrow.Author.Tests.{leb-true}
 use Rattle.chars.specs.Words.{Says}
 use Rattle.chars.specs.declared.Refusal.TheVariants.{WrongMoment, ShortBuffer}
+use Rattle.model.specs.Answers.{Answer}
 use Rattle.model.specs.State.{State}
-use Rattle.model.specs.declared.Answer.{Answer}
-use Rattle.model.specs.declared.Answer.TheVariants.{Done, Refused}
 use Rattle.model.specs.Calls.{Call, Engine, Result, right_clock, right_day, room_needed, rows_needed, judge, call}
 use Rattle.model.specs.Rules.{Valid}
 use Rattle.model.proofs.Reading.{readers}
@@ -25,13 +25,13 @@ use Rattle.tables.proofs.Kept.{on_right}
 
 -- ---- a call that is not refused with 05 or 07 has the room that it needs
 
-given_room : (t u v : Bool) → cond t (cond (u && v) Done (Refused ShortBuffer)) (Refused WrongMoment) ≡ Done → (u ≡ true) × (v ≡ true)
+given_room : (t u v : Bool) → ◌≡◌ {A = Answer} (cond t (cond (u && v) (Ok tt) (Err ShortBuffer)) (Err WrongMoment)) (Ok tt) → (u ≡ true) × (v ≡ true)
 given_room true true true h = (refl, refl)
 given_room true true false h = let z : ◌≡◌ {A = ℕ} 0 1 = cc in absurd (omega arith)
 given_room true false v h = let z : ◌≡◌ {A = ℕ} 0 1 = cc in absurd (omega arith)
 given_room false u v h = let z : ◌≡◌ {A = ℕ} 0 1 = cc in absurd (omega arith)
 
-pub right_room : (s : State) (c : Call) → judge s c ≡ Done → (room_needed c.asked.action s ≤ c.room) × (rows_needed ≤ c.rows)
+pub right_room : (s : State) (c : Call) → judge s c ≡ Ok tt → (room_needed c.asked.action s ≤ c.room) × (rows_needed ≤ c.rows)
 unfolding judge
 right_room s c h =
     let g = given_room (right_clock c.asked.action s.day c.asked.clock && right_day c.asked.action s.day) (leb (room_needed c.asked.action s) c.room) (leb rows_needed c.rows) h in
@@ -45,8 +45,8 @@ unfolding call
 fits e c v = go (judge e.state c) refl
   where
     go : (j : Answer) → judge e.state c ≡ j → Fits c (call e c)
-    go Done h = let r = right_room e.state c h in (omega (arith, r.0, call_out readers e c v), omega (arith, r.1, call_tries readers e c (valid_kept e.state v)))
-    go (Refused q) h = rw h (omega arith, omega arith)
+    go (Ok tt) h = let r = right_room e.state c h in (omega (arith, r.0, call_out readers e c v), omega (arith, r.1, call_tries readers e c (valid_kept e.state v)))
+    go (Err q) h = rw h (omega arith, omega arith)
 
 -- ---- what was stored from the beginning on
 

@@ -2,18 +2,16 @@
 use Prim.Native.Nat.{ℕ, zero, suc, ◌+◌, ◌-◌, ◌*◌, ◌≤◌, ◌<◌}
 use mathlib.Core.Path.{◌≡◌, sym, ap, ◌∙◌}
 use mathlib.Core.Bool.{Bool, true, false}
-use mathlib.Core.List.{List, [], ◌∷◌, ◌++◌, map, append_assoc, append-nil}
+use mathlib.Core.List.{List, [], ◌∷◌, ◌++◌, map, append_assoc}
 use native.Mathlib.Nat.{le_of_suc-le-suc, zero-mul, suc-mul, add_comm}
 use native.Mathlib.Omega.{arith}
 use native.Mathlib.Numerals.{add-one}
-use borrow.Author.Fill.{fill_more}
 use borrow.Author.Tests.{eq-eqb, ne_eqb}
-use lib.Dec.{eqb}
 use lib.ListN.{length, get_or, set, take, drop, replicate, length-drop, length-replicate}
-use lib.Seq.{take_at, drop_at, drop-drop, take-add, length-take-le, drop-length, get_or-take, get_or-drop}
+use lib.Seq.{take_at, drop_at, drop-drop, take-add, length-take-le, get_or-take, get_or-drop}
 use Rattle.codes.specs.declared.Code.{Code}
 use Rattle.model.specs.State.{Found, at, nowhere, seek_from, is_free, has_bin}
-use Rattle.tables.specs.Rows.{rows, batch_in, batch_rows, place_in}
+use Rattle.tables.specs.Rows.{rows, batch_rows, place_in}
 
 module _ (w : ℕ) where
   -- the row at p is the part from p * w
@@ -69,16 +67,6 @@ module _ {A : Type 0} (f : List ℕ → A) (is : A → Bool) (w n p : ℕ) (l : 
 
 -- ---- a row that is zeroed
 
-pub fill_turn : (l₀ l : List ℕ) (i : ℕ) → i < length l → length l ≡ length l₀ → l ≡ replicate i 0 ++ drop i l₀
-    → set l i 0 ≡ replicate (i + 1) 0 ++ drop (i + 1) l₀
-fill_turn l₀ l i h k e = rw e (fill_more i 0 l₀ (omega arith))
-
-pub fill_end : (l₀ l : List ℕ) (i : ℕ) → length l ≤ i → i ≤ length l₀ → length l ≡ length l₀ → l ≡ replicate i 0 ++ drop i l₀
-    → l ≡ replicate (length l₀) 0
-fill_end l₀ l i h j k e =
-    let n : i ≡ length l₀ = omega arith in
-    e ∙ rw (n, drop-length l₀, append-nil {A = ℕ} (replicate (length l₀) 0))
-
 -- the cleared part, in the terms of the loan's return
 pub cleared : (t t' ws : List ℕ) (place : ℕ) → place < 32 → length t ≡ 11168
     → ws ≡ replicate (length (take (place * 349 + 349 - place * 349) (drop (place * 349) t))) 0
@@ -115,20 +103,6 @@ module _ (t : List ℕ) (p : ℕ) where
   -- ---- the batch of a BIN
 
   module _ (bin : Code) where
-    pub bin_free : get_or t (p * 349 + 0) 0 ≡ 0 → false ≡ has_bin bin (place_in (take 349 (drop (p * 349) t)))
-    unfolding place_in
-    bin_free e = rw (phase_word_lem, eq-eqb (get_or t (p * 349 + 0) 0) 0 e)
-
-    module _ (live : get_or t (p * 349 + 0) 0 ≡ 0 → ⊥) where
-      pub bin_high : (get_or t (p * 349 + 2) 0 ≡ bin.high → ⊥) → false ≡ has_bin bin (place_in (take 349 (drop (p * 349) t)))
-      unfolding place_in batch_in
-      bin_high e = rw (phase_word_lem, ne_eqb (get_or t (p * 349 + 0) 0) 0 live, row_word 2 (omega arith), ne_eqb (get_or t (p * 349 + 2) 0) bin.high e)
-
-      pub bin_low : get_or t (p * 349 + 2) 0 ≡ bin.high → eqb (get_or t (p * 349 + 3) 0) bin.low ≡ has_bin bin (place_in (take 349 (drop (p * 349) t)))
-      unfolding place_in batch_in
-      bin_low e =
-          rw (phase_word_lem, ne_eqb (get_or t (p * 349 + 0) 0) 0 live, row_word 2 (omega arith), eq-eqb (get_or t (p * 349 + 2) 0) bin.high e, row_word 3 (omega arith))
-
     module _ {x : Found} (inv : x ≡ seek_rows place_in (has_bin bin) 349 32 p t) where
       pub bins_end : 32 ≤ p → nowhere ≡ x
       bins_end h = sym (inv ∙ seek_end place_in (has_bin bin) 349 32 p t h)

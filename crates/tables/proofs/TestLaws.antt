@@ -53,9 +53,6 @@ module _ {A : Type 0} (P : A → Type 0) {Q : Type 0} {rest : List A} (b : Both 
 
 -- the same over the words of a row
 module _ (P : ℕ → Type 0) {Q : Type 0} (l : List ℕ) (i : ℕ) (b : Both Q (Each P (drop i l))) where
-  pub row_end : length l ≤ i → Q
-  row_end h = each_end P b (drop_of_length-le l {i = i} h)
-
   pub row_not : i < length l → (P (get_or l i 0) → ⊥) → Q → ⊥
   row_not h n = each_not P b (get_or l i 0) (drop (i + 1) l) (row_cut l i h) n
 

@@ -1,4 +1,5 @@
 -- 06 comes from tables that break the rules, and from nothing else: no call by the rules answers it.
+use Rattle.std.specs.Prelude.{Ok, Err}
 use Prim.Native.Nat.{ℕ, zero, suc, ◌+◌, ◌-◌}
 use mathlib.Core.Path.{◌≡◌, refl, sym, ap, subst, ◌∙◌}
 use mathlib.Core.Bool.{Bool, true, false, ◌&&◌, cond, false≢true}
@@ -17,11 +18,8 @@ use Rattle.request_read.specs.declared.whole.Reading.{Reading}
 use Rattle.book_read.specs.Block.{Rule as BookRule, first_broken as first_fault}
 use Rattle.book_read.specs.Book.{most_money, blocks_in, stream_rules, bank_rules, bank_blocks, book_rules, book_check}
 use Rattle.book_read.specs.Accounts.{day_in}
-use Rattle.book_read.specs.declared.Answer.{Answer as Check}
-use Rattle.book_read.specs.declared.Answer.TheVariants.{Sound, Fault}
 use Rattle.book_read.specs.Range.{Each}
-use Rattle.model.specs.declared.Answer.{Answer}
-use Rattle.model.specs.declared.Answer.TheVariants.{Done, Refused}
+use Rattle.model.specs.Answers.{Answer}
 use Rattle.model.specs.State.{Found, at, nowhere, on_found, seek, Day, Batch, Place, free, live, Batches, Known, State, is_free, on_live, place_at, payments_at}
 use Rattle.model.specs.Memory.{is_used}
 use Rattle.model.specs.Messages.{SubType, is131, is133, by_sub_type, Acted, Rule, first_broken, stream_place, administrator, bank_place, assembling, waiting, today, reference, bin, stream_code, line_bank, line_rules, message_rules, is_complete, is_even, completed, is_broken_part, reject_assembled, broken_part, on_text, on_sender, repeated, fits, with_reference, on_bin, on_rules, admit, is_known, recalling, message}
@@ -39,8 +37,8 @@ use Rattle.tables.proofs.Breaks.{Other, OtherOutcome, OtherReading, request_othe
 use Rattle.tables.proofs.Kept.{on_right}
 
 abbrev OtherAnswer : Answer → Type 0
-OtherAnswer Done = Unit {0}
-OtherAnswer (Refused r) = Other r
+OtherAnswer (Ok tt) = Unit {0}
+OtherAnswer (Err r) = Other r
 
 by_found_lem : {A : Type 0} (P : A → Type 0) (f : Found) {d : A} {k : ℕ → A} → P d → ((p : ℕ) → P (k p)) → P (on_found f d k)
 by_found_lem P (at p) x g = g p
@@ -52,9 +50,9 @@ by_live P (live b) x g = g b
 
 -- ---- the book
 
-abbrev OtherCheck : Check → Type 0
-OtherCheck Sound = Unit {0}
-OtherCheck (Fault r) = Other r
+abbrev OtherCheck : Answer → Type 0
+OtherCheck (Ok tt) = Unit {0}
+OtherCheck (Err r) = Other r
 
 abbrev OtherFaults : List BookRule → Type 0
 OtherFaults rs = Each (λ x. Other x.fault) rs
@@ -85,9 +83,9 @@ opening_other : (d : Day) (book : List ℕ) → OtherAnswer (opening_answer d bo
 unfolding opening_answer
 opening_other d book = go (book_check book) (book_other book)
   where
-    go : (c : Check) → OtherCheck c → OtherAnswer (checked c (cond (is_later d (day_in book)) Done (Refused WrongMoment)))
-    go Sound o = by_cond OtherAnswer (is_later d (day_in book)) tt refl
-    go (Fault r) o = o
+    go : (c : Answer) → OtherCheck c → OtherAnswer (checked c (cond (is_later d (day_in book)) (Ok tt) (Err WrongMoment)))
+    go (Ok tt) o = by_cond OtherAnswer (is_later d (day_in book)) tt refl
+    go (Err r) o = o
 
 -- ---- messages
 
@@ -110,8 +108,8 @@ module _ (s : State) (r : Reading) where
   completed_other b k p x = by_cond OtherActed (is_complete x) (by_cond OtherActed (is_even x) tt refl) tt
 
   ruled_other : (a : Answer) (b : Batches) (k : Known) (p : ℕ) (x : Batch) → OtherAnswer a → OtherActed (on_rules s r a b k p x (completed s r b k p x))
-  ruled_other Done b k p x o = completed_other b k p x
-  ruled_other (Refused f) b k p x o = o
+  ruled_other (Ok tt) b k p x o = completed_other b k p x
+  ruled_other (Err f) b k p x o = o
 
   admit_other : (stream : ℕ) (b : Batches) (k : Known) (p : ℕ) (x : Batch) → OtherActed (admit s r stream b k p x)
   unfolding admit message_rules
@@ -196,21 +194,21 @@ module _ (e : Engine) (c : Call) where
   acted_other = act_other (begun e.state c.asked.clock) (own_of c.asked.action) c.asked.input
 
   numbered_other : (j : Answer) (z : Kind) → OtherAnswer j → OtherAnswer (numbered_by j z e c)
-  numbered_other (Refused r) z o = o
-  numbered_other Done opens o = opening_other e.state.day c.asked.input
-  numbered_other Done steps o = acted_other
-  numbered_other Done (gives d) o = tt
+  numbered_other (Err r) z o = o
+  numbered_other (Ok tt) opens o = opening_other e.state.day c.asked.input
+  numbered_other (Ok tt) steps o = acted_other
+  numbered_other (Ok tt) (gives d) o = tt
 
   call_other : OtherAnswer (call e c).answer
   call_other = subst OtherAnswer (sym (call_number e c)) (numbered_other (judge e.state c) (kind_of c.asked.action) (judge_other e.state c))
 
   -- no call by the rules answers 06
-  pub never_broken : (call e c).answer ≡ Refused BrokenTables → ⊥
+  pub never_broken : (call e c).answer ≡ Err BrokenTables → ⊥
   never_broken h = false≢true (sym (subst OtherAnswer h call_other))
 
 -- 06 exactly where desk and tables break the rules, and then nothing is changed
 pub record Sixes (x : Lent) (y : Left) : Type 0 where
-  pub only : y.answer ≡ Refused BrokenTables → Right x.desk x.tables → ⊥
+  pub only : y.answer ≡ Err BrokenTables → Right x.desk x.tables → ⊥
   pub then : (Right x.desk x.tables → ⊥) → y ≡ broken x
 
 pub broken_exactly : (x : Lent) (a : Asked) (y : Left) → Called x a y → Sixes x y

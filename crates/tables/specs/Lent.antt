@@ -1,12 +1,11 @@
 -- A call on what is lent: the tables, an output buffer and a try row. What the code of the calls will be held to.
-use Rattle.std.specs.Prelude.{ℕ, ◌≡◌, Bool, cond, List, length}
+use Rattle.std.specs.Prelude.{ℕ, ◌≡◌, Bool, cond, List, length, Ok, Err}
 use Rattle.std.proofs.lemmas.List.Edits.{sets}
 use Rattle.chars.specs.Words.{Says}
 use Rattle.chars.specs.declared.Refusal.TheVariants.{BrokenTables}
 use Rattle.settle.specs.Payments.{table_length}
-use Rattle.model.specs.declared.Answer.{Answer}
-use Rattle.model.specs.declared.Answer.TheVariants.{Done, Refused}
 pub use Rattle.model.specs.Calls.{Asked}
+use Rattle.model.specs.Answers.{Answer}
 use Rattle.model.specs.Calls.{Call, Result, call, cleared}
 use Rattle.model.specs.Rules.{Valid, RightMemory}
 use Rattle.tables.specs.declared.Desk.{Desk}
@@ -51,7 +50,7 @@ left_by x r = record {
 
 -- 06: "nothing changed"
 abbrev pub broken : Lent → Left
-broken x = record { answer = Refused BrokenTables; written = 0; tried = 0; lent = x }
+broken x = record { answer = Err BrokenTables; written = 0; tried = 0; lent = x }
 
 unfoldable pub call_lent : Bool → Lent → Asked → Left
 call_lent kept x a = cond kept (left_by x (call (engine_in x.desk x.tables) (call_of x a))) (broken x)
@@ -82,8 +81,8 @@ pub record Wiped : Type 0 where
 unfoldable pub clear_lent : Bool → Desk → Tables → Wiped
 clear_lent long d t =
     cond long
-    (record { answer = Done; desk = desk_of cleared.state; tables = tables_of cleared })
-    (record { answer = Refused BrokenTables; desk = d; tables = t })
+    (record { answer = Ok tt; desk = desk_of cleared.state; tables = tables_of cleared })
+    (record { answer = Err BrokenTables; desk = d; tables = t })
 
 pub record Cleared (d : Desk) (t : Tables) (y : Wiped) : Type 0 where
   pub long : Bool

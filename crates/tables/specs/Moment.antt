@@ -1,7 +1,7 @@
 -- 05 and 07 from the day's scalars alone.
 use Rattle.std.specs.Prelude.{ℕ, ◌≡◌, Bool, ◌&&◌, List, leb}
+use Rattle.model.specs.Answers.{Answer}
 use Rattle.model.specs.declared.Action.{Action}
-use Rattle.model.specs.declared.Answer.{Answer}
 use Rattle.model.specs.State.{Day}
 use Rattle.model.specs.Calls.{Call, room_needed, rows_needed, judge}
 use Rattle.tables.specs.declared.Desk.{Desk}

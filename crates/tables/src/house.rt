@@ -19,47 +19,31 @@ const MOST_STREAMS: usize = 8;
 const MOST_SENDER: u64 = 255;
 
 // "4 of A-Z 0-9", as a number.
+#[tactic(auto, unfolding(codes::specs::Codes::short_text, codes::specs::Codes::unpacked))]
 fn is_short(v: u64) -> bool
     ensures { result ≡ is_short v }
 {
-    if SHORT_END <= v {
-        return false;
-    }
-    if !chars::is_code(codes::short_byte(v, 0)) {
-        return false;
-    }
-    if !chars::is_code(codes::short_byte(v, 1)) {
-        return false;
-    }
-    if !chars::is_code(codes::short_byte(v, 2)) {
-        return false;
-    }
-    chars::is_code(codes::short_byte(v, 3))
+    v < SHORT_END
+        && chars::is_code(codes::short_byte(v, 0))
+        && chars::is_code(codes::short_byte(v, 1))
+        && chars::is_code(codes::short_byte(v, 2))
+        && chars::is_code(codes::short_byte(v, 3))
 }
 
 pub fn codes_right(row: &[u64]) -> bool
     ensures { Says (AllShort row.now) result }
 {
-    let mut i = 0;
-    while i < row.len() {
-        if !is_short(row[i]) {
-            return false;
-        }
-        i += 1;
-    }
-    true
+    row.iter().all(|code| is_short(*code))
 }
 
 // "Codes rise strictly."
 pub fn codes_rise(row: &[u64]) -> bool
     ensures { Says (Rising row.now) result }
 {
-    let mut i = 1;
-    while i < row.len() {
+    for i in 1..row.len() {
         if row[i] <= row[i - 1] {
             return false;
         }
-        i += 1;
     }
     true
 }
@@ -70,14 +54,7 @@ pub fn flags_right(row: &[u64], streams: usize) -> bool
     ensures { Says (Flagged streams row.now) result }
 {
     let end = bits_end(streams);
-    let mut i = 0;
-    while i < row.len() {
-        if end <= row[i] / 2 {
-            return false;
-        }
-        i += 1;
-    }
-    true
+    row.iter().all(|flag| *flag / 2 < end)
 }
 
 // The number after the last of so many bits.
@@ -85,49 +62,27 @@ fn bits_end(streams: usize) -> u64
     requires { streams ≤ 8 }
     ensures { result ≡ 2 ^ streams }
 {
-    let mut end = 1;
-    let mut i = 0;
-    while i < streams {
-        end = end * 2;
-        i += 1;
-    }
-    end
+    1 << streams
 }
 
 pub fn sublimits_right(row: &[u64]) -> bool
     ensures { Says (Sublimits row.now) result }
 {
-    let mut i = 0;
-    while i < row.len() {
-        if Bank::RICHEST < row[i] {
-            return false;
-        }
-        i += 1;
-    }
-    true
+    row.iter().all(|sublimit| *sublimit <= Bank::RICHEST)
 }
 
 // "total in range"
 pub fn total_right(row: &[u64]) -> bool
     ensures { Says (sum row.now ≤ 6400000000000000) result }
 {
-    let mut i = 0;
     let mut room = Bank::RICHEST;
-    while i < row.len() {
-        let balance = row[i];
-        if room < balance {
+    for balance in row {
+        if room < *balance {
             return false;
         }
-        room -= balance;
-        i += 1;
+        room -= *balance;
     }
     true
-}
-
-fn joined(any: u64, word: u64) -> u64
-    ensures { eqb result 0 ≡ cond (eqb word 0) (eqb any 0) false }
-{
-    any | word
 }
 
 // To the end, whatever it meets: several words are then looked at at once, and nearly all rows are zero.
@@ -135,10 +90,8 @@ pub fn zero(row: &[u64]) -> bool
     ensures { Says (AllZero row.now) result }
 {
     let mut any: u64 = 0;
-    let mut i = 0;
-    while i < row.len() {
-        any = joined(any, row[i]);
-        i += 1;
+    for word in row {
+        any |= *word;
     }
     any == 0
 }
@@ -147,12 +100,10 @@ fn stream_codes_right(row: &[u64], n: usize) -> bool
     requires { (n ≤ 8) × (length row.now ≡ 16) }
     ensures { Says (Each (λ x. is_short x.code ≡ true) (each (stream_of row.now) 0 n)) result }
 {
-    let mut i = 0;
-    while i < n {
+    for i in 0..n {
         if !is_short(row[2 * i]) {
             return false;
         }
-        i += 1;
     }
     true
 }
@@ -161,16 +112,11 @@ fn administrators_right(row: &[u64], n: usize) -> bool
     requires { (n ≤ 8) × (length row.now ≡ 16) }
     ensures { Says (Each (λ x. (1 ≤ x.sender) × (x.sender ≤ 255)) (each (stream_of row.now) 0 n)) result }
 {
-    let mut i = 0;
-    while i < n {
+    for i in 0..n {
         let sender = row[2 * i + 1];
-        if sender < 1 {
+        if sender < 1 || MOST_SENDER < sender {
             return false;
         }
-        if MOST_SENDER < sender {
-            return false;
-        }
-        i += 1;
     }
     true
 }
@@ -179,45 +125,32 @@ fn streams_rise(row: &[u64], n: usize) -> bool
     requires { (n ≤ 8) × (length row.now ≡ 16) }
     ensures { Says (Rising (stream_codes (each (stream_of row.now) 0 n))) result }
 {
-    let mut i = 1;
-    while i < n {
+    for i in 1..n {
         if row[2 * i] <= row[2 * (i - 1)] {
             return false;
         }
-        i += 1;
     }
     true
 }
 
+#[tactic(auto, using(book_read::proofs::Filling::each_length))]
 fn streams_right(row: &[u64], n: usize) -> bool
     requires { length row.now ≡ 16 }
     ensures { Says (RightStreams (each (stream_of row.now) 0 n)) result }
 {
-    if MOST_STREAMS < n {
-        return false;
-    }
-    if !stream_codes_right(row, n) {
-        return false;
-    }
-    if !administrators_right(row, n) {
-        return false;
-    }
-    streams_rise(row, n)
+    n <= MOST_STREAMS
+        && stream_codes_right(row, n)
+        && administrators_right(row, n)
+        && streams_rise(row, n)
 }
 
 pub fn lengths_right(codes: &[u64], flags: &[u64], balances: &[u64], sublimits: &[u64]) -> bool
     ensures { Says (Lengths codes.now flags.now balances.now sublimits.now) result }
 {
-    if codes.len() != Bank::MOST {
-        return false;
-    }
-    if flags.len() != Bank::MOST {
-        return false;
-    }
-    if balances.len() != Bank::MOST {
-        return false;
-    }
-    sublimits.len() == Bank::MOST
+    codes.len() == Bank::MOST
+        && flags.len() == Bank::MOST
+        && balances.len() == Bank::MOST
+        && sublimits.len() == Bank::MOST
 }
 
 // Of the banks in use: "banks ascending by code".
@@ -225,14 +158,9 @@ fn banks_right(codes: &[u64], flags: &[u64], streams: usize, banks: usize) -> bo
     requires { (streams ≤ 8) × (banks ≤ length codes.now) × (banks ≤ length flags.now) }
     ensures { Says (RightBanks streams banks codes.now flags.now) result }
 {
-    let a = 0;
-    if !codes_right(&codes[a..banks]) {
-        return false;
-    }
-    if !codes_rise(&codes[a..banks]) {
-        return false;
-    }
-    flags_right(&flags[a..banks], streams)
+    codes_right(&codes[..banks])
+        && codes_rise(&codes[..banks])
+        && flags_right(&flags[..banks], streams)
 }
 
 // "account records past it zero"
@@ -247,26 +175,16 @@ fn zero_past(
     requires banks_bound { banks ≤ 64 }
     ensures { Says (ZeroPast banks codes.now flags.now balances.now sublimits.now) result }
 {
-    let e = Bank::MOST;
-    if !zero(&codes[banks..e]) {
-        return false;
-    }
-    if !zero(&flags[banks..e]) {
-        return false;
-    }
-    if !zero(&balances[banks..e]) {
-        return false;
-    }
-    zero(&sublimits[banks..e])
+    zero(&codes[banks..])
+        && zero(&flags[banks..])
+        && zero(&balances[banks..])
+        && zero(&sublimits[banks..])
 }
 
 fn money_right(balances: &[u64], sublimits: &[u64]) -> bool
     ensures { Says (RightMoney balances.now sublimits.now) result }
 {
-    if !sublimits_right(sublimits) {
-        return false;
-    }
-    total_right(balances)
+    sublimits_right(sublimits) && total_right(balances)
 }
 
 // All rules of the house.
@@ -279,21 +197,11 @@ pub fn house_right(
 ) -> bool
     ensures { Says (RightHouse (house_on desk codes.now flags.now) balances.now sublimits.now) result }
 {
-    if !lengths_right(codes, flags, balances, sublimits) {
-        return false;
-    }
     let streams = desk.streams;
-    if !streams_right(&streams, desk.n) {
-        return false;
-    }
-    if Bank::MOST < desk.banks {
-        return false;
-    }
-    if !banks_right(codes, flags, desk.n, desk.banks) {
-        return false;
-    }
-    if !zero_past(codes, flags, balances, sublimits, desk.banks) {
-        return false;
-    }
-    money_right(balances, sublimits)
+    lengths_right(codes, flags, balances, sublimits)
+        && streams_right(&streams, desk.n)
+        && desk.banks <= Bank::MOST
+        && banks_right(codes, flags, desk.n, desk.banks)
+        && zero_past(codes, flags, balances, sublimits, desk.banks)
+        && money_right(balances, sublimits)
 }

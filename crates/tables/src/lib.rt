@@ -18,10 +18,3 @@ pub struct Desk {
     pub streams: [u64; 16],
     pub n: usize,
 }
-
-// What is looked for stands at a place, or nowhere.
-#[derive(Clone, Copy)]
-pub enum Sought {
-    Here(usize),
-    Nowhere,
-}

@@ -10,7 +10,7 @@ use crate::Desk;
 use book_read::Book;
 use chars::Refusal;
 use clock::Clock;
-use model::{Action, Answer, Phase};
+use model::{Action, Phase};
 use response_write::Settlement;
 use settle::Batch;
 
@@ -23,56 +23,36 @@ const ROOM: usize = TEXTS * Settlement::LONGEST;
 pub fn moved(desk: Desk, clock: u64) -> Desk
     ensures { result ≡ moved_to desk clock }
 {
-    let mut d = desk;
-    d.clock = clock;
-    d
+    Desk { clock, ..desk }
 }
 
 fn is_opening(action: Action) -> bool
     ensures { result ≡ is_opening action }
 {
-    match action {
-        Action::Opening => true,
-        Action::Message(_) => false,
-        Action::SubLimit(_, _) => false,
-        Action::Status(_, _, _) => false,
-        Action::Tick => false,
-        Action::Close => false,
-        Action::ClosingBook(_) => false,
-    }
+    matches!(action, Action::Opening)
 }
 
 // "clock not in 0 to 86,399 or before the last one (an opening sets the clock anew)"
+#[tactic(auto, unfolding(clock::specs::Clock::clock_of))]
 fn right_clock(desk: Desk, clock: u64, action: Action) -> bool
     ensures { result ≡ right_clock action (day_on desk) clock }
 {
-    let clock::Moment::At(given) = Clock::new(clock) else {
+    let Some(given) = Clock::new(clock) else {
         return false;
     };
-    if is_opening(action) {
-        return true;
-    }
-    desk.clock <= given.seconds
+    is_opening(action) || desk.clock <= given.seconds
 }
 
 fn is_open(phase: Phase) -> bool
     ensures { result ≡ is_open phase }
 {
-    match phase {
-        Phase::Fresh => false,
-        Phase::Open => true,
-        Phase::Closed => false,
-    }
+    matches!(phase, Phase::Open)
 }
 
 fn is_closed(phase: Phase) -> bool
     ensures { result ≡ is_closed phase }
 {
-    match phase {
-        Phase::Fresh => false,
-        Phase::Open => false,
-        Phase::Closed => true,
-    }
+    matches!(phase, Phase::Closed)
 }
 
 // "a closing book's date not true, .. not later than the last opened day's"
@@ -80,34 +60,25 @@ fn right_date(desk: Desk, date: u64) -> bool
     ensures { result ≡ right_date (day_on desk) (day_of date) }
 {
     match dates::day_of(date) {
-        dates::Day::Number(k) => desk.date < k,
-        dates::Day::Untrue => false,
+        Some(k) => desk.date < k,
+        None => false,
     }
 }
 
 fn right_closing(desk: Desk, date: u64) -> bool
     ensures { result ≡ (is_closed desk.phase && right_date (day_on desk) (day_of date)) }
 {
-    let phase = desk.phase;
-    if !is_closed(phase) {
-        return false;
-    }
-    right_date(desk, date)
+    is_closed(desk.phase) && right_date(desk, date)
 }
 
 // "day not open (an opening wants a fresh start or a closed day, a closing book a closed day)"
 fn right_day(desk: Desk, action: Action) -> bool
     ensures { result ≡ right_day action (day_on desk) }
 {
-    let phase = desk.phase;
     match action {
-        Action::Opening => !is_open(phase),
-        Action::Message(_) => is_open(phase),
-        Action::SubLimit(_, _) => is_open(phase),
-        Action::Status(_, _, _) => is_open(phase),
-        Action::Tick => is_open(phase),
-        Action::Close => is_open(phase),
+        Action::Opening => !is_open(desk.phase),
         Action::ClosingBook(date) => right_closing(desk, date),
+        _ => is_open(desk.phase),
     }
 }
 
@@ -115,10 +86,7 @@ fn right_day(desk: Desk, action: Action) -> bool
 pub fn right_moment(desk: Desk, clock: u64, action: Action) -> bool
     ensures { result ≡ (right_clock action (day_on desk) clock && right_day action (day_on desk)) }
 {
-    if !right_clock(desk, clock, action) {
-        return false;
-    }
-    right_day(desk, action)
+    right_clock(desk, clock, action) && right_day(desk, action)
 }
 
 // "output buffer under 33,705 bytes (closing book: under its own length)"
@@ -127,14 +95,9 @@ fn room_needed(desk: Desk, action: Action) -> usize
     ensures { Needs desk action result }
 {
     match action {
-        Action::Opening => ROOM,
-        Action::Message(_) => ROOM,
-        Action::SubLimit(_, _) => ROOM,
-        Action::Status(_, _, _) => ROOM,
-        Action::Tick => ROOM,
-        Action::Close => ROOM,
         Action::ClosingBook(_) => Book::BLOCK
             * ((desk.banks + (Book::ENTRIES - 1)) / Book::ENTRIES + 1),
+        _ => ROOM,
     }
 }
 
@@ -143,22 +106,25 @@ fn has_room(desk: Desk, action: Action, room: usize, rows: usize) -> bool
     requires { (desk.banks ≤ 64) × (desk.n ≤ 8) }
     ensures { Roomy desk action room rows result }
 {
-    if room < room_needed(desk, action) {
-        return false;
-    }
-    Batch::TRIES <= rows
+    room_needed(desk, action) <= room && Batch::TRIES <= rows
 }
 
 // 05, then 07.
-pub fn judge(desk: Desk, clock: u64, action: Action, room: usize, rows: usize) -> Answer
+pub fn judge(
+    desk: Desk,
+    clock: u64,
+    action: Action,
+    room: usize,
+    rows: usize,
+) -> Result<(), Refusal>
     requires { (desk.banks ≤ 64) × (desk.n ≤ 8) }
     ensures { Judged desk clock action room rows result }
 {
     if !right_moment(desk, clock, action) {
-        return Answer::Refused(Refusal::WrongMoment);
+        return Err(Refusal::WrongMoment);
     }
     if !has_room(desk, action, room, rows) {
-        return Answer::Refused(Refusal::ShortBuffer);
+        return Err(Refusal::ShortBuffer);
     }
-    Answer::Done
+    Ok(())
 }

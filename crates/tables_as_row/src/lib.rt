@@ -23,22 +23,17 @@ fn lent(words: &[u64], table: usize, room: usize) -> usize
     ensures small { result ≤ room }
 {
     let n = words[24 + table] as usize;
-    if room < n {
-        return room;
-    }
-    n
+    n.min(room)
 }
 
 fn phase(x: u64) -> Phase
     ensures { result ≡ phase_by x }
 {
-    if x == 0 {
-        return Phase::Fresh;
+    match x {
+        0 => Phase::Fresh,
+        1 => Phase::Open,
+        _ => Phase::Closed,
     }
-    if x == 1 {
-        return Phase::Open;
-    }
-    Phase::Closed
 }
 
 fn streams(words: &[u64]) -> [u64; 16]
@@ -46,11 +41,7 @@ fn streams(words: &[u64]) -> [u64; 16]
     ensures { result ≡ take 16 (drop 6 words.now) }
 {
     let mut row = [0u64; 16];
-    let mut i = 0;
-    while i < 16 {
-        row[i] = words[6 + i];
-        i += 1;
-    }
+    row.copy_from_slice(&words[6..22]);
     row
 }
 
@@ -101,8 +92,9 @@ pub fn right(words: &[u64]) -> bool
 pub fn purmagheli_row_right(words: &[u64]) -> u64
     ensures { Judged words.now result }
 {
-    if words.len() != WORDS {
-        return 6;
+    if words.len() == WORDS && right(words) {
+        0
+    } else {
+        6
     }
-    if right(words) { 0 } else { 6 }
 }

@@ -1,16 +1,13 @@
 -- Laws of clearing.
+use Rattle.std.specs.Prelude.{Ok, Err}
 use Prim.Native.Nat.{ℕ}
 use mathlib.Core.Path.{◌≡◌, refl, ap, ◌∙◌}
 use mathlib.Core.Bool.{Bool, true, false, not}
 use mathlib.Core.List.{List}
-use lib.Dec.{eqb}
 use lib.ListN.{length, replicate}
-use borrow.Author.Tests.{eqb-true, eqb-false}
-use Rattle.queue.proofs.MemoryLaws.{by_bool}
 use Rattle.chars.specs.Words.{Says}
 use Rattle.chars.specs.declared.Refusal.TheVariants.{BrokenTables}
 use Rattle.model.specs.declared.Phase.TheVariants.{Fresh}
-use Rattle.model.specs.declared.Answer.TheVariants.{Done, Refused}
 use Rattle.model.specs.Calls.{cleared}
 use Rattle.tables.specs.declared.Desk.{Desk}
 use Rattle.tables.specs.House.{Lengths}
@@ -26,13 +23,6 @@ pub no_day : ◌≡◌ {A = Desk} (record { phase = Fresh; date = 0; clock = 0; 
 unfolding desk_of
 no_day = refl
 
-module _ (batches references bins sheet : List ℕ) (k : length batches ≡ 11168) (l : length references ≡ 6144) (m : length bins ≡ 1536) where
-  pub rows_last : Says (LongRows batches references bins sheet) (eqb (length sheet) sheet_length)
-  rows_last =
-      by_bool (eqb (length sheet) sheet_length)
-      (λ e. rw e (record { batches_long = k; references_long = l; bins_long = m; sheet_long = eqb-true (length sheet) sheet_length e }))
-      (λ e. rw e (λ x. eqb-false (length sheet) sheet_length e x.sheet_long))
-
 zeroed : (n : ℕ) (l m : List ℕ) → length l ≡ n → m ≡ replicate (length l) 0 → m ≡ replicate n 0
 zeroed n l m e f = f ∙ ap (λ (k : ℕ). replicate k 0) e
 
@@ -41,7 +31,7 @@ module _ (d : Desk) (codes flags balances sublimits batches references bins shee
   t = lent_on codes flags balances sublimits batches references bins sheet
 
   pub clear_uneven : (b : Bool) → Says (LongRows batches references bins sheet) b → not b ≡ true
-      → Cleared d t (record { answer = Refused BrokenTables; desk = d; tables = t })
+      → Cleared d t (record { answer = Err BrokenTables; desk = d; tables = t })
   unfolding clear_lent
   clear_uneven b u e = record {
     long = false;
@@ -50,7 +40,7 @@ module _ (d : Desk) (codes flags balances sublimits batches references bins shee
   }
 
   module _ (a : Bool) (s : Says (Lengths codes flags balances sublimits) a) where
-    pub clear_short : not a ≡ true → Cleared d t (record { answer = Refused BrokenTables; desk = d; tables = t })
+    pub clear_short : not a ≡ true → Cleared d t (record { answer = Err BrokenTables; desk = d; tables = t })
     unfolding clear_lent
     clear_short e = record {
       long = false;
@@ -62,7 +52,7 @@ module _ (d : Desk) (codes flags balances sublimits batches references bins shee
       pub clear_done : not a ≡ false → not b ≡ false → (codes' flags' balances' sublimits' batches' references' bins' sheet' : List ℕ) (d' : Desk)
           → WipedAccounts codes flags balances sublimits codes' flags' balances' sublimits'
           → WipedRows batches references bins sheet batches' references' bins' sheet' → d' ≡ desk_of cleared.state
-          → Cleared d t (record { answer = Done; desk = d'; tables = lent_on codes' flags' balances' sublimits' batches' references' bins' sheet' })
+          → Cleared d t (record { answer = Ok tt; desk = d'; tables = lent_on codes' flags' balances' sublimits' batches' references' bins' sheet' })
       unfolding clear_lent
       clear_done e f codes' flags' balances' sublimits' batches' references' bins' sheet' d' x y g =
           let l = says_yes a s e in

@@ -11,13 +11,13 @@ ghost use Rattle.tables.specs.Lent.{Cleared};
 ghost use Rattle.tables_clear.specs.Clearing.{LongRows, WipedAccounts, WipedRows};
 
 use chars::Refusal;
-use model::{Answer, Phase};
+use model::Phase;
 use tables::Desk;
 
 // What a clearing answers, and the desk that it leaves.
 #[derive(Clone, Copy)]
 pub struct Start {
-    pub answer: Answer,
+    pub answer: Result<(), Refusal>,
     pub desk: Desk,
 }
 
@@ -33,16 +33,10 @@ fn rows_long(batches: &[u64], references: &[u64], bins: &[u64], sheet: &[u64]) -
     ensures { Says
         (LongRows batches.now references.now bins.now sheet.now) result }
 {
-    if batches.len() != BATCHES {
-        return false;
-    }
-    if references.len() != REFERENCES {
-        return false;
-    }
-    if bins.len() != BINS {
-        return false;
-    }
-    sheet.len() == SHEET
+    batches.len() == BATCHES
+        && references.len() == REFERENCES
+        && bins.len() == BINS
+        && sheet.len() == SHEET
 }
 
 fn wipe_accounts(codes: &mut [u64], flags: &mut [u64], balances: &mut [u64], sublimits: &mut [u64])
@@ -106,13 +100,13 @@ pub fn clear(
 {
     if !tables::house::lengths_right(codes, flags, balances, sublimits) {
         return Start {
-            answer: Answer::Refused(Refusal::BrokenTables),
+            answer: Err(Refusal::BrokenTables),
             desk,
         };
     }
     if !rows_long(batches, references, bins, sheet) {
         return Start {
-            answer: Answer::Refused(Refusal::BrokenTables),
+            answer: Err(Refusal::BrokenTables),
             desk,
         };
     }
@@ -120,7 +114,7 @@ pub fn clear(
     wipe_rows(batches, references, bins, sheet);
     let desk = no_day();
     Start {
-        answer: Answer::Done,
+        answer: Ok(()),
         desk,
     }
 }

@@ -15,14 +15,12 @@ fn rows_right(batches: &[u64], banks: usize) -> bool
     requires { (length batches.now ≡ 11168) × (banks ≤ 64) }
     ensures { Says (Each (RowRight banks) (batch_rows batches.now)) result }
 {
-    let mut place = 0;
-    while place < Batch::LIVE {
+    for place in 0..Batch::LIVE {
         let a = place * Batch::WIDTH;
         let e = a + Batch::WIDTH;
         if !row::row_right(&batches[a..e], banks) {
             return false;
         }
-        place += 1;
     }
     true
 }
@@ -32,14 +30,8 @@ pub fn batches_right(batches: &[u64], banks: usize) -> bool
     requires { banks ≤ 64 }
     ensures { Says (BatchRules banks batches.now) result }
 {
-    if batches.len() != Batch::LIVE * Batch::WIDTH {
-        return false;
-    }
-    if !rows_right(batches, banks) {
-        return false;
-    }
-    if !orders::ranks_right(batches, 2) {
-        return false;
-    }
-    orders::ranks_right(batches, 3)
+    batches.len() == Batch::LIVE * Batch::WIDTH
+        && rows_right(batches, banks)
+        && orders::ranks_right(batches, 2)
+        && orders::ranks_right(batches, 3)
 }

@@ -10,20 +10,10 @@ ghost use Rattle.tables_rules.specs.entry_rules.EntryRules.{KnownRules};
 pub fn known_right(references: &[u64], bins: &[u64], today: u64) -> bool
     ensures { Says (KnownRules today references.now bins.now) result }
 {
-    if references.len() != 6144 {
-        return false;
-    }
-    if bins.len() != 1536 {
-        return false;
-    }
-    if !entries::entries_right(references, 2048, today, true) {
-        return false;
-    }
-    if !entries::entries_right(bins, 512, today, false) {
-        return false;
-    }
-    if !chains::entries_once(bins, 512, today) {
-        return false;
-    }
-    chains::entries_once(references, 2048, today)
+    references.len() == 6144
+        && bins.len() == 1536
+        && entries::entries_right(references, 2048, today, true)
+        && entries::entries_right(bins, 512, today, false)
+        && chains::entries_once(bins, 512, today)
+        && chains::entries_once(references, 2048, today)
 }

@@ -25,12 +25,10 @@ fn closed_right(
 ) -> bool
     ensures { Says (ClosedTables desk (lent_with codes.now flags.now balances.now sublimits.now batches.now references.now bins.now)) result }
 {
-    if !tables::house::zero(batches) {
-        return false;
-    }
-    desk::day_right(
-        desk, codes, flags, balances, sublimits, batches, references, bins,
-    )
+    tables::house::zero(batches)
+        && desk::day_right(
+            desk, codes, flags, balances, sublimits, batches, references, bins,
+        )
 }
 
 // "a lent table breaks the table rules", where this is false.

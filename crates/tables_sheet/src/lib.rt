@@ -30,15 +30,13 @@ fn add_row(row: &[u64], sheet: &mut [u64])
     requires addable { Addable sheet.old (payments_in row.now) }
     ensures { Added sheet.old (payments_in row.now) sheet.new }
 {
-    let mut at = Batch::PAYMENT;
-    let mut left = row[Batch::PAYMENTS_THERE];
-    while 0 < left {
+    let n = row[Batch::PAYMENTS_THERE] as usize;
+    for i in 0..n {
+        let at = Batch::PAYMENT + i * Batch::PAYMENT_WIDTH;
         if row[at + LETTERS] != 0 {
             let bank = row[at] as usize;
             sheet[bank] = sheet[bank] + row[at + CENTS];
         }
-        at += Batch::PAYMENT_WIDTH;
-        left -= 1;
     }
 }
 
@@ -64,26 +62,9 @@ pub fn fill(batches: &[u64], sheet: &mut [u64])
     ensures { sheet.new ≡ sheet_words (batches_in batches.now) }
 {
     tables::places::clear(sheet);
-    let mut place = 0;
-    while place < Batch::LIVE {
+    for place in 0..Batch::LIVE {
         add_place(batches, place, sheet);
-        place += 1;
     }
-}
-
-// Whether two sheets are equal.
-fn same(a: &[u64], b: &[u64]) -> bool
-    requires { (length a.now ≡ sheet_length) × (length b.now ≡ sheet_length) }
-    ensures { Says (a.now ≡ b.now) result }
-{
-    let mut i = 0;
-    while i < LENGTH {
-        if a[i] != b[i] {
-            return false;
-        }
-        i += 1;
-    }
-    true
 }
 
 // Whether a sheet is that of the batches.
@@ -91,12 +72,9 @@ fn right(batches: &[u64], sheet: &[u64]) -> bool
     requires { Ruled batches.now }
     ensures { Says (sheet.now ≡ sheet_words (batches_in batches.now)) result }
 {
-    if sheet.len() != LENGTH {
-        return false;
-    }
     let mut own = [0u64; LENGTH];
     fill(batches, &mut own);
-    same(sheet, &own)
+    sheet == own.as_slice()
 }
 
 // "A lent table breaks the table rules", where this is false: those of tables_rules, and the sheet.

@@ -4,41 +4,30 @@ use mathlib.Core.Path.{◌≡◌, refl, ap, sym, ◌∙◌}
 use mathlib.Core.List.{List}
 use mathlib.Core.Bool.{Bool, true, false, cond}
 use native.Mathlib.Omega.{arith}
-use borrow.Author.Tests.{ne_eqb, lt-ltb, le-ltb}
+use borrow.Author.Tests.{lt-ltb, le-ltb}
 use lib.Dec.{eqb, ltb}
-use lib.ListN.{length, get_or, drop, take, length-drop, length-append}
+use lib.ListN.{length, get_or, drop, take, length-drop}
 use Rattle.chars.specs.Words.{bytes}
 use Rattle.chars.specs.Refusals.{number_of}
 use Rattle.text_scan.specs.Scan.{on_next, begins, lit_at, line_end_at}
-use Rattle.text_scan.specs.declared.At.{At}
-use Rattle.text_scan.specs.declared.At.TheVariants.{Next, No}
-use Rattle.text_scan.proofs.Laws.{lit_yes, lit_not}
+use Rattle.text_scan.proofs.Pairs.{some_pair}
 use Rattle.text_scan.proofs.Standing.{lit_next, line_end_sound}
 use Rattle.text_fields.specs.declared.Break.{Break}
 use Rattle.text_explain.specs.Tags.{tag_text, padded}
-use Rattle.text_explain.specs.Stages.{tags_at, after, settles_in, said_in}
+use Rattle.text_explain.specs.Stages.{tags_at, after, said_in}
 use Rattle.text_explain.specs.Walk.{place, on_here, one_at, stands_at, onward_at, step_at, walk, first, place_at}
-use Rattle.text_explain.specs.Faults.{told, wrong_at, fault_at, told_at}
+use Rattle.text_explain.specs.Faults.{told, wrong_at, fault_at}
 use Rattle.text_explain.specs.declared.Tag.{Tag}
 use Rattle.text_explain.specs.declared.Tag.TheVariants.{T20, T12, T77E, T22A, T119, T16A, T171, T175, T127, T32B, T113, T102, T203, T21, T451, T13E, T432}
 use Rattle.text_explain.specs.declared.Tags.{Tags}
 use Rattle.text_explain.specs.declared.Tags.TheVariants.{Ending, One, Two}
 use Rattle.text_explain.specs.declared.Stage.{Stage}
-use Rattle.text_explain.specs.declared.Said.{Said}
 use Rattle.text_explain.specs.declared.Place.{Place}
-use Rattle.text_explain.specs.declared.Stands.{Stands}
-use Rattle.text_explain.specs.declared.Stands.TheVariants.{Here, Nowhere}
-use Rattle.text_explain.specs.declared.Step.{Step}
-use Rattle.text_explain.specs.declared.Step.TheVariants.{Onto, Stay}
+use Rattle.std.specs.Prelude.{Option, Some, None}
+use Rattle.std.specs.Option.{is_some}
 use Rattle.text_explain.specs.declared.Fault.{Fault}
 use Rattle.text_explain.specs.declared.Fault.TheVariants.{Missing, Wrong, Unknown, AfterCredit}
 use Rattle.text_explain.specs.declared.Told.{Told}
-
-pub by_tags : {x y : Stage} {r : Tags} → x ≡ y → r ≡ tags_at y → r ≡ tags_at x
-by_tags p q = rw p q
-
-pub by_after : (t : Tag) (v : Said) {x y : Stage} {r : Stage} → x ≡ y → r ≡ after y t v → r ≡ after x t v
-by_after t v p q = rw p q
 
 -- a tag's bytes: a zero stands behind four, and no fifth is zero
 size_told : (t : Tag) → length (tag_text t) ≡ cond (eqb (get_or (padded (tag_text t)) 4 0) 0) 4 5
@@ -59,13 +48,6 @@ size_told T21 = refl
 size_told T451 = refl
 size_told T13E = refl
 size_told T432 = refl
-
-module _ (t : Tag) {l : List ℕ} (e : l ≡ padded (tag_text t)) where
-  pub size_four : get_or l 4 0 ≡ 0 → 4 ≡ length (tag_text t)
-  size_four z = sym (size_told t ∙ rw (← e, z))
-
-  pub size_five : (get_or l 4 0 ≡ 0 → ⊥) → 5 ≡ length (tag_text t)
-  size_five n = sym (size_told t ∙ rw (← e, ne_eqb (get_or l 4 0) 0 n))
 
 pub tag_size : (t : Tag) → (4 ≤ length (tag_text t)) × (length (tag_text t) ≤ 5)
 tag_size t = go (eqb (get_or (padded (tag_text t)) 4 0) 0) (size_told t)
@@ -100,125 +82,67 @@ pub tag_fits : (t : Tag) {n : ℕ} → n ≡ length (tag_text t) → n ≤ 5
 tag_fits t p = omega (arith, (tag_size t).1)
 
 module _ (s : List ℕ) (at : ℕ) where
-  pub tag_at_1 : (t : Tag) {x : List ℕ} {n : ℕ} {r : At} → x ≡ padded (tag_text t) → n ≡ length (tag_text t) → r ≡ lit_at s at (take n x) → r ≡ lit_at s at (tag_text t)
+  pub tag_at_1 : (t : Tag) {x : List ℕ} {n : ℕ} {r : Option ℕ} → x ≡ padded (tag_text t) → n ≡ length (tag_text t) → r ≡ lit_at s at (take n x) → r ≡ lit_at s at (tag_text t)
   tag_at_1 t p q h = h ∙ ap (lit_at s at) (rw (p, q) (cut t))
 
-  pub starts_1 : (w : List ℕ) {r : At} {m : ℕ} → r ≡ lit_at s at w → r ≡ Next m → true ≡ begins w (drop at s)
-  starts_1 w p q = sym (lit_yes s at w (sym p ∙ q))
-
-  pub starts_2 : (w : List ℕ) {r : At} → r ≡ lit_at s at w → r ≡ No → false ≡ begins w (drop at s)
-  starts_2 w p q = sym (lit_not s at w (sym p ∙ q))
-
-  pub letters_1 : {r : At} {a : ℕ} → r ≡ lit_at s at (bytes ":113:") → r ≡ Next a → a ≡ on_next (lit_at s at (bytes ":113:")) 0 (λ a. a)
-  letters_1 p q = rw (← p, q)
-
-  pub letters_2 : {r : At} → r ≡ lit_at s at (bytes ":113:") → r ≡ No → 0 ≡ on_next (lit_at s at (bytes ":113:")) 0 (λ a. a)
-  letters_2 p q = rw (← p, q)
-
-  pub one_1 : (t : Tag) {r : At} {a : ℕ} → r ≡ lit_at s at (tag_text t) → r ≡ Next a → Here t a ≡ one_at s at t
-  one_1 t p q = rw (← p, q)
-
-  pub one_2 : (t : Tag) {r : At} → r ≡ lit_at s at (tag_text t) → r ≡ No → Nowhere ≡ one_at s at t
-  one_2 t p q = rw (← p, q)
-
-  pub two_1 : (t u : Tag) {r : At} {a : ℕ} → r ≡ lit_at s at (tag_text t) → r ≡ Next a → Here t a ≡ stands_at s at (Two t u)
-  unfolding stands_at
-  two_1 t u p q = rw (← p, q)
-
-  pub two_2 : (t u : Tag) {r : At} {o : Stands} → r ≡ lit_at s at (tag_text t) → r ≡ No → o ≡ one_at s at u → o ≡ stands_at s at (Two t u)
-  unfolding stands_at
-  two_2 t u p q h = rw (← p, q) h
-
-  pub none_of : {x : Tags} → x ≡ Ending → Nowhere ≡ stands_at s at x
-  unfolding stands_at
-  none_of p = rw p
-
-  pub one_of : {x : Tags} {t : Tag} {o : Stands} → x ≡ One t → o ≡ one_at s at t → o ≡ stands_at s at x
-  unfolding stands_at
-  one_of p h = rw p h
-
-  pub two_of : {x : Tags} {t u : Tag} {o : Stands} → x ≡ Two t u → o ≡ stands_at s at (Two t u) → o ≡ stands_at s at x
-  two_of p h = rw p h
-
--- what a value says
-module _ (l : List ℕ) where
-  pub settles_1 : {b : Bool} → b ≡ begins (bytes "131") l → b ≡ true → true ≡ settles_in l
-  settles_1 p q = rw (← p, q)
-
-  pub settles_2 : {b r : Bool} → b ≡ begins (bytes "131") l → b ≡ false → r ≡ begins (bytes "132") l → r ≡ settles_in l
-  settles_2 p q h = rw (← p, q) h
-
-  pub said_1 : {x y z : Bool} → x ≡ settles_in l → y ≡ begins (bytes "DR") l → z ≡ begins (bytes "0") l → record { settles = x; debit = y; done = z } ≡ said_in l
-  said_1 p q h = rw (p, q, h)
+  -- whether a word stands there
+  pub starts_is : (w : List ℕ) {r : Option ℕ} → r ≡ lit_at s at w → is_some r ≡ begins w (drop at s)
+  unfolding lit_at
+  starts_is w p = rw p (go (begins w (drop at s)))
+    where
+      go : (b : Bool) → is_some (cond b (Some (at + length w)) None) ≡ b
+      go true = refl
+      go false = refl
 
 -- behind a tag that stands there
-one_past : (s : List ℕ) (at : ℕ) (u : Tag) {t : Tag} {a : ℕ} → one_at s at u ≡ Here t a → a ≡ at + length (tag_text t)
+one_past : (s : List ℕ) (at : ℕ) (u : Tag) {t : Tag} {a : ℕ} → one_at s at u ≡ Some (t, a) → a ≡ at + length (tag_text t)
 one_past s at u {t} {a} h = go (lit_at s at (tag_text u)) refl h
   where
-    go : (r : At) → lit_at s at (tag_text u) ≡ r → on_next r Nowhere (λ a. Here u a) ≡ Here t a → a ≡ at + length (tag_text t)
-    go (Next e) p q =
-        let z : u ≡ t = cc in
-        let y : e ≡ a = cc in
-        sym y ∙ lit_next s at (tag_text u) p ∙ ap (λ (x : Tag). at + length (tag_text x)) z
-    go No p q = let z : ◌≡◌ {A = ℕ} 0 1 = cc in absurd (omega arith)
+    go : (r : Option ℕ) → lit_at s at (tag_text u) ≡ r → on_next {A = Option (Tag × ℕ)} r None (λ a. Some (u, a)) ≡ Some (t, a) → a ≡ at + length (tag_text t)
+    go (Some e) p q =
+        let z = some_pair q in
+        sym z.1 ∙ lit_next s at (tag_text u) p ∙ ap (λ (x : Tag). at + length (tag_text x)) z.0
+    go None p q = let z : ◌≡◌ {A = ℕ} 0 1 = cc in absurd (omega arith)
 
-pub stands_past : (s : List ℕ) (at : ℕ) (x : Tags) {t : Tag} {a : ℕ} → stands_at s at x ≡ Here t a → a ≡ at + length (tag_text t)
+pub stands_past : (s : List ℕ) (at : ℕ) (x : Tags) {t : Tag} {a : ℕ} → stands_at s at x ≡ Some (t, a) → a ≡ at + length (tag_text t)
 unfolding stands_at
 stands_past s at Ending h = let z : ◌≡◌ {A = ℕ} 0 1 = cc in absurd (omega arith)
 stands_past s at (One u) h = one_past s at u h
 stands_past s at (Two u w) {t} {a} h = go (lit_at s at (tag_text u)) refl h
   where
-    go : (r : At) → lit_at s at (tag_text u) ≡ r → on_next r (one_at s at w) (λ a. Here u a) ≡ Here t a → a ≡ at + length (tag_text t)
-    go (Next e) p q = one_past s at u (ap (λ (r : At). on_next r Nowhere (λ a. Here u a)) p ∙ q)
-    go No p q = one_past s at w q
+    go : (r : Option ℕ) → lit_at s at (tag_text u) ≡ r → on_next {A = Option (Tag × ℕ)} r (one_at s at w) (λ a. Some (u, a)) ≡ Some (t, a) → a ≡ at + length (tag_text t)
+    go (Some e) p q = one_past s at u (ap (λ (r : Option ℕ). on_next {A = Option (Tag × ℕ)} r None (λ a. Some (u, a))) p ∙ q)
+    go None p q = one_past s at w q
 
-pub onward_fits : (s : List ℕ) (p : Place) (x : Tags) {r : Stands} {t : Tag} {a : ℕ} → p.line ≤ p.at + 1 → r ≡ stands_at s p.at x → r ≡ Here t a → p.line ≤ a
+pub onward_fits : (s : List ℕ) (p : Place) (x : Tags) {r : Option (Tag × ℕ)} {t : Tag} {a : ℕ} → p.line ≤ p.at + 1 → r ≡ stands_at s p.at x → r ≡ Some (t, a) → p.line ≤ a
 onward_fits s p x {t = t} h i j = omega (arith, h, stands_past s p.at x (sym i ∙ j), (tag_size t).0)
 
 -- the end of a line
 module _ (s : List ℕ) (a n : ℕ) where
-  pub line_fits : {r : At} {e : ℕ} → r ≡ line_end_at s a n → r ≡ Next e → (a ≤ e) × (e + 2 ≤ length s)
+  pub line_fits : {r : Option ℕ} {e : ℕ} → r ≡ line_end_at s a n → r ≡ Some e → (a ≤ e) × (e + 2 ≤ length s)
   line_fits {e = e} p q =
       let i = line_end_sound s a n (sym p ∙ q) in
-      (i.1, omega (arith, simp (length-drop, length-append) at (ap length i.0)))
-
-module _ (s : List ℕ) (p : Place) (t : Tag) (a : ℕ) where
-  pub onward_1 : {r : At} → r ≡ line_end_at s a (length s) → r ≡ No → Stay ≡ onward_at s p t a
-  unfolding onward_at
-  onward_1 h i = rw (← h, i)
-
-  pub onward_2 : {r : At} {e : ℕ} {v : Said} {x : Stage} → r ≡ line_end_at s a (length s) → r ≡ Next e → v ≡ said_in (drop a s) → x ≡ after p.stage t v → Onto (place (e + 2) (p.line + 1) x) ≡ onward_at s p t a
-  unfolding onward_at
-  onward_2 h i j k = rw (← h, i, ← j, ← k)
-
-module _ (s : List ℕ) (p : Place) where
-  pub next_1 : {x : Tags} {r : Stands} {t : Tag} {a : ℕ} {o : Step} → x ≡ tags_at p.stage → r ≡ stands_at s p.at x → r ≡ Here t a → o ≡ onward_at s p t a → o ≡ step_at s p
-  unfolding step_at
-  next_1 h i j k = rw (← h, ← i, j) k
-
-  pub next_2 : {x : Tags} {r : Stands} → x ≡ tags_at p.stage → r ≡ stands_at s p.at x → r ≡ Nowhere → Stay ≡ step_at s p
-  unfolding step_at
-  next_2 h i j = rw (← h, ← i, j)
+      (i.1, omega (arith, simp length-drop at (ap length i.0)))
 
 -- a further line begins further on
-onward_past : (s : List ℕ) (p : Place) (t : Tag) (a : ℕ) {q : Place} → onward_at s p t a ≡ Onto q → (a + 2 ≤ q.at) × (q.line ≡ p.line + 1)
+onward_past : (s : List ℕ) (p : Place) (t : Tag) (a : ℕ) {q : Place} → onward_at s p t a ≡ Some q → (a + 2 ≤ q.at) × (q.line ≡ p.line + 1)
 unfolding onward_at
 onward_past s p t a {q} h = go (line_end_at s a (length s)) refl h
   where
-    go : (r : At) → line_end_at s a (length s) ≡ r → on_next r Stay (λ e. Onto (place (e + 2) (p.line + 1) (after p.stage t (said_in (drop a s))))) ≡ Onto q → (a + 2 ≤ q.at) × (q.line ≡ p.line + 1)
-    go (Next e) i j =
+    go : (r : Option ℕ) → line_end_at s a (length s) ≡ r → on_next r None (λ e. Some (place (e + 2) (p.line + 1) (after p.stage t (said_in (drop a s))))) ≡ Some q → (a + 2 ≤ q.at) × (q.line ≡ p.line + 1)
+    go (Some e) i j =
         let z : place (e + 2) (p.line + 1) (after p.stage t (said_in (drop a s))) ≡ q = cc in
         (omega (arith, (line_end_sound s a (length s) i).1, ap (λ (x : Place). x.at) z), sym (ap (λ (x : Place). x.line) z))
-    go No i j = let z : ◌≡◌ {A = ℕ} 0 1 = cc in absurd (omega arith)
+    go None i j = let z : ◌≡◌ {A = ℕ} 0 1 = cc in absurd (omega arith)
 
-pub step_past : (s : List ℕ) (p : Place) {q : Place} → step_at s p ≡ Onto q → (p.at + 6 ≤ q.at) × (q.line ≡ p.line + 1)
+pub step_past : (s : List ℕ) (p : Place) {q : Place} → step_at s p ≡ Some q → (p.at + 6 ≤ q.at) × (q.line ≡ p.line + 1)
 unfolding step_at
 step_past s p {q} h = go (stands_at s p.at (tags_at p.stage)) refl h
   where
-    go : (r : Stands) → stands_at s p.at (tags_at p.stage) ≡ r → on_here r Stay (λ t a. onward_at s p t a) ≡ Onto q → (p.at + 6 ≤ q.at) × (q.line ≡ p.line + 1)
-    go (Here t a) i j = let o = onward_past s p t a j in
+    go : (r : Option (Tag × ℕ)) → stands_at s p.at (tags_at p.stage) ≡ r → on_here r None (λ t a. onward_at s p t a) ≡ Some q → (p.at + 6 ≤ q.at) × (q.line ≡ p.line + 1)
+    go (Some (t, a)) i j = let o = onward_past s p t a j in
         (omega (arith, o.0, stands_past s p.at (tags_at p.stage) i, (tag_size t).0), o.1)
-    go Nowhere i j = let z : ◌≡◌ {A = ℕ} 0 1 = cc in absurd (omega arith)
+    go None i j = let z : ◌≡◌ {A = ℕ} 0 1 = cc in absurd (omega arith)
 
 -- where the walk to a place stands: so many lines more are enough
 pub record Going (s : List ℕ) (stage : Stage) (at : ℕ) (p : Place) : Type 0 where
@@ -232,12 +156,12 @@ unfolding place_at
 going_start s stage at = record { more = at; enough = omega arith; same = refl; small = omega arith }
 
 -- one line on, while the place lies ahead
-walk_on : (n at : ℕ) (s : List ℕ) (p : Place) {q : Place} → p.at < at → at ≤ p.at + n → step_at s p ≡ Onto q → (m : ℕ) × (n ≡ suc m) × (walk n at s p ≡ walk m at s q)
+walk_on : (n at : ℕ) (s : List ℕ) (p : Place) {q : Place} → p.at < at → at ≤ p.at + n → step_at s p ≡ Some q → (m : ℕ) × (n ≡ suc m) × (walk n at s p ≡ walk m at s q)
 unfolding walk
 walk_on zero at s p l h e = absurd (omega arith)
 walk_on (suc m) at s p l h e = (m, refl, rw (lt-ltb p.at at l, e))
 
-walk_stay : (n at : ℕ) (s : List ℕ) (p : Place) → step_at s p ≡ Stay → walk n at s p ≡ p
+walk_stay : (n at : ℕ) (s : List ℕ) (p : Place) → step_at s p ≡ None → walk n at s p ≡ p
 unfolding walk
 walk_stay zero at s p e = refl
 walk_stay (suc m) at s p e = rw e (go (ltb p.at at))
@@ -252,7 +176,7 @@ walk_done zero at s p h = refl
 walk_done (suc m) at s p h = rw (le-ltb p.at at h)
 
 module _ {s : List ℕ} {stage : Stage} {at : ℕ} {p : Place} (g : Going s stage at p) where
-  pub going_on : {q : Place} {r : Step} → p.at < at → r ≡ step_at s p → r ≡ Onto q → Going s stage at q
+  pub going_on : {q : Place} {r : Option Place} → p.at < at → r ≡ step_at s p → r ≡ Some q → Going s stage at q
   going_on {q} l h i =
       let e = sym h ∙ i in
       let w = walk_on g.more at s p l g.enough e in
@@ -264,7 +188,7 @@ module _ {s : List ℕ} {stage : Stage} {at : ℕ} {p : Place} (g : Going s stag
         small = omega (arith, g.small, f.0, f.1);
       }
 
-  pub going_stay : {r : Step} → r ≡ step_at s p → r ≡ Stay → p ≡ place_at s stage at
+  pub going_stay : {r : Option Place} → r ≡ step_at s p → r ≡ None → p ≡ place_at s stage at
   going_stay h i = sym (walk_stay g.more at s p (sym h ∙ i)) ∙ g.same
 
   pub going_done : at ≤ p.at → p ≡ place_at s stage at
@@ -272,10 +196,10 @@ module _ {s : List ℕ} {stage : Stage} {at : ℕ} {p : Place} (g : Going s stag
 
 -- the break
 module _ (s : List ℕ) (b : Break) (p : Place) where
-  pub wrong_1 : {x : Tags} {r : Stands} {t : Tag} {a n : ℕ} {f : Fault} → x ≡ tags_at p.stage → r ≡ stands_at s b.at x → r ≡ Here t a → n ≡ number_of b.refusal → f ≡ cond (eqb n 88) Unknown (Wrong t) → told p.line f a ≡ wrong_at s b p
+  pub wrong_1 : {x : Tags} {r : Option (Tag × ℕ)} {t : Tag} {a n : ℕ} {f : Fault} → x ≡ tags_at p.stage → r ≡ stands_at s b.at x → r ≡ Some (t, a) → n ≡ number_of b.refusal → f ≡ cond (eqb n 88) Unknown (Wrong t) → told p.line f a ≡ wrong_at s b p
   wrong_1 h i j k l = rw (← h, ← i, j, ← k, ← l)
 
-  pub wrong_2 : {x : Tags} {r : Stands} {a : ℕ} → x ≡ tags_at p.stage → r ≡ stands_at s b.at x → r ≡ Nowhere → a ≡ on_next (lit_at s b.at (bytes ":113:")) 0 (λ a. a) → told p.line AfterCredit a ≡ wrong_at s b p
+  pub wrong_2 : {x : Tags} {r : Option (Tag × ℕ)} {a : ℕ} → x ≡ tags_at p.stage → r ≡ stands_at s b.at x → r ≡ None → a ≡ on_next (lit_at s b.at (bytes ":113:")) 0 (λ a. a) → told p.line AfterCredit a ≡ wrong_at s b p
   wrong_2 h i j k = rw (← h, ← i, j, ← k)
 
   pub fault_1 : {x : Tags} → b.missing ≡ true → x ≡ tags_at p.stage → told p.line (Missing x) 0 ≡ fault_at s b p
@@ -285,7 +209,3 @@ module _ (s : List ℕ) (b : Break) (p : Place) where
   pub fault_2 : {r : Told} → b.missing ≡ false → r ≡ wrong_at s b p → r ≡ fault_at s b p
   unfolding fault_at
   fault_2 h i = rw h i
-
-pub told_1 : (s : List ℕ) (b : Break) (x : Stage) {p : Place} {r : Told} → p ≡ place_at s x b.at → r ≡ fault_at s b p → r ≡ told_at s x b
-unfolding told_at
-told_1 s b x h i = rw (← h) i

@@ -5,7 +5,6 @@
 ghost use Rattle.std.specs.Prelude.{◌≡◌, cond, ◌+◌, ◌-◌, ◌≤◌, eqb, length, drop};
 ghost use Rattle.chars.specs.Words.{bytes};
 ghost use Rattle.text_scan.specs.Scan.{on_next, begins, lit_at};
-ghost use Rattle.text_explain.specs.declared.Tags.TheVariants.{Two};
 ghost use Rattle.text_explain.specs.declared.Stage.TheVariants.{At20, At16A, At32B, At113, At102, At203, On20, On22A, On451, On13E, On432, AtEnd};
 ghost use Rattle.text_explain.specs.declared.Fault.TheVariants.{Wrong, Unknown};
 ghost use Rattle.text_explain.specs.Tags.{tag_text, padded, is_side};
@@ -14,7 +13,6 @@ ghost use Rattle.text_explain.specs.Walk.{one_at, stands_at, onward_at, step_at,
 ghost use Rattle.text_explain.specs.Faults.{wrong_at, fault_at, told_at};
 
 use text_fields::Break;
-use text_scan::At;
 
 // "127, 32B, 113, 102: one payment, 1 to 10 times".
 const MOST: usize = 10;
@@ -79,25 +77,7 @@ impl Tag {
     fn is_side(self) -> bool
         ensures { result ≡ is_side self }
     {
-        match self {
-            Tag::T127 => true,
-            Tag::T20 => false,
-            Tag::T12 => false,
-            Tag::T21 => false,
-            Tag::T77E => false,
-            Tag::T22A => false,
-            Tag::T119 => false,
-            Tag::T16A => false,
-            Tag::T171 => false,
-            Tag::T175 => false,
-            Tag::T32B => false,
-            Tag::T113 => false,
-            Tag::T102 => false,
-            Tag::T203 => false,
-            Tag::T451 => false,
-            Tag::T13E => false,
-            Tag::T432 => false,
-        }
+        matches!(self, Tag::T127)
     }
 }
 
@@ -152,20 +132,6 @@ pub struct Place {
     pub at: usize,
     pub line: usize,
     pub stage: Stage,
-}
-
-// Which of some tags stands at a place, and where its value begins.
-#[derive(Clone, Copy)]
-pub enum Stands {
-    Here(Tag, usize),
-    Nowhere,
-}
-
-// From a line to the next.
-#[derive(Clone, Copy)]
-pub enum Step {
-    Onto(Place),
-    Stay,
 }
 
 // How a text breaks: none of the tags that may stand there does; the tag's value is wrong; 12 has another sub
@@ -251,11 +217,7 @@ fn behind_amount(left: usize, debit: bool) -> Stage
 fn behind_bank(left: usize) -> Stage
     ensures { result ≡ At203 (left - 1) }
 {
-    if 0 < left {
-        Stage::At203(left - 1)
-    } else {
-        Stage::At203(0)
-    }
+    Stage::At203(left.saturating_sub(1))
 }
 
 // The stage behind a tag that is 127 or another one.
@@ -285,9 +247,12 @@ fn behind_status(settles: bool, done: bool) -> Stage
     ensures { result ≡ cond done (cond settles On13E AtEnd) On432 }
 {
     if !done {
-        return Stage::On432;
+        Stage::On432
+    } else if settles {
+        Stage::On13E
+    } else {
+        Stage::AtEnd
     }
-    if settles { Stage::On13E } else { Stage::AtEnd }
 }
 
 // The stage behind a line, by its tag and by what its value says.
@@ -322,22 +287,17 @@ fn behind(stage: Stage, t: Tag, said: Said) -> Stage
 }
 
 // Whether a word stands at a place.
+#[tactic(auto, using(crate::proofs::Laws::starts_is))]
 fn starts(s: &[u8], at: usize, word: &[u8]) -> bool
     ensures { result ≡ begins word.now (drop at s.now) }
 {
-    match text_scan::lit(s, at, word) {
-        At::Next(_) => true,
-        At::No => false,
-    }
+    text_scan::lit(s, at, word).is_some()
 }
 
 fn settles(s: &[u8], at: usize) -> bool
     ensures { result ≡ settles_in (drop at s.now) }
 {
-    if starts(s, at, b"131") {
-        return true;
-    }
-    starts(s, at, b"132")
+    starts(s, at, b"131") || starts(s, at, b"132")
 }
 
 fn read_said(s: &[u8], at: usize) -> Said
@@ -351,7 +311,8 @@ fn read_said(s: &[u8], at: usize) -> Said
 }
 
 // The tag at a place: where its value begins.
-fn tag_at(s: &[u8], at: usize, t: Tag) -> At
+#[tactic(auto, using(crate::proofs::Laws::tag_fits, crate::proofs::Laws::tag_part, crate::proofs::Laws::tag_at_1))]
+fn tag_at(s: &[u8], at: usize, t: Tag) -> Option<usize>
     ensures { result ≡ lit_at s.now at (tag_text t) }
 {
     let text = t.text();
@@ -359,65 +320,52 @@ fn tag_at(s: &[u8], at: usize, t: Tag) -> At
     text_scan::lit(s, at, &text[..n])
 }
 
-fn one(s: &[u8], at: usize, t: Tag) -> Stands
+// The tag, if it stands at a place, and where its value begins.
+fn one(s: &[u8], at: usize, t: Tag) -> Option<(Tag, usize)>
     ensures { result ≡ one_at s.now at t }
 {
-    match tag_at(s, at, t) {
-        At::Next(a) => Stands::Here(t, a),
-        At::No => Stands::Nowhere,
-    }
+    let a = tag_at(s, at, t)?;
+    Some((t, a))
 }
 
-fn one_of_two(s: &[u8], at: usize, t: Tag, u: Tag) -> Stands
-    ensures { result ≡ stands_at s.now at (Two t u) }
-{
-    match tag_at(s, at, t) {
-        At::Next(a) => Stands::Here(t, a),
-        At::No => one(s, at, u),
-    }
-}
-
-// Which of some tags stands at a place.
-fn standing(s: &[u8], at: usize, tags: Tags) -> Stands
+// Which of some tags stands at a place, and where its value begins.
+#[tactic(auto, unfolding(crate::specs::Walk::stands_at))]
+fn standing(s: &[u8], at: usize, tags: Tags) -> Option<(Tag, usize)>
     ensures { result ≡ stands_at s.now at tags }
 {
     match tags {
-        Tags::Ending => Stands::Nowhere,
+        Tags::Ending => None,
         Tags::One(t) => one(s, at, t),
-        Tags::Two(t, u) => one_of_two(s, at, t, u),
+        Tags::Two(t, u) => one(s, at, t).or_else(|| one(s, at, u)),
     }
 }
 
 // To the next line, from one whose tag stands there and whose value begins at a place.
-fn onward(s: &[u8], p: Place, t: Tag, a: usize) -> Step
+#[tactic(auto, using(crate::proofs::Laws::line_fits), unfolding(crate::specs::Walk::onward_at))]
+fn onward(s: &[u8], p: Place, t: Tag, a: usize) -> Option<Place>
     requires { p.line ≤ a }
     ensures { result ≡ onward_at s.now p t a }
 {
-    let stage = p.stage;
-    let At::Next(e) = text_scan::line_end(s, a, s.len()) else {
-        return Step::Stay;
-    };
-    Step::Onto(Place {
+    let e = text_scan::line_end(s, a, s.len())?;
+    Some(Place {
         at: e + 2,
         line: p.line + 1,
-        stage: behind(stage, t, read_said(s, a)),
+        stage: behind(p.stage, t, read_said(s, a)),
     })
 }
 
-fn next_line(s: &[u8], p: Place) -> Step
+#[tactic(auto, using(crate::proofs::Laws::onward_fits), unfolding(crate::specs::Walk::step_at))]
+fn next_line(s: &[u8], p: Place) -> Option<Place>
     requires { p.line ≤ p.at + 1 }
     ensures { result ≡ step_at s.now p }
 {
-    let at = p.at;
-    let stage = p.stage;
-    match standing(s, at, may_stand(stage)) {
-        Stands::Here(t, a) => onward(s, p, t, a),
-        Stands::Nowhere => Step::Stay,
-    }
+    let (t, a) = standing(s, p.at, may_stand(p.stage))?;
+    onward(s, p, t, a)
 }
 
 // The line that begins at a place, of a text that begins at a stage: the last one that the lines before it
 // lead to, where none begins just there.
+#[tactic(auto, using(crate::proofs::Laws::going_start, crate::proofs::Laws::going_on, crate::proofs::Laws::step_past))]
 pub fn line_at(s: &[u8], stage: Stage, at: usize) -> Place
     ensures { result ≡ place_at s.now stage at }
 {
@@ -426,15 +374,12 @@ pub fn line_at(s: &[u8], stage: Stage, at: usize) -> Place
         line: 1,
         stage,
     };
+    // Kept: the place moves by a line, not by one.
     while p.at < at {
-        match next_line(s, p) {
-            Step::Onto(q) => {
-                p = q;
-            }
-            Step::Stay => {
-                return p;
-            }
-        }
+        let Some(q) = next_line(s, p) else {
+            return p;
+        };
+        p = q;
     }
     p
 }
@@ -443,29 +388,20 @@ pub fn line_at(s: &[u8], stage: Stage, at: usize) -> Place
 fn behind_letters(s: &[u8], at: usize) -> usize
     ensures { result ≡ on_next (lit_at s.now at (bytes ":113:")) 0 (λ a. a) }
 {
-    match text_scan::lit(s, at, b":113:") {
-        At::Next(a) => a,
-        At::No => 0,
-    }
+    text_scan::lit(s, at, b":113:").unwrap_or(0)
 }
 
 fn wrong(s: &[u8], b: Break, p: Place) -> Told
     ensures { result ≡ wrong_at s.now b p }
 {
-    let at = b.at;
-    let stage = p.stage;
-    let refusal = b.refusal;
-    match standing(s, at, may_stand(stage)) {
-        Stands::Here(t, a) => Told {
-            line: p.line,
-            fault: fault_of(refusal.number(), t),
-            value: a,
-        },
-        Stands::Nowhere => Told {
-            line: p.line,
-            fault: Fault::AfterCredit,
-            value: behind_letters(s, at),
-        },
+    let (fault, value) = match standing(s, b.at, may_stand(p.stage)) {
+        Some((t, a)) => (fault_of(b.refusal.number(), t), a),
+        None => (Fault::AfterCredit, behind_letters(s, b.at)),
+    };
+    Told {
+        line: p.line,
+        fault,
+        value,
     }
 }
 
@@ -479,21 +415,23 @@ fn fault_of(number: u64, t: Tag) -> Fault
     }
 }
 
+#[tactic(auto, unfolding(crate::specs::Faults::fault_at))]
 fn break_of(s: &[u8], b: Break, p: Place) -> Told
     ensures { result ≡ fault_at s.now b p }
 {
-    let stage = p.stage;
     if b.missing {
-        return Told {
+        Told {
             line: p.line,
-            fault: Fault::Missing(may_stand(stage)),
+            fault: Fault::Missing(may_stand(p.stage)),
             value: 0,
-        };
+        }
+    } else {
+        wrong(s, b, p)
     }
-    wrong(s, b, p)
 }
 
 // The break of a request in full.
+#[tactic(auto, unfolding(crate::specs::Faults::told_at))]
 pub fn request_break(s: &[u8], b: Break) -> Told
     ensures { result ≡ told_at s.now At20 b }
 {
@@ -501,6 +439,7 @@ pub fn request_break(s: &[u8], b: Break) -> Told
 }
 
 // The break of a response in full.
+#[tactic(auto, unfolding(crate::specs::Faults::told_at))]
 pub fn response_break(s: &[u8], b: Break) -> Told
     ensures { result ≡ told_at s.now On20 b }
 {

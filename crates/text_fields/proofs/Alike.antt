@@ -1,4 +1,5 @@
 -- How far a line reaches, and that two texts which begin alike have the same field.
+use Rattle.std.specs.Prelude.{Result, Ok, Err}
 use Prim.Native.Nat.{ℕ, ◌+◌, ◌-◌, ◌≤◌, ◌<◌}
 use mathlib.Core.Path.{◌≡◌, refl}
 use mathlib.Core.List.{List}
@@ -14,14 +15,10 @@ use Rattle.text_scan.specs.Scan.{lit_at}
 use Rattle.text_scan.specs.declared.Cursor.{Cursor}
 use Rattle.text_scan.proofs.Standing.{lit_next}
 use Rattle.text_scan.proofs.Alike.{Alike, lit_alike, by_next, same_next}
-use Rattle.text_values.specs.declared.Value.{Value}
-use Rattle.text_values.specs.declared.Value.TheVariants.{Read, Unread}
 use Rattle.text_values.proofs.Alike.{EndsIn, reference_ends, numeral_ends, word_ends, bin_ends, numbers_ends, date_ends, time_ends, side_ends, amount_ends, letters_ends, count_ends, reference_alike, numeral_alike, word_alike, bin_alike, numbers_alike, date_alike, time_alike, side_alike, amount_alike, letters_alike, count_alike}
 use Rattle.text_fields.specs.Fields.{absent, on_read, on_good, value_at, field_at}
 use Rattle.text_fields.specs.declared.Break.{Break}
 use Rattle.text_fields.specs.declared.Item.{Item}
-use Rattle.text_fields.specs.declared.Field.{Field}
-use Rattle.text_fields.specs.declared.Field.TheVariants.{Good, Bad}
 use Rattle.text_fields.specs.declared.Kind.{Kind}
 use Rattle.text_fields.specs.declared.Kind.TheVariants.{Empty, Reference, Numeral, Word, Bin, Numbers, Date, Time, Side, Amount, Letters, Count}
 
@@ -54,9 +51,9 @@ fine_on at a h Amount f = tt
 fine_on at a h Letters f = tt
 fine_on at a h (Count n) f = tt
 
-widen : (at w m : ℕ) (v : Value) → w ≤ m → EndsIn at w v → EndsIn at m v
-widen at w m (Read v e) h i = (i.0, omega (arith, i.1))
-widen at w m (Unread r) h i = tt
+widen : (at w m : ℕ) (v : Result (ℕ × ℕ) Refusal) → w ≤ m → EndsIn at w v → EndsIn at m v
+widen at w m (Ok (v, e)) h i = (i.0, omega (arith, i.1))
+widen at w m (Err r) h i = tt
 
 value_ends : (s : List ℕ) (at : ℕ) (k : Kind) → Fine at k → EndsIn at 20 (value_at s at k)
 value_ends s at Empty f = (omega arith, omega arith)
@@ -86,20 +83,20 @@ value_alike a at h Amount f = amount_alike a at h
 value_alike a at h Letters f = letters_alike a at h
 value_alike a at h (Count n) f = count_alike a at h n
 
-by_read : {A : Type 0} (P : A → Type 0) (r : Value) {d : Refusal → A} {k : ℕ → ℕ → A} → ((x : Refusal) → P (d x)) → ((v e : ℕ) → r ≡ Read v e → P (k v e)) → P (on_read r d k)
-by_read P (Read v e) p q = q v e refl
-by_read P (Unread x) p q = p x
+by_read : {A : Type 0} (P : A → Type 0) (r : Result (ℕ × ℕ) Refusal) {d : Refusal → A} {k : ℕ → ℕ → A} → ((x : Refusal) → P (d x)) → ((v e : ℕ) → r ≡ Ok (v, e) → P (k v e)) → P (on_read r d k)
+by_read P (Ok (v, e)) p q = q v e refl
+by_read P (Err x) p q = p x
 
-same_read : {A : Type 0} (r : Value) (d : Refusal → A) (k k' : ℕ → ℕ → A) → ((v e : ℕ) → r ≡ Read v e → k v e ≡ k' v e) → on_read r d k ≡ on_read r d k'
-same_read (Read v e) d k k' q = q v e refl
-same_read (Unread x) d k k' q = refl
+same_read : {A : Type 0} (r : Result (ℕ × ℕ) Refusal) (d : Refusal → A) (k k' : ℕ → ℕ → A) → ((v e : ℕ) → r ≡ Ok (v, e) → k v e ≡ k' v e) → on_read r d k ≡ on_read r d k'
+same_read (Ok (v, e)) d k k' q = q v e refl
+same_read (Err x) d k k' q = refl
 
 -- a line that is read ends within 28 bytes, two bytes after its value; a break stands where its line begins
-abbrev pub In : ℕ → Field → Type 0
-In at (Good i c) = (at ≤ c.at) × (c.at ≤ at + 28) × (c.at ≡ i.part.end + 2)
-In at (Bad b) = b.at ≡ at
+abbrev pub In : ℕ → Result (Item × Cursor) Break → Type 0
+In at (Ok (i, c)) = (at ≤ c.at) × (c.at ≤ at + 28) × (c.at ≡ i.part.end + 2)
+In at (Err b) = b.at ≡ at
 
-read_ends : (s : List ℕ) (a : ℕ) (k : Kind) → Fine a k → (v e : ℕ) → value_at s a k ≡ Read v e → (a ≤ e) × (e ≤ a + 20)
+read_ends : (s : List ℕ) (a : ℕ) (k : Kind) → Fine a k → (v e : ℕ) → value_at s a k ≡ Ok (v, e) → (a ≤ e) × (e ≤ a + 20)
 read_ends s a k f v e q = rw q at (value_ends s a k f)
 
 pub field_in : (s : List ℕ) (at : ℕ) (tag : List ℕ) (k : Kind) → length tag ≤ 5 → Fine at k → In at (field_at s at tag k)
@@ -115,7 +112,7 @@ field_in s at tag k h f = by_next (In at) (lit_at s at tag) refl (λ a q.
 field_same : {n : ℕ} {s t : List ℕ} → Alike n s t → (at : ℕ) (tag : List ℕ) (k : Kind) → length tag ≤ 5 → Fine at k → at + 32 ≤ n → field_at s at tag k ≡ field_at t at tag k
 unfolding field_at
 field_same {t = t} a at tag k h f w =
-    rw (lit_alike a at tag (omega arith)) (same_next (lit_at t at tag) (Bad (absent at)) _ _ (λ b q.
+    rw (lit_alike a at tag (omega arith)) (same_next (lit_at t at tag) (Err (absent at)) _ _ (λ b q.
     let i = lit_next t at tag q in
     let g = fine_on at b (omega (arith, i)) k f in
     rw (value_alike a b (omega (arith, i)) k g) (same_read (value_at t b k) _ _ _ (λ v e r.
@@ -130,13 +127,13 @@ pub here : (at : ℕ) → Reaches at 0 at
 here at = (omega arith, omega arith)
 
 -- where a step stops: past what it read, or at the break
-abbrev pub stop : Field → ℕ
-stop (Good i c) = c.at
-stop (Bad b) = b.at
+abbrev pub stop : Result (Item × Cursor) Break → ℕ
+stop (Ok (i, c)) = c.at
+stop (Err b) = b.at
 
-stop_in : (at : ℕ) (x : Field) → In at x → Reaches at 28 (stop x)
-stop_in at (Good i c) h = (h.0, h.1)
-stop_in at (Bad b) h = (omega (arith, h), omega (arith, h))
+stop_in : (at : ℕ) (x : Result (Item × Cursor) Break) → In at x → Reaches at 28 (stop x)
+stop_in at (Ok (i, c)) h = (h.0, h.1)
+stop_in at (Err b) h = (omega (arith, h), omega (arith, h))
 
 -- the same answer, or a step that stops too near to the end of what is alike
 abbrev pub Or : {A : Type 0} → ℕ → A → A → ℕ → Type 0
@@ -157,19 +154,19 @@ field_alike {n} {s} {t} a at tag k h f = go (field_near a at tag k h f)
     go (inr q) = inr (omega (arith, q, (stop_in at (field_at s at tag k) (field_in s at tag k h f)).0))
 
 -- a step after a field: where it stops, and that it is alike
-pub in_then : {A : Type 0} (p : A → ℕ) (at w : ℕ) (x : Field) (d : Break → A) (k : Item → Cursor → A) → In at x → ((b : Break) → p (d b) ≡ b.at) → ((i : Item) (c : Cursor) → x ≡ Good i c → Reaches c.at w (p (k i c))) → Reaches at (28 + w) (p (on_good x d k))
-in_then p at w (Good i c) d k h e f = let g = f i c refl in (omega (arith, h.0, g.0), omega (arith, h.1, g.1))
-in_then p at w (Bad b) d k h e f = (omega (arith, h, e b), omega (arith, h, e b))
+pub in_then : {A : Type 0} (p : A → ℕ) (at w : ℕ) (x : Result (Item × Cursor) Break) (d : Break → A) (k : Item → Cursor → A) → In at x → ((b : Break) → p (d b) ≡ b.at) → ((i : Item) (c : Cursor) → x ≡ Ok (i, c) → Reaches c.at w (p (k i c))) → Reaches at (28 + w) (p (on_good x d k))
+in_then p at w (Ok (i, c)) d k h e f = let g = f i c refl in (omega (arith, h.0, g.0), omega (arith, h.1, g.1))
+in_then p at w (Err b) d k h e f = (omega (arith, h, e b), omega (arith, h, e b))
 
-pub alike_then : {A : Type 0} (p : A → ℕ) (n : ℕ) (x y : Field) (d : Break → A) (k k' : Item → Cursor → A) → Or n x y (stop x) → ((b : Break) → p (d b) ≡ b.at) → ((i : Item) (c : Cursor) → x ≡ Good i c → (c.at ≤ p (k i c)) × Or n (k i c) (k' i c) (p (k i c))) → Or n (on_good x d k) (on_good y d k') (p (on_good x d k))
-alike_then p n (Good i c) y d k k' (inl q) e f = go (f i c refl).1
+pub alike_then : {A : Type 0} (p : A → ℕ) (n : ℕ) (x y : Result (Item × Cursor) Break) (d : Break → A) (k k' : Item → Cursor → A) → Or n x y (stop x) → ((b : Break) → p (d b) ≡ b.at) → ((i : Item) (c : Cursor) → x ≡ Ok (i, c) → (c.at ≤ p (k i c)) × Or n (k i c) (k' i c) (p (k i c))) → Or n (on_good x d k) (on_good y d k') (p (on_good x d k))
+alike_then p n (Ok (i, c)) y d k k' (inl q) e f = go (f i c refl).1
   where
     go : Or n (k i c) (k' i c) (p (k i c)) → Or n (k i c) (on_good y d k') (p (k i c))
     go (inl r) = inl (rw (← q) r)
     go (inr r) = inr r
-alike_then p n (Bad b) y d k k' (inl q) e f = inl (rw (← q))
-alike_then p n (Good i c) y d k k' (inr q) e f = inr (omega (arith, q, (f i c refl).0))
-alike_then p n (Bad b) y d k k' (inr q) e f = inr (omega (arith, q, e b))
+alike_then p n (Err b) y d k k' (inl q) e f = inl (rw (← q))
+alike_then p n (Ok (i, c)) y d k k' (inr q) e f = inr (omega (arith, q, (f i c refl).0))
+alike_then p n (Err b) y d k k' (inr q) e f = inr (omega (arith, q, e b))
 
 -- a look at what stands at a place before the stop
 pub look_alike : {n : ℕ} {s t : List ℕ} → Alike n s t → (at : ℕ) (tag : List ℕ) (p : ℕ) → length tag ≤ 5 → at ≤ p → Or n (lit_at s at tag) (lit_at t at tag) p
@@ -180,9 +177,9 @@ look_alike {n} {s} {t} a at tag p h g = go (leb (at + 5) n) refl
     go false q = inr (omega (arith, leb-false (at + 5) n q))
 
 -- how long the part of a field is
-abbrev pub PartIn : ℕ → Field → Type 0
-PartIn w (Good i c) = i.part.end ≤ i.part.start + w
-PartIn w (Bad b) = Unit {0}
+abbrev pub PartIn : ℕ → Result (Item × Cursor) Break → Type 0
+PartIn w (Ok (i, c)) = i.part.end ≤ i.part.start + w
+PartIn w (Err b) = Unit {0}
 
 pub part_in : (s : List ℕ) (at : ℕ) (tag : List ℕ) (k : Kind) (w : ℕ) → ((a : ℕ) → EndsIn a w (value_at s a k)) → PartIn w (field_at s at tag k)
 unfolding field_at
@@ -190,5 +187,5 @@ part_in s at tag k w f = by_next (PartIn w) (lit_at s at tag) tt (λ a q.
     by_read (PartIn w) (value_at s a k) (λ x. tt) (λ v e r.
     by_next (PartIn w) (lit_at s e crlf) tt (λ n u. ends a v e (rw r at (f a)))))
   where
-    ends : (a v e : ℕ) → EndsIn a w (Read v e) → e ≤ a + w
+    ends : (a v e : ℕ) → EndsIn a w (Ok (v, e)) → e ≤ a + w
     ends a v e i = i.1

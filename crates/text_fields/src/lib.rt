@@ -3,13 +3,12 @@
 
 ghost use Rattle.std.specs.Prelude.{◌≡◌};
 ghost use Rattle.chars.specs.Words.{bytes};
-ghost use Rattle.text_fields.specs.Fields.{absent, nothing, broken, item, place, field_at, why_not};
-ghost use Rattle.text_fields.specs.declared.Field.TheVariants.{Good, Bad};
+ghost use Rattle.text_fields.specs.Fields.{absent, nothing, broken, value_at, field_at};
 ghost use Rattle.text_fields.specs.declared.Kind.TheVariants.{Empty, Reference, Numeral, Word, Bin, Numbers, Date, Time, Side, Amount, Letters, Count};
 
 use chars::Refusal;
-use text_scan::{At, Cursor};
-use text_values::{Part, Value};
+use text_scan::Cursor;
+use text_values::Part;
 
 // Why a text is refused: the number, where the line begins that breaks it, and whether a mandatory
 // field is missing there (the text ends, or something else than a tag that is expected stands there).
@@ -63,53 +62,7 @@ impl Item {
     }
 }
 
-// What a step finds: the field and the cursor past its line, or the break.
-#[derive(Clone, Copy)]
-pub enum Field {
-    Good(Item, Cursor),
-    Bad(Break),
-}
-
-impl Field {
-    // A field that was read: its value from a to e, of the number w; the line ends at n.
-    fn read(a: usize, e: usize, w: u64, n: usize) -> Field
-        ensures { result ≡ Good (item a e w) (place n) }
-    {
-        Field::Good(
-            Item {
-                part: Part { start: a, end: e },
-                number: w,
-            },
-            Cursor { at: n },
-        )
-    }
-
-    // No line of the tag begins there.
-    fn absent(at: usize) -> Field
-        ensures { result ≡ Bad (absent at) }
-    {
-        Field::Bad(Break::absent(at))
-    }
-
-    // The value is wrong in the line that begins there.
-    fn wrong(at: usize, refusal: Refusal) -> Field
-        ensures { result ≡ Bad (broken at refusal) }
-    {
-        Field::Bad(Break::wrong(at, refusal))
-    }
-
-    // The break; one of the text's beginning for a field that was read.
-    pub fn why(self) -> Break
-        ensures { result ≡ why_not self }
-    {
-        match self {
-            Field::Good(_, _) => Break::absent(Cursor::START),
-            Field::Bad(b) => b,
-        }
-    }
-}
-
-// What a line's value is, for the definitions: each tag has its step below.
+// What a line's value is.
 #[derive(Clone, Copy)]
 pub enum Kind {
     Empty,
@@ -126,325 +79,168 @@ pub enum Kind {
     Count(u64),
 }
 
-// The steps, one for each tag. Each is written out: a line's end in a function of its own, whose answer is handed on as it is,
-// takes a third more of a text's time.
+// The value of a kind at a place.
+#[inline(always)]
+fn read_value(s: &[u8], at: usize, kind: Kind) -> Result<(u64, usize), Refusal>
+    ensures { result ≡ value_at s.now at kind }
+{
+    match kind {
+        Kind::Empty => Ok((0, at)),
+        Kind::Reference => text_values::read_reference(s, at),
+        Kind::Numeral(n) => text_values::read_numeral(s, at, n),
+        Kind::Word(n) => text_values::read_word(s, at, n),
+        Kind::Bin(stream) => text_values::read_bin(s, at, stream),
+        Kind::Numbers => text_values::read_numbers(s, at),
+        Kind::Date => text_values::read_date(s, at),
+        Kind::Time => text_values::read_time(s, at),
+        Kind::Side => text_values::read_side(s, at),
+        Kind::Amount => text_values::read_amount(s, at),
+        Kind::Letters => text_values::read_letters(s, at),
+        Kind::Count(n) => text_values::read_count(s, at, n),
+    }
+}
 
-// 20: the reference.
-pub fn read_reference(s: &[u8], c: Cursor) -> Field
-    ensures { result ≡ field_at s.now c.at (bytes ":20:") Reference }
+// A line of a tag and a value of a kind. It is compiled anew for each step below, where tag and kind are known.
+#[inline(always)]
+#[tactic(auto, unfolding(crate::specs::Fields::field_at))]
+fn read_field(s: &[u8], c: Cursor, tag: &[u8], kind: Kind) -> Result<(Item, Cursor), Break>
+    ensures { result ≡ field_at s.now c.at tag.now kind }
 {
     let at = c.at;
-    let At::Next(a) = text_scan::lit(s, at, b":20:") else {
-        return Field::absent(at);
+    let start = text_scan::lit(s, at, tag).ok_or(Break::absent(at))?;
+    let (number, end) = match read_value(s, start, kind) {
+        Ok(read) => read,
+        Err(refusal) => return Err(Break::wrong(at, refusal)),
     };
-    let v = text_values::read_reference(s, a);
-    let Value::Read(w, e) = v else {
-        return Field::wrong(at, v.why());
-    };
-    let At::Next(n) = text_scan::lit(s, e, b"\r\n") else {
-        return Field::wrong(at, Refusal::Malformed);
-    };
-    Field::read(a, e, w, n)
+    let next = text_scan::lit(s, end, b"\r\n").ok_or(Break::wrong(at, Refusal::Malformed))?;
+    let part = Part { start, end };
+    Ok((Item { part, number }, Cursor { at: next }))
+}
+
+// The steps, one for each tag.
+
+// 20: the reference.
+pub fn read_reference(s: &[u8], c: Cursor) -> Result<(Item, Cursor), Break>
+    ensures { result ≡ field_at s.now c.at (bytes ":20:") Reference }
+{
+    read_field(s, c, b":20:", Kind::Reference)
 }
 
 // 21: the reference of the request.
-pub fn read_requested(s: &[u8], c: Cursor) -> Field
+pub fn read_requested(s: &[u8], c: Cursor) -> Result<(Item, Cursor), Break>
     ensures { result ≡ field_at s.now c.at (bytes ":21:") Reference }
 {
-    let at = c.at;
-    let At::Next(a) = text_scan::lit(s, at, b":21:") else {
-        return Field::absent(at);
-    };
-    let v = text_values::read_reference(s, a);
-    let Value::Read(w, e) = v else {
-        return Field::wrong(at, v.why());
-    };
-    let At::Next(n) = text_scan::lit(s, e, b"\r\n") else {
-        return Field::wrong(at, Refusal::Malformed);
-    };
-    Field::read(a, e, w, n)
+    read_field(s, c, b":21:", Kind::Reference)
 }
 
 // The number of a response, behind the tag of its 20: B and seven digits.
-pub fn read_serial(s: &[u8], c: Cursor) -> Field
+pub fn read_serial(s: &[u8], c: Cursor) -> Result<(Item, Cursor), Break>
     ensures { result ≡ field_at s.now c.at (bytes "B") (Numeral 7) }
 {
-    let at = c.at;
-    let At::Next(a) = text_scan::lit(s, at, b"B") else {
-        return Field::absent(at);
-    };
-    let v = text_values::read_numeral(s, a, 7);
-    let Value::Read(w, e) = v else {
-        return Field::wrong(at, v.why());
-    };
-    let At::Next(n) = text_scan::lit(s, e, b"\r\n") else {
-        return Field::wrong(at, Refusal::Malformed);
-    };
-    Field::read(a, e, w, n)
+    read_field(s, c, b"B", Kind::Numeral(7))
 }
 
 // 12: the sub type, three digits.
-pub fn read_sub_type(s: &[u8], c: Cursor) -> Field
+pub fn read_sub_type(s: &[u8], c: Cursor) -> Result<(Item, Cursor), Break>
     ensures { result ≡ field_at s.now c.at (bytes ":12:") (Numeral 3) }
 {
-    let at = c.at;
-    let At::Next(a) = text_scan::lit(s, at, b":12:") else {
-        return Field::absent(at);
-    };
-    let v = text_values::read_numeral(s, a, 3);
-    let Value::Read(w, e) = v else {
-        return Field::wrong(at, v.why());
-    };
-    let At::Next(n) = text_scan::lit(s, e, b"\r\n") else {
-        return Field::wrong(at, Refusal::Malformed);
-    };
-    Field::read(a, e, w, n)
+    read_field(s, c, b":12:", Kind::Numeral(3))
 }
 
 // 77E, which is empty.
-pub fn read_empty(s: &[u8], c: Cursor) -> Field
+pub fn read_empty(s: &[u8], c: Cursor) -> Result<(Item, Cursor), Break>
     ensures { result ≡ field_at s.now c.at (bytes ":77E:") Empty }
 {
-    let at = c.at;
-    let At::Next(a) = text_scan::lit(s, at, b":77E:") else {
-        return Field::absent(at);
-    };
-    let At::Next(n) = text_scan::lit(s, a, b"\r\n") else {
-        return Field::wrong(at, Refusal::Malformed);
-    };
-    Field::read(a, a, 0, n)
+    read_field(s, c, b":77E:", Kind::Empty)
 }
 
 // 22A: the stream.
-pub fn read_stream(s: &[u8], c: Cursor) -> Field
+pub fn read_stream(s: &[u8], c: Cursor) -> Result<(Item, Cursor), Break>
     ensures { result ≡ field_at s.now c.at (bytes ":22A:") (Word 4) }
 {
-    let at = c.at;
-    let At::Next(a) = text_scan::lit(s, at, b":22A:") else {
-        return Field::absent(at);
-    };
-    let v = text_values::read_word(s, a, 4);
-    let Value::Read(w, e) = v else {
-        return Field::wrong(at, v.why());
-    };
-    let At::Next(n) = text_scan::lit(s, e, b"\r\n") else {
-        return Field::wrong(at, Refusal::Malformed);
-    };
-    Field::read(a, e, w, n)
+    read_field(s, c, b":22A:", Kind::Word(4))
 }
 
 // 119: the BIN of a stream.
-pub fn read_bin(s: &[u8], c: Cursor, stream: Part) -> Field
+pub fn read_bin(s: &[u8], c: Cursor, stream: Part) -> Result<(Item, Cursor), Break>
     ensures { result ≡ field_at s.now c.at (bytes ":119:") (Bin stream) }
 {
-    let at = c.at;
-    let At::Next(a) = text_scan::lit(s, at, b":119:") else {
-        return Field::absent(at);
-    };
-    let v = text_values::read_bin(s, a, stream);
-    let Value::Read(w, e) = v else {
-        return Field::wrong(at, v.why());
-    };
-    let At::Next(n) = text_scan::lit(s, e, b"\r\n") else {
-        return Field::wrong(at, Refusal::Malformed);
-    };
-    Field::read(a, e, w, n)
+    read_field(s, c, b":119:", Kind::Bin(stream))
 }
 
 // 16A: a number and a count.
-pub fn read_numbers(s: &[u8], c: Cursor) -> Field
+pub fn read_numbers(s: &[u8], c: Cursor) -> Result<(Item, Cursor), Break>
     ensures { result ≡ field_at s.now c.at (bytes ":16A:") Numbers }
 {
-    let at = c.at;
-    let At::Next(a) = text_scan::lit(s, at, b":16A:") else {
-        return Field::absent(at);
-    };
-    let v = text_values::read_numbers(s, a);
-    let Value::Read(w, e) = v else {
-        return Field::wrong(at, v.why());
-    };
-    let At::Next(n) = text_scan::lit(s, e, b"\r\n") else {
-        return Field::wrong(at, Refusal::Malformed);
-    };
-    Field::read(a, e, w, n)
+    read_field(s, c, b":16A:", Kind::Numbers)
 }
 
 // 171: the settlement date.
-pub fn read_date(s: &[u8], c: Cursor) -> Field
+pub fn read_date(s: &[u8], c: Cursor) -> Result<(Item, Cursor), Break>
     ensures { result ≡ field_at s.now c.at (bytes ":171:") Date }
 {
-    let at = c.at;
-    let At::Next(a) = text_scan::lit(s, at, b":171:") else {
-        return Field::absent(at);
-    };
-    let v = text_values::read_date(s, a);
-    let Value::Read(w, e) = v else {
-        return Field::wrong(at, v.why());
-    };
-    let At::Next(n) = text_scan::lit(s, e, b"\r\n") else {
-        return Field::wrong(at, Refusal::Malformed);
-    };
-    Field::read(a, e, w, n)
+    read_field(s, c, b":171:", Kind::Date)
 }
 
 // 175: the activation, a time of day.
-pub fn read_time(s: &[u8], c: Cursor) -> Field
+pub fn read_time(s: &[u8], c: Cursor) -> Result<(Item, Cursor), Break>
     ensures { result ≡ field_at s.now c.at (bytes ":175:") Time }
 {
-    let at = c.at;
-    let At::Next(a) = text_scan::lit(s, at, b":175:") else {
-        return Field::absent(at);
-    };
-    let v = text_values::read_time(s, a);
-    let Value::Read(w, e) = v else {
-        return Field::wrong(at, v.why());
-    };
-    let At::Next(n) = text_scan::lit(s, e, b"\r\n") else {
-        return Field::wrong(at, Refusal::Malformed);
-    };
-    Field::read(a, e, w, n)
+    read_field(s, c, b":175:", Kind::Time)
 }
 
 // 127: CR or DR.
-pub fn read_side(s: &[u8], c: Cursor) -> Field
+pub fn read_side(s: &[u8], c: Cursor) -> Result<(Item, Cursor), Break>
     ensures { result ≡ field_at s.now c.at (bytes ":127:") Side }
 {
-    let at = c.at;
-    let At::Next(a) = text_scan::lit(s, at, b":127:") else {
-        return Field::absent(at);
-    };
-    let v = text_values::read_side(s, a);
-    let Value::Read(w, e) = v else {
-        return Field::wrong(at, v.why());
-    };
-    let At::Next(n) = text_scan::lit(s, e, b"\r\n") else {
-        return Field::wrong(at, Refusal::Malformed);
-    };
-    Field::read(a, e, w, n)
+    read_field(s, c, b":127:", Kind::Side)
 }
 
 // 32B: the amount.
-pub fn read_amount(s: &[u8], c: Cursor) -> Field
+pub fn read_amount(s: &[u8], c: Cursor) -> Result<(Item, Cursor), Break>
     ensures { result ≡ field_at s.now c.at (bytes ":32B:") Amount }
 {
-    let at = c.at;
-    let At::Next(a) = text_scan::lit(s, at, b":32B:") else {
-        return Field::absent(at);
-    };
-    let v = text_values::read_amount(s, a);
-    let Value::Read(w, e) = v else {
-        return Field::wrong(at, v.why());
-    };
-    let At::Next(n) = text_scan::lit(s, e, b"\r\n") else {
-        return Field::wrong(at, Refusal::Malformed);
-    };
-    Field::read(a, e, w, n)
+    read_field(s, c, b":32B:", Kind::Amount)
 }
 
 // 113: the letters of a debit.
-pub fn read_letters(s: &[u8], c: Cursor) -> Field
+pub fn read_letters(s: &[u8], c: Cursor) -> Result<(Item, Cursor), Break>
     ensures { result ≡ field_at s.now c.at (bytes ":113:") Letters }
 {
-    let at = c.at;
-    let At::Next(a) = text_scan::lit(s, at, b":113:") else {
-        return Field::absent(at);
-    };
-    let v = text_values::read_letters(s, a);
-    let Value::Read(w, e) = v else {
-        return Field::wrong(at, v.why());
-    };
-    let At::Next(n) = text_scan::lit(s, e, b"\r\n") else {
-        return Field::wrong(at, Refusal::Malformed);
-    };
-    Field::read(a, e, w, n)
+    read_field(s, c, b":113:", Kind::Letters)
 }
 
 // 102: the bank.
-pub fn read_bank(s: &[u8], c: Cursor) -> Field
+pub fn read_bank(s: &[u8], c: Cursor) -> Result<(Item, Cursor), Break>
     ensures { result ≡ field_at s.now c.at (bytes ":102:") (Word 4) }
 {
-    let at = c.at;
-    let At::Next(a) = text_scan::lit(s, at, b":102:") else {
-        return Field::absent(at);
-    };
-    let v = text_values::read_word(s, a, 4);
-    let Value::Read(w, e) = v else {
-        return Field::wrong(at, v.why());
-    };
-    let At::Next(n) = text_scan::lit(s, e, b"\r\n") else {
-        return Field::wrong(at, Refusal::Malformed);
-    };
-    Field::read(a, e, w, n)
+    read_field(s, c, b":102:", Kind::Word(4))
 }
 
 // 203: the number of payments, which is to be k.
-pub fn read_count(s: &[u8], c: Cursor, k: u64) -> Field
+pub fn read_count(s: &[u8], c: Cursor, k: u64) -> Result<(Item, Cursor), Break>
     ensures { result ≡ field_at s.now c.at (bytes ":203:") (Count k) }
 {
-    let at = c.at;
-    let At::Next(a) = text_scan::lit(s, at, b":203:") else {
-        return Field::absent(at);
-    };
-    let v = text_values::read_count(s, a, k);
-    let Value::Read(w, e) = v else {
-        return Field::wrong(at, v.why());
-    };
-    let At::Next(n) = text_scan::lit(s, e, b"\r\n") else {
-        return Field::wrong(at, Refusal::Malformed);
-    };
-    Field::read(a, e, w, n)
+    read_field(s, c, b":203:", Kind::Count(k))
 }
 
 // 451: one digit.
-pub fn read_status(s: &[u8], c: Cursor) -> Field
+pub fn read_status(s: &[u8], c: Cursor) -> Result<(Item, Cursor), Break>
     ensures { result ≡ field_at s.now c.at (bytes ":451:") (Numeral 1) }
 {
-    let at = c.at;
-    let At::Next(a) = text_scan::lit(s, at, b":451:") else {
-        return Field::absent(at);
-    };
-    let v = text_values::read_numeral(s, a, 1);
-    let Value::Read(w, e) = v else {
-        return Field::wrong(at, v.why());
-    };
-    let At::Next(n) = text_scan::lit(s, e, b"\r\n") else {
-        return Field::wrong(at, Refusal::Malformed);
-    };
-    Field::read(a, e, w, n)
+    read_field(s, c, b":451:", Kind::Numeral(1))
 }
 
 // 432: the number of a refusal, two digits.
-pub fn read_refusal(s: &[u8], c: Cursor) -> Field
+pub fn read_refusal(s: &[u8], c: Cursor) -> Result<(Item, Cursor), Break>
     ensures { result ≡ field_at s.now c.at (bytes ":432:") (Numeral 2) }
 {
-    let at = c.at;
-    let At::Next(a) = text_scan::lit(s, at, b":432:") else {
-        return Field::absent(at);
-    };
-    let v = text_values::read_numeral(s, a, 2);
-    let Value::Read(w, e) = v else {
-        return Field::wrong(at, v.why());
-    };
-    let At::Next(n) = text_scan::lit(s, e, b"\r\n") else {
-        return Field::wrong(at, Refusal::Malformed);
-    };
-    Field::read(a, e, w, n)
+    read_field(s, c, b":432:", Kind::Numeral(2))
 }
 
 // 13E: date and time, twelve digits.
-pub fn read_moment(s: &[u8], c: Cursor) -> Field
+pub fn read_moment(s: &[u8], c: Cursor) -> Result<(Item, Cursor), Break>
     ensures { result ≡ field_at s.now c.at (bytes ":13E:") (Numeral 12) }
 {
-    let at = c.at;
-    let At::Next(a) = text_scan::lit(s, at, b":13E:") else {
-        return Field::absent(at);
-    };
-    let v = text_values::read_numeral(s, a, 12);
-    let Value::Read(w, e) = v else {
-        return Field::wrong(at, v.why());
-    };
-    let At::Next(n) = text_scan::lit(s, e, b"\r\n") else {
-        return Field::wrong(at, Refusal::Malformed);
-    };
-    Field::read(a, e, w, n)
+    read_field(s, c, b":13E:", Kind::Numeral(12))
 }

@@ -12,10 +12,8 @@ use codes::Code;
 fn byte(out: &mut [u8], at: usize, i: usize, b: u8)
     ensures { out.new ≡ sets out.old (at + i) (b ∷ []) }
 {
-    if at < out.len() {
-        if i < out.len() - at {
-            out[at + i] = b;
-        }
+    if at < out.len() && i < out.len() - at {
+        out[at + i] = b;
     }
 }
 
@@ -23,10 +21,8 @@ fn byte(out: &mut [u8], at: usize, i: usize, b: u8)
 pub fn bytes(out: &mut [u8], at: usize, text: &[u8])
     ensures { out.new ≡ sets out.old at text.now }
 {
-    let mut i = 0;
-    while i < text.len() {
-        byte(out, at, i, text[i]);
-        i += 1;
+    for (i, b) in text.iter().enumerate() {
+        byte(out, at, i, *b);
     }
 }
 
@@ -34,12 +30,10 @@ pub fn bytes(out: &mut [u8], at: usize, text: &[u8])
 pub fn digits(out: &mut [u8], at: usize, v: u64, k: usize)
     ensures { out.new ≡ sets out.old at (digits_of k v) }
 {
-    let mut i = k;
     let mut rest = v;
-    while i > 0 {
-        i -= 1;
+    for i in (0..k).rev() {
         byte(out, at, i, (rest % 10) as u8 + 48);
-        rest = rest / 10;
+        rest /= 10;
     }
 }
 
@@ -47,10 +41,8 @@ pub fn digits(out: &mut [u8], at: usize, v: u64, k: usize)
 pub fn short_code(out: &mut [u8], at: usize, v: u64)
     ensures { out.new ≡ sets out.old at (short_text v) }
 {
-    let mut i = 0;
-    while i < Code::SHORT {
+    for i in 0..Code::SHORT {
         byte(out, at, i, codes::short_byte(v, i));
-        i += 1;
     }
 }
 
@@ -58,10 +50,7 @@ pub fn short_code(out: &mut [u8], at: usize, v: u64)
 pub fn long_code(out: &mut [u8], at: usize, code: Code)
     ensures { out.new ≡ sets out.old at (long_text code) }
 {
-    let n = code.len();
-    let mut i = 0;
-    while i < n {
+    for i in 0..code.len() {
         byte(out, at, i, code.byte(i));
-        i += 1;
     }
 }

@@ -1,4 +1,5 @@
 -- A step looks at a few bytes only: two texts that begin alike get the same answer.
+use Rattle.std.specs.Prelude.{Option, Some, None}
 use Prim.Native.Nat.{ℕ, zero, suc, ◌+◌, ◌*◌, ◌≤◌, ◌<◌, min}
 use mathlib.Core.Path.{◌≡◌, refl, ap, sym, ◌∙◌}
 use mathlib.Core.List.{List, [], ◌∷◌}
@@ -13,9 +14,6 @@ use Rattle.chars.specs.Chars.{is_code, is_digit, digit_value}
 use Rattle.chars.specs.Words.{crlf}
 use Rattle.text_scan.specs.Scan.{on_next, begins, lit_at, run, codes_at, code_at, digits, digits_at, number_at, line_end, line_end_at}
 use Rattle.text_scan.specs.declared.Run.{Run}
-use Rattle.text_scan.specs.declared.At.{At}
-use Rattle.text_scan.specs.declared.At.TheVariants.{Next, No}
-use Rattle.text_scan.specs.declared.Fixed.TheVariants.{Value, No as Unfit}
 
 -- the same first n bytes
 pub record Alike (n : ℕ) (s t : List ℕ) : Type 0 where
@@ -48,7 +46,7 @@ digits_take (suc n) at v (x ∷ l) = ap (λ (r : Run). cond (is_digit x) r (reco
 
 line_take : (n at : ℕ) (l : List ℕ) → line_end n at l ≡ line_end n at (take (n + 2) l)
 unfolding line_end
-line_take zero at l = ap (λ (b : Bool). cond b (Next at) No) (begins_take crlf l 2 (omega arith))
+line_take zero at l = ap (λ (b : Bool). cond b (Some at) None) (begins_take crlf l 2 (omega arith))
 line_take (suc n) at [] = simp (suc-add, take-nil)
 line_take (suc n) at (x ∷ l) =
     rw (suc-add n 2, begins_take crlf (x ∷ l) (suc (n + 2)) (omega arith), line_take n (at + 1) l)
@@ -65,7 +63,7 @@ module _ {n : ℕ} {s t : List ℕ} (a : Alike n s t) where
 
   pub lit_alike : (at : ℕ) (p : List ℕ) → at + length p ≤ n → lit_at s at p ≡ lit_at t at p
   unfolding lit_at
-  lit_alike at p h = ap (λ (b : Bool). cond b (Next (at + length p)) No) (through (begins p) at (length p) (λ l. begins_take p l (length p) (omega arith)) h)
+  lit_alike at p h = ap (λ (b : Bool). cond b (Some (at + length p)) None) (through (begins p) at (length p) (λ l. begins_take p l (length p) (omega arith)) h)
 
   pub codes_alike : (at m : ℕ) → at + m ≤ n → codes_at s at m ≡ codes_at t at m
   unfolding codes_at
@@ -73,7 +71,7 @@ module _ {n : ℕ} {s t : List ℕ} (a : Alike n s t) where
 
   pub code_alike : (at m : ℕ) → at + m ≤ n → code_at s at m ≡ code_at t at m
   unfolding code_at
-  code_alike at m h = ap (λ (k : ℕ). cond (eqb k m) (Next (at + m)) No) (through (run is_code m) at m (run_take is_code m) h)
+  code_alike at m h = ap (λ (k : ℕ). cond (eqb k m) (Some (at + m)) None) (through (run is_code m) at m (run_take is_code m) h)
 
   pub digits_alike : (at m : ℕ) → at + m ≤ n → digits_at s at m ≡ digits_at t at m
   unfolding digits_at
@@ -81,7 +79,7 @@ module _ {n : ℕ} {s t : List ℕ} (a : Alike n s t) where
 
   pub number_alike : (at m : ℕ) → at + m ≤ n → number_at s at m ≡ number_at t at m
   unfolding number_at
-  number_alike at m h = ap (λ (r : Run). cond (leb m 18) (cond (eqb r.end (at + m)) (Value r.value (at + m)) Unfit) Unfit) (digits_alike at m h)
+  number_alike at m h = ap (λ (r : Run). cond (leb m 18) (cond (eqb r.end (at + m)) (Some (r.value, at + m)) None) None) (digits_alike at m h)
 
   pub line_end_alike : (at m : ℕ) → at + (m + 2) ≤ n → line_end_at s at m ≡ line_end_at t at m
   unfolding line_end_at
@@ -101,10 +99,10 @@ module _ {n : ℕ} {s t : List ℕ} (a : Alike n s t) where
       go false true p q e = absurd (omega (arith, ltb-false at (length s) p, ltb-true at (length t) q))
 
 -- what holds of a step's two ends holds of its answer
-pub by_next : {A : Type 0} (P : A → Type 0) (r : At) {d : A} {k : ℕ → A} → P d → ((e : ℕ) → r ≡ Next e → P (k e)) → P (on_next r d k)
-by_next P (Next e) p q = q e refl
-by_next P No p q = p
+pub by_next : {A : Type 0} (P : A → Type 0) (r : Option ℕ) {d : A} {k : ℕ → A} → P d → ((e : ℕ) → r ≡ Some e → P (k e)) → P (on_next r d k)
+by_next P (Some e) p q = q e refl
+by_next P None p q = p
 
-pub same_next : {A : Type 0} (r : At) (d : A) (k k' : ℕ → A) → ((e : ℕ) → r ≡ Next e → k e ≡ k' e) → on_next r d k ≡ on_next r d k'
-same_next (Next e) d k k' q = q e refl
-same_next No d k k' q = refl
+pub same_next : {A : Type 0} (r : Option ℕ) (d : A) (k k' : ℕ → A) → ((e : ℕ) → r ≡ Some e → k e ≡ k' e) → on_next r d k ≡ on_next r d k'
+same_next (Some e) d k k' q = q e refl
+same_next None d k k' q = refl

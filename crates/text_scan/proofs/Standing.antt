@@ -1,4 +1,6 @@
 -- What stands at a place is read, and what is read stands there: laws of the form that the text from `at` on is p and then r, `drop at s ≡ p ++ r`.
+use Rattle.text_scan.proofs.Pairs.{some_pair}
+use Rattle.std.specs.Prelude.{Option, Some, None}
 use Prim.Native.Nat.{ℕ, zero, suc, ◌+◌, ◌*◌, ◌-◌, ◌≤◌, ◌<◌}
 use mathlib.Core.Path.{◌≡◌, refl, ap, ap₂, sym, ◌∙◌}
 use mathlib.Core.List.{List, [], ◌∷◌, ◌++◌}
@@ -14,9 +16,6 @@ use Rattle.chars.specs.Chars.{is_code, is_digit, digit_value}
 use Rattle.chars.specs.Words.{crlf}
 use Rattle.text_scan.specs.Scan.{begins, lit_at, run, codes_at, code_at, digits, digits_at, number_at, line_end, line_end_at}
 use Rattle.text_scan.specs.declared.Run.{Run}
-use Rattle.text_scan.specs.declared.At.{At}
-use Rattle.text_scan.specs.declared.At.TheVariants.{Next, No}
-use Rattle.text_scan.specs.declared.Fixed.TheVariants.{Value, No as Unfit}
 use Rattle.text_scan.proofs.Laws.{lit_yes, end_past}
 use Rattle.text_scan.specs.Spelling.{All, value_of}
 
@@ -29,7 +28,7 @@ module _ (s : List ℕ) (at : ℕ) (p r : List ℕ) (h : drop at s ≡ p ++ r) w
   pub past : drop (at + length p) s ≡ r
   past = sym (drop-drop (length p) at s) ∙ ap (drop (length p)) h ∙ drop-append_seam p r
 
-  pub lit_reads : lit_at s at p ≡ Next (at + length p)
+  pub lit_reads : lit_at s at p ≡ Some (at + length p)
   unfolding lit_at
   lit_reads = simp (h, begins_self p r)
 
@@ -68,11 +67,11 @@ module _ (s : List ℕ) (at : ℕ) (v : List ℕ) (x : ℕ) (r : List ℕ) (n : 
   digits_reads a e = rw (h, digits_run n at 0 (v ++ (x ∷ r))) (simp (run_ends is_digit v n x r a m e, take-append_seam))
 
 module _ (s : List ℕ) (at : ℕ) (v r : List ℕ) (h : drop at s ≡ v ++ r) where
-  pub code_reads : All is_code v → code_at s at (length v) ≡ Next (at + length v)
+  pub code_reads : All is_code v → code_at s at (length v) ≡ Some (at + length v)
   unfolding code_at
   code_reads a = simp (h, run_full is_code v r a, eq-eqb (length v) (length v) refl)
 
-  pub number_reads : All is_digit v → length v ≤ 18 → number_at s at (length v) ≡ Value (value_of 0 v) (at + length v)
+  pub number_reads : All is_digit v → length v ≤ 18 → number_at s at (length v) ≡ Some (value_of 0 v, at + length v)
   unfolding number_at digits_at
   number_reads a m =
       let k : digits (length v) at 0 (v ++ r) ≡ record { end = at + length v; value = value_of 0 v } = digits_run (length v) at 0 (v ++ r) ∙ simp (run_full is_digit v r a, take-append_seam) in
@@ -91,15 +90,15 @@ begins_split (x ∷ p) (y ∷ l) h =
     let t = and_true (eqb y x) (begins p l) h in
     ap₂ ◌∷◌ (eqb-true y x t.0) (begins_split p l t.1)
 
-pub lit_next : (s : List ℕ) (at : ℕ) (p : List ℕ) {n : ℕ} → lit_at s at p ≡ Next n → n ≡ at + length p
+pub lit_next : (s : List ℕ) (at : ℕ) (p : List ℕ) {n : ℕ} → lit_at s at p ≡ Some n → n ≡ at + length p
 unfolding lit_at
 lit_next s at p {n} h = go (begins p (drop at s)) h
   where
-    go : (b : Bool) → cond b (Next (at + length p)) No ≡ Next n → n ≡ at + length p
+    go : (b : Bool) → cond b (Some (at + length p)) None ≡ Some n → n ≡ at + length p
     go true h = cc
     go false h = let z : ◌≡◌ {A = ℕ} 0 1 = cc in absurd (omega arith)
 
-pub lit_sound : (s : List ℕ) (at : ℕ) (p : List ℕ) {n : ℕ} → lit_at s at p ≡ Next n → drop at s ≡ p ++ drop n s
+pub lit_sound : (s : List ℕ) (at : ℕ) (p : List ℕ) {n : ℕ} → lit_at s at p ≡ Some n → drop at s ≡ p ++ drop n s
 lit_sound s at p {n} h =
     begins_split p (drop at s) (lit_yes s at p h)
     ∙ ap (λ (l : List ℕ). p ++ l) (drop-drop (length p) at s ∙ ap (λ (k : ℕ). drop k s) (sym (lit_next s at p h)))
@@ -132,11 +131,11 @@ unfolding codes_at
 codes_sound s at n e h = let i = run_all is_code n (drop at s) in
     (stretch is_code s at n (e - at) (omega arith), omega arith, omega (arith, i.1))
 
-pub code_sound : (s : List ℕ) (at n : ℕ) {e : ℕ} → code_at s at n ≡ Next e → Stretch is_code s at n × (e ≡ at + n)
+pub code_sound : (s : List ℕ) (at n : ℕ) {e : ℕ} → code_at s at n ≡ Some e → Stretch is_code s at n × (e ≡ at + n)
 unfolding code_at
 code_sound s at n {e} h = go (eqb (run is_code n (drop at s)) n) refl h
   where
-    go : (b : Bool) → eqb (run is_code n (drop at s)) n ≡ b → cond b (Next (at + n)) No ≡ Next e → Stretch is_code s at n × (e ≡ at + n)
+    go : (b : Bool) → eqb (run is_code n (drop at s)) n ≡ b → cond b (Some (at + n)) None ≡ Some e → Stretch is_code s at n × (e ≡ at + n)
     go true q h = (stretch is_code s at n n (eqb-true _ _ q), cc)
     go false q h = let z : ◌≡◌ {A = ℕ} 0 1 = cc in absurd (omega arith)
 
@@ -149,28 +148,29 @@ digits_sound s at n {w} h =
     let d : run is_digit n (drop at s) ≡ w.end - at = omega arith in
     (stretch is_digit s at n (w.end - at) d, omega arith, omega (arith, i.1), ap (λ (w : Run). w.value) k ∙ ap (λ (m : ℕ). value_of 0 (take m (drop at s))) d)
 
-pub number_sound : (s : List ℕ) (at n : ℕ) {v e : ℕ} → number_at s at n ≡ Value v e → Stretch is_digit s at n × (e ≡ at + n) × (v ≡ value_of 0 (take n (drop at s)))
+pub number_sound : (s : List ℕ) (at n : ℕ) {v e : ℕ} → number_at s at n ≡ Some (v, e) → Stretch is_digit s at n × (e ≡ at + n) × (v ≡ value_of 0 (take n (drop at s)))
 unfolding number_at
 number_sound s at n {v} {e} h = go (leb n 18) (eqb (digits_at s at n).end (at + n)) refl h
   where
-    go : (a b : Bool) → eqb (digits_at s at n).end (at + n) ≡ b → cond a (cond b (Value (digits_at s at n).value (at + n)) Unfit) Unfit ≡ Value v e → Stretch is_digit s at n × (e ≡ at + n) × (v ≡ value_of 0 (take n (drop at s)))
+    go : (a b : Bool) → eqb (digits_at s at n).end (at + n) ≡ b → cond {A = Option (ℕ × ℕ)} a (cond b (Some ((digits_at s at n).value, at + n)) None) None ≡ Some (v, e) → Stretch is_digit s at n × (e ≡ at + n) × (v ≡ value_of 0 (take n (drop at s)))
     go true true q h =
         let i = digits_sound s at n refl in
         let m : (digits_at s at n).end - at ≡ n = omega (arith, eqb-true (digits_at s at n).end (at + n) q) in
-        let u : (digits_at s at n).value ≡ v = cc in
+        let p = some_pair h in
+        let u : (digits_at s at n).value ≡ v = p.0 in
         (rw (← m) i.0, cc, sym u ∙ i.3 ∙ ap (λ (m : ℕ). value_of 0 (take m (drop at s))) m)
     go true false q h = let z : ◌≡◌ {A = ℕ} 0 1 = cc in absurd (omega arith)
     go false b q h = let z : ◌≡◌ {A = ℕ} 0 1 = cc in absurd (omega arith)
 
 -- the end of a line
-ends : (n at : ℕ) (v r : List ℕ) → All (λ (x : ℕ). not (eqb x 13)) v → length v ≤ n → line_end n at (v ++ (crlf ++ r)) ≡ Next (at + length v)
+ends : (n at : ℕ) (v r : List ℕ) → All (λ (x : ℕ). not (eqb x 13)) v → length v ≤ n → line_end n at (v ++ (crlf ++ r)) ≡ Some (at + length v)
 unfolding line_end begins
 ends zero at [] r a h = simp add-zero
 ends (suc n) at [] r a h = simp add-zero
 ends zero at (x ∷ v) r a h = absurd (omega arith)
 ends (suc n) at (x ∷ v) r a h = simp (not-true (eqb x 13) a.0) (ends n (at + 1) v r a.1 (omega arith) ∙ simp (add-one, add-suc, suc-add))
 
-pub line_end_reads : (s : List ℕ) (at n : ℕ) (v r : List ℕ) → drop at s ≡ v ++ (crlf ++ r) → All (λ (x : ℕ). not (eqb x 13)) v → length v ≤ n → line_end_at s at n ≡ Next (at + length v)
+pub line_end_reads : (s : List ℕ) (at n : ℕ) (v r : List ℕ) → drop at s ≡ v ++ (crlf ++ r) → All (λ (x : ℕ). not (eqb x 13)) v → length v ≤ n → line_end_at s at n ≡ Some (at + length v)
 unfolding line_end_at
 line_end_reads s at n v r h a m = rw h (ends n at v r a m)
 
@@ -178,26 +178,26 @@ line_end_reads s at n v r h a m = rw h (ends n at v r a m)
 abbrev Found : List ℕ → ℕ → ℕ → ℕ → Type 0
 Found s n j e = (begins crlf (drop e s) ≡ true) × (j ≤ e) × (e ≤ j + n)
 
-found : (s : List ℕ) (n j e : ℕ) → line_end n j (drop j s) ≡ Next e → Found s n j e
+found : (s : List ℕ) (n j e : ℕ) → line_end n j (drop j s) ≡ Some e → Found s n j e
 unfolding line_end
 found s zero j e h = go (begins crlf (drop j s)) refl h
   where
-    go : (b : Bool) → begins crlf (drop j s) ≡ b → cond b (Next j) No ≡ Next e → Found s 0 j e
+    go : (b : Bool) → begins crlf (drop j s) ≡ b → cond b (Some j) None ≡ Some e → Found s 0 j e
     go true q h = let z : j ≡ e = cc in (rw (← z) q, omega arith, omega arith)
     go false q h = let z : ◌≡◌ {A = ℕ} 0 1 = cc in absurd (omega arith)
 found s (suc n) j e h = go (leb (length s) j) refl (found s n (j + 1) e)
   where
-    turn : j < length s → (line_end n (j + 1) (drop (j + 1) s) ≡ Next e → Found s n (j + 1) e) → (b : Bool) → begins crlf (get_or s j 0 ∷ drop (suc j) s) ≡ b → cond b (Next j) (line_end n (j + 1) (drop (suc j) s)) ≡ Next e → Found s (suc n) j e
+    turn : j < length s → (line_end n (j + 1) (drop (j + 1) s) ≡ Some e → Found s n (j + 1) e) → (b : Bool) → begins crlf (get_or s j 0 ∷ drop (suc j) s) ≡ b → cond b (Some j) (line_end n (j + 1) (drop (suc j) s)) ≡ Some e → Found s (suc n) j e
     turn k f true q h = let z : j ≡ e = cc in (rw (← z, drop-cons s j 0 k) q, omega arith, omega arith)
     turn k f false q h = let i = f (ap (λ (k : ℕ). line_end n (j + 1) (drop k s)) (add-one j) ∙ h) in (i.0, omega (arith, i.1), omega (arith, i.2))
 
-    go : (b : Bool) → leb (length s) j ≡ b → (line_end n (j + 1) (drop (j + 1) s) ≡ Next e → Found s n (j + 1) e) → Found s (suc n) j e
+    go : (b : Bool) → leb (length s) j ≡ b → (line_end n (j + 1) (drop (j + 1) s) ≡ Some e → Found s n (j + 1) e) → Found s (suc n) j e
     go true q f =
-        let y : ◌≡◌ {A = At} No (Next e) = sym (end_past s j (suc n) (leb-true (length s) j q)) ∙ h in
+        let y : ◌≡◌ {A = Option ℕ} None (Some e) = sym (end_past s j (suc n) (leb-true (length s) j q)) ∙ h in
         let z : ◌≡◌ {A = ℕ} 0 1 = cc in
         absurd (omega arith)
     go false q f = let k = leb-false (length s) j q in turn k f (begins crlf (get_or s j 0 ∷ drop (suc j) s)) refl (rw (drop-cons s j 0 k) at h)
 
-pub line_end_sound : (s : List ℕ) (at n : ℕ) {e : ℕ} → line_end_at s at n ≡ Next e → (drop e s ≡ crlf ++ drop (e + 2) s) × (at ≤ e) × (e ≤ at + n)
+pub line_end_sound : (s : List ℕ) (at n : ℕ) {e : ℕ} → line_end_at s at n ≡ Some e → (drop e s ≡ crlf ++ drop (e + 2) s) × (at ≤ e) × (e ≤ at + n)
 unfolding line_end_at
 line_end_sound s at n {e} h = let i = found s n at e h in (begins_split crlf (drop e s) i.0 ∙ ap (λ (l : List ℕ). crlf ++ l) (drop-drop 2 e s), i.1, i.2)

@@ -1,7 +1,7 @@
 // Steps over a text at a place: a fixed string, a run of A-Z 0-9, a number, the end of a line.
 #![tactic(auto)]
 
-ghost use Rattle.std.specs.Prelude.{◌≡◌, ◌-◌, ◌<◌, length};
+ghost use Rattle.std.specs.Prelude.{◌≡◌, ◌<◌, take, drop};
 ghost use Rattle.text_scan.specs.Scan.{lit_at, codes_at, code_at, digits_at, number_at, line_end_at, most, ten, Fits};
 
 // A place in a text.
@@ -21,71 +21,50 @@ impl Cursor {
     }
 }
 
-// The place after what was expected, or that it does not stand there.
-#[derive(Clone, Copy)]
-pub enum At {
-    Next(usize),
-    No,
-}
-
-// How many bytes stand from a place on.
-fn left(s: &[u8], at: usize) -> usize
-    ensures { result ≡ length s.now - at }
+// The bytes that stand from a place on, at most `max` of them.
+fn window(s: &[u8], at: usize, max: usize) -> &[u8]
+    ensures { result.now ≡ take max (drop at s.now) }
 {
-    if at < s.len() { s.len() - at } else { 0 }
+    if s.len() <= at {
+        return &[];
+    }
+    &s[at..at + max.min(s.len() - at)]
 }
 
-// The fixed string `tag` at a place.
-pub fn lit(s: &[u8], at: usize, tag: &[u8]) -> At
+// The fixed string `tag` at a place. Kept as a loop: `==` of slices is a call, and costs the reader of a request a fifth of its instructions more.
+pub fn lit(s: &[u8], at: usize, tag: &[u8]) -> Option<usize>
     ensures { result ≡ lit_at s.now at tag.now }
 {
-    if left(s, at) < tag.len() {
-        return At::No;
+    if s.len().saturating_sub(at) < tag.len() {
+        return None;
     }
-    let mut i = 0;
-    while i < tag.len() {
+    for i in 0..tag.len() {
         if s[at + i] != tag[i] {
-            return At::No;
+            return None;
         }
-        i += 1;
     }
-    At::Next(at + i)
+    Some(at + tag.len())
 }
 
 // Past the A-Z 0-9 that stand at a place, at most `max` of them.
 pub fn codes(s: &[u8], at: usize, max: usize) -> usize
     ensures { result ≡ codes_at s.now at max }
 {
-    let mut n = max;
-    let mut j = at;
-    while n > 0 {
-        if j >= s.len() {
-            return j;
+    let here = window(s, at, max);
+    for (i, b) in here.iter().enumerate() {
+        if !chars::is_code(*b) {
+            return at + i;
         }
-        if !chars::is_code(s[j]) {
-            return j;
-        }
-        n -= 1;
-        j += 1;
     }
-    j
+    at + here.len()
 }
 
 // Past just `n` of A-Z 0-9.
-pub fn code(s: &[u8], at: usize, n: usize) -> At
+pub fn code(s: &[u8], at: usize, n: usize) -> Option<usize>
     ensures { result ≡ code_at s.now at n }
 {
-    if left(s, at) < n {
-        return At::No;
-    }
-    let mut i = 0;
-    while i < n {
-        if !chars::is_code(s[at + i]) {
-            return At::No;
-        }
-        i += 1;
-    }
-    At::Next(at + i)
+    let end = codes(s, at, n);
+    if end - at == n { Some(end) } else { None }
 }
 
 // Past the digits that stand at a place, and the number that they make.
@@ -100,70 +79,50 @@ pub fn digits(s: &[u8], at: usize, max: usize) -> Run
     ensures value { result ≡ digits_at s.now at (most max) }
     ensures small { result.value < ten (most max) }
 {
-    let mut n = if max < 18 { max } else { 18 };
-    let mut j = at;
     let mut v: u64 = 0;
-    while n > 0 {
-        if j >= s.len() {
-            return Run { end: j, value: v };
+    let here = window(s, at, max.min(18));
+    for (i, b) in here.iter().enumerate() {
+        if !chars::is_digit(*b) {
+            return Run {
+                end: at + i,
+                value: v,
+            };
         }
-        let b = s[j];
-        if !chars::is_digit(b) {
-            return Run { end: j, value: v };
-        }
-        v = v * 10 + chars::digit_value(b);
-        n -= 1;
-        j += 1;
+        v = v * 10 + chars::digit_value(*b);
     }
-    Run { end: j, value: v }
-}
-
-// A number of a fixed width and the place after it.
-#[derive(Clone, Copy)]
-pub enum Fixed {
-    Value(u64, usize),
-    No,
+    Run {
+        end: at + here.len(),
+        value: v,
+    }
 }
 
 // Just `n` digits, at most 18.
-pub fn number(s: &[u8], at: usize, n: usize) -> Fixed
+pub fn number(s: &[u8], at: usize, n: usize) -> Option<(u64, usize)>
     ensures value { result ≡ number_at s.now at n }
     ensures small { Fits n result }
 {
     if n > 18 {
-        return Fixed::No;
+        return None;
     }
-    if left(s, at) < n {
-        return Fixed::No;
+    let run = digits(s, at, n);
+    if run.end - at == n {
+        Some((run.value, run.end))
+    } else {
+        None
     }
-    let mut v: u64 = 0;
-    let mut i = 0;
-    while i < n {
-        let b = s[at + i];
-        if !chars::is_digit(b) {
-            return Fixed::No;
-        }
-        v = v * 10 + chars::digit_value(b);
-        i += 1;
-    }
-    Fixed::Value(v, at + i)
 }
 
 // Where the first CR LF at or after a place stands, no more than `max` bytes on.
-pub fn line_end(s: &[u8], at: usize, max: usize) -> At
+pub fn line_end(s: &[u8], at: usize, max: usize) -> Option<usize>
     ensures { result ≡ line_end_at s.now at max }
 {
-    let mut n = max;
-    let mut j = at;
-    while j < s.len() {
-        if let At::Next(_) = lit(s, j, b"\r\n") {
-            return At::Next(j);
+    for j in at..s.len() {
+        if let Some(_) = lit(s, j, b"\r\n") {
+            return Some(j);
         }
-        if n == 0 {
-            return At::No;
+        if j - at == max {
+            return None;
         }
-        n -= 1;
-        j += 1;
     }
-    At::No
+    None
 }

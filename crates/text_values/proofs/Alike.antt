@@ -1,4 +1,6 @@
 -- Where a value ends, and that two texts which begin alike have the same value.
+use Rattle.chars.specs.declared.Refusal.{Refusal}
+use Rattle.std.specs.Prelude.{Option, Some, None, Result, Ok, Err}
 use Prim.Native.Nat.{ℕ, zero, suc, ◌+◌, ◌*◌, ◌-◌, ◌≤◌}
 use mathlib.Core.Path.{◌≡◌, refl, ap}
 use mathlib.Core.List.{List, [], ◌∷◌}
@@ -10,46 +12,38 @@ use lib.ListN.{length, get_or, take, drop, length-take}
 use Rattle.chars.specs.Words.{bytes}
 use Rattle.codes.specs.Codes.{pack_on, short_at, long_of}
 use Rattle.text_scan.specs.Scan.{lit_at, codes_at, code_at, digits_at, number_at, line_end_at}
-use Rattle.text_scan.specs.declared.Fixed.{Fixed}
-use Rattle.text_scan.specs.declared.Fixed.TheVariants.{Value as Digits, No as Unfit}
 use Rattle.text_scan.proofs.Standing.{lit_next, codes_sound, code_sound, digits_sound, number_sound}
 use Rattle.text_scan.proofs.Alike.{Alike, near, through, lit_alike, codes_alike, code_alike, digits_alike, number_alike, line_end_alike, byte_alike, by_next, same_next}
 use Rattle.dates.specs.Dates.{day_of}
-use Rattle.dates.specs.declared.Day.{Day}
-use Rattle.dates.specs.declared.Day.TheVariants.{Number, Untrue}
 use Rattle.clock.specs.Clock.{minute_of}
-use Rattle.clock.specs.declared.Minute.{Minute}
-use Rattle.clock.specs.declared.Minute.TheVariants.{Number as Clocked, Untrue as Unclocked}
 use Rattle.text_values.specs.Values.{malformed, on_digits, on_day, on_minute, text_of, code_of, forbidden_at, reference_at, numeral_at, word_at, bin_at, numbered, numbers_at, date_at, time_at, side_at, amount_at, count_at}
 use Rattle.text_values.specs.Letters.{is_status, is_fourth, judged_at, letters_at}
 use Rattle.text_values.specs.declared.Part.{Part}
-use Rattle.text_values.specs.declared.Value.{Value}
-use Rattle.text_values.specs.declared.Value.TheVariants.{Read, Unread}
 
 -- a value ends no more than w bytes after the place where it begins, and not before it
-abbrev pub EndsIn : ℕ → ℕ → Value → Type 0
-EndsIn at w (Read v e) = (at ≤ e) × (e ≤ at + w)
-EndsIn at w (Unread r) = Unit {0}
+abbrev pub EndsIn : ℕ → ℕ → Result (ℕ × ℕ) Refusal → Type 0
+EndsIn at w (Ok (v, e)) = (at ≤ e) × (e ≤ at + w)
+EndsIn at w (Err r) = Unit {0}
 
 pub by_cond : {A : Type 0} (P : A → Type 0) (b : Bool) {x y : A} → P x → P y → P (cond b x y)
 by_cond P true p q = p
 by_cond P false p q = q
 
-pub by_digits : {A : Type 0} (P : A → Type 0) (r : Fixed) {d : A} {k : ℕ → ℕ → A} → P d → ((v e : ℕ) → r ≡ Digits v e → P (k v e)) → P (on_digits r d k)
-by_digits P (Digits v e) p q = q v e refl
-by_digits P Unfit p q = p
+pub by_digits : {A : Type 0} (P : A → Type 0) (r : Option (ℕ × ℕ)) {d : A} {k : ℕ → ℕ → A} → P d → ((v e : ℕ) → r ≡ Some (v, e) → P (k v e)) → P (on_digits r d k)
+by_digits P (Some (v, e)) p q = q v e refl
+by_digits P None p q = p
 
-pub by_day : {A : Type 0} (P : A → Type 0) (r : Day) {d : A} {k : ℕ → A} → P d → ((n : ℕ) → P (k n)) → P (on_day r d k)
-by_day P (Number n) p q = q n
-by_day P Untrue p q = p
+pub by_day : {A : Type 0} (P : A → Type 0) (r : Option ℕ) {d : A} {k : ℕ → A} → P d → ((n : ℕ) → P (k n)) → P (on_day r d k)
+by_day P (Some n) p q = q n
+by_day P None p q = p
 
-pub by_minute : {A : Type 0} (P : A → Type 0) (r : Minute) {d : A} {k : ℕ → A} → P d → ((n : ℕ) → P (k n)) → P (on_minute r d k)
-by_minute P (Clocked n) p q = q n
-by_minute P Unclocked p q = p
+pub by_minute : {A : Type 0} (P : A → Type 0) (r : Option ℕ) {d : A} {k : ℕ → A} → P d → ((n : ℕ) → P (k n)) → P (on_minute r d k)
+by_minute P (Some n) p q = q n
+by_minute P None p q = p
 
-same_digits : {A : Type 0} (r : Fixed) (d : A) (k k' : ℕ → ℕ → A) → ((v e : ℕ) → r ≡ Digits v e → k v e ≡ k' v e) → on_digits r d k ≡ on_digits r d k'
-same_digits (Digits v e) d k k' q = q v e refl
-same_digits Unfit d k k' q = refl
+same_digits : {A : Type 0} (r : Option (ℕ × ℕ)) (d : A) (k k' : ℕ → ℕ → A) → ((v e : ℕ) → r ≡ Some (v, e) → k v e ≡ k' v e) → on_digits r d k ≡ on_digits r d k'
+same_digits (Some (v, e)) d k k' q = q v e refl
+same_digits None d k k' q = refl
 
 module _ (s : List ℕ) (at : ℕ) where
   pub reference_ends : EndsIn at 16 (reference_at s at)
@@ -117,7 +111,7 @@ module _ (s : List ℕ) (at : ℕ) where
   judged_ends : (e : ℕ) → e ≡ at + 4 → EndsIn at 4 (judged_at s at e)
   unfolding judged_at
   judged_ends e h =
-      let r : EndsIn at 4 (Read (short_at s at) e) = (omega arith, omega arith) in
+      let r : EndsIn at 4 (Ok (short_at s at, e)) = (omega arith, omega arith) in
       by_cond (EndsIn at 4) (is_status (get_or s (at + 0) 0))
       (by_cond (EndsIn at 4) (is_status (get_or s (at + 1) 0))
       (by_cond (EndsIn at 4) (is_status (get_or s (at + 2) 0))

@@ -1,11 +1,9 @@
 -- The values of document 01's table as a grammar: what it means that a list of bytes is such a value.
-use Rattle.std.specs.Prelude.{ℕ, ◌+◌, ◌*◌, ◌≤◌, ◌<◌, ◌≡◌, true, false, ◌||◌, cond, List, [], ◌∷◌, ◌++◌, ◌⊎◌, eqb, length}
+use Rattle.std.specs.Prelude.{ℕ, ◌+◌, ◌*◌, ◌≤◌, ◌<◌, ◌≡◌, true, false, ◌||◌, cond, List, [], ◌∷◌, ◌++◌, ◌⊎◌, eqb, length, Some}
 use Rattle.chars.specs.Words.{bytes}
 use Rattle.chars.specs.Chars.{is_code, is_digit}
 use Rattle.dates.specs.Dates.{day_of}
-use Rattle.dates.specs.declared.Day.TheVariants.{Number}
 use Rattle.clock.specs.Clock.{minute_of}
-use Rattle.clock.specs.declared.Minute.TheVariants.{Number as Clocked}
 use Rattle.text_scan.specs.Scan.{begins}
 use Rattle.text_scan.specs.Spelling.{All, value_of}
 use Rattle.text_values.specs.Values.{numbered}
@@ -51,13 +49,13 @@ pub record IsNumbers (v : List ℕ) : Type 0 where
 pub record IsDate (v : List ℕ) : Type 0 where
   pub six : IsNumeral 6 v
   pub day : ℕ
-  pub true_date : day_of (value_of 0 v) ≡ Number day
+  pub true_date : day_of (value_of 0 v) ≡ Some day
 
 -- "HHMM, 00 to 23 and 00 to 59"
 pub record IsTime (v : List ℕ) : Type 0 where
   pub four : IsNumeral 4 v
   pub minute : ℕ
-  pub true_time : minute_of (value_of 0 v) ≡ Clocked minute
+  pub true_time : minute_of (value_of 0 v) ≡ Some minute
 
 -- "127 is `CR` or `DR`."
 abbrev pub IsSide : List ℕ → Type 0

@@ -1,4 +1,5 @@
 -- Accounts worked out: examples/two-banks.account is told; with administrator 0 it is read, and the check refuses its book.
+use Rattle.std.specs.Prelude.{Ok}
 use Prim.Native.Nat.{ℕ, ◌≤◌}
 use mathlib.Core.Path.{◌≡◌, refl}
 use mathlib.Core.Bool.{true}
@@ -11,10 +12,8 @@ use Rattle.codes.specs.Codes.{pack_on, short_at}
 use Rattle.dates.specs.Dates.{february, months, days_in, is_true, day_of}
 use Rattle.text_scan.specs.Scan.{begins, lit_at, run, code_at, digits, digits_at, number_at}
 use Rattle.cli_request.specs.Account.{line_over, is_plain, line_from, line_after, first_line}
-use Rattle.book_read.specs.declared.Answer.TheVariants.{Sound}
 use Rattle.book_read.specs.Book.{book_check}
 use Rattle.book_read.specs.Accounts.{Rows, roomy}
-use Rattle.cli_book.specs.declared.Stop.TheVariants.{AtEnd}
 use Rattle.cli_book.specs.Account.{cents_at, title_at, date_at, administrator_at, stream_at, streams_on, streams_at, named_at, bit_on, bits_on, bits_at, standing_at, money_at, bank_at, banks_on, banks_at, total_at, end_at, rows_at, book_account}
 use Rattle.book_write.specs.Closing.{streams_of, banks_of}
 use Rattle.thm_books_back.specs.Reopened.{Reopened}
@@ -30,7 +29,7 @@ unserved = bytes "accepted book\ndate 270203\nstream PROP 0\nbank AAAA active 5 
 abbrev Told : List ℕ → Type 0
 Told s = Orderly (told_streams (book_account s)) (told_banks (book_account s))
 
-both_read : (((book_account two_banks).stop ≡ AtEnd) × Told two_banks) × (((book_account unserved).stop ≡ AtEnd) × (Told unserved → ⊥))
+both_read : (((book_account two_banks).stop ≡ Ok tt) × Told two_banks) × (((book_account unserved).stop ≡ Ok tt) × (Told unserved → ⊥))
 unfolding is_digit is_letter is_code digit_value pack_on short_at february months days_in is_true day_of begins lit_at run code_at digits digits_at number_at line_over is_plain line_from line_after first_line cents_at title_at date_at administrator_at stream_at streams_on streams_at named_at bit_on bits_on bits_at standing_at money_at bank_at banks_on banks_at total_at end_at rows_at book_account streams_of banks_of
 both_read = (
   (
@@ -47,12 +46,12 @@ both_read = (
 )
 
 module _ (out : List ℕ) (into : Rows) (room : 2560 ≤ length out) (wide : roomy into ≡ true) where
-  pub two_banks_told : (book_check (composed out (book_account two_banks)) ≡ Sound) × Reopened out (book_of (book_account two_banks)) (rows_of (book_account two_banks)) into
+  pub two_banks_told : (book_check (composed out (book_account two_banks)) ≡ Ok tt) × Reopened out (book_of (book_account two_banks)) (rows_of (book_account two_banks)) into
   two_banks_told =
       let r = recounted two_banks out into both_read.0.0 room wide in
       in_range_told two_banks out into both_read.0.0 room wide (r.range.1 both_read.0.1)
 
-  pub unserved_refused : book_check (composed out (book_account unserved)) ≡ Sound → ⊥
+  pub unserved_refused : book_check (composed out (book_account unserved)) ≡ Ok tt → ⊥
   unserved_refused h =
       let r = recounted unserved out into both_read.1.0 room wide in
       both_read.1.1 (r.range.0 (r.judged.0 h))

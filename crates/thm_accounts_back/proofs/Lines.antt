@@ -12,14 +12,8 @@ use Rattle.chars.specs.Words.{bytes}
 use Rattle.codes.specs.Codes.{short_at}
 use Rattle.codes.proofs.Laws.{by_order}
 use Rattle.dates.specs.Dates.{days_of_century, day_of}
-use Rattle.dates.specs.declared.Day.{Day}
-use Rattle.dates.specs.declared.Day.TheVariants.{Number, Untrue}
 use Rattle.dates.proofs.Laws.{day_back}
 use Rattle.text_scan.specs.Scan.{ten, lit_at, code_at, digits_at, number_at}
-use Rattle.text_scan.specs.declared.At.{At}
-use Rattle.text_scan.specs.declared.At.TheVariants.{Next, No}
-use Rattle.text_scan.specs.declared.Fixed.{Fixed}
-use Rattle.text_scan.specs.declared.Fixed.TheVariants.{Value as Read, No as Unfit}
 use Rattle.text_scan.specs.Spelling.{value_of}
 use Rattle.text_scan.proofs.Laws.{ten_mono}
 use Rattle.text_scan.proofs.Standing.{digits_sound}
@@ -29,16 +23,9 @@ use Rattle.response_read.proofs.Digits.{value_small}
 use Rattle.cli_request.specs.Account.{line_over, is_plain}
 use Rattle.book_read.specs.Range.{is_short}
 use Rattle.book_read.proofs.Ranging.{short_right}
-use Rattle.cli_book.specs.declared.Given.{Given}
-use Rattle.cli_book.specs.declared.Given.TheVariants.{Value, Ungiven}
-use Rattle.cli_book.specs.declared.StreamLine.{StreamLine}
-use Rattle.cli_book.specs.declared.StreamLine.TheVariants.{Served, Unserved}
-use Rattle.cli_book.specs.declared.Money.{Money}
-use Rattle.cli_book.specs.declared.Money.TheVariants.{Both, Neither}
+use Rattle.std.specs.Prelude.{Option, Some, None}
 use Rattle.cli_book.specs.declared.Bits.{Bits}
 use Rattle.cli_book.specs.declared.Entry.{Entry}
-use Rattle.cli_book.specs.declared.BankLine.{BankLine}
-use Rattle.cli_book.specs.declared.BankLine.TheVariants.{Held, Unheld}
 use Rattle.cli_book.specs.Account.{on_read, on_day, on_given, on_money, cents_at, date_at, administrator_at, stream_at, named_at, bit_on, bits_at, standing_at, money_at, bank_at}
 use Rattle.cli_book.proofs.Laws.{Gathering, gathering_on, gathering_done}
 use Rattle.thm_books_back.proofs.Written.{short_some}
@@ -49,30 +36,30 @@ pub by_test_lem : {A : Type 0} (P : A → Type 0) (b : Bool) {x y : A} → (b �
 by_test_lem P true p q = p refl
 by_test_lem P false p q = q refl
 
-by_read : {A : Type 0} (P : A → Type 0) (r : Fixed) {d : A} {k : ℕ → ℕ → A} → P d → ((v e : ℕ) → P (k v e)) → P (on_read r d k)
-by_read P (Read v e) p q = q v e
-by_read P Unfit p q = p
+by_read : {A : Type 0} (P : A → Type 0) (r : Option (ℕ × ℕ)) {d : A} {k : ℕ → ℕ → A} → P d → ((v e : ℕ) → P (k v e)) → P (on_read r d k)
+by_read P (Some (v, e)) p q = q v e
+by_read P None p q = p
 
-by_day : {A : Type 0} (P : A → Type 0) (r : Day) {d : A} {k : ℕ → A} → P d → ((n : ℕ) → r ≡ Number n → P (k n)) → P (on_day r d k)
-by_day P (Number n) p q = q n refl
-by_day P Untrue p q = p
+by_day : {A : Type 0} (P : A → Type 0) (r : Option ℕ) {d : A} {k : ℕ → A} → P d → ((n : ℕ) → r ≡ Some n → P (k n)) → P (on_day r d k)
+by_day P (Some n) p q = q n refl
+by_day P None p q = p
 
 -- a number below n, if one is given
-abbrev pub Below : ℕ → Given → Type 0
-Below n (Value v e) = v < n
-Below n Ungiven = Unit {0}
+abbrev pub Below : ℕ → Option (ℕ × ℕ) → Type 0
+Below n (Some w) = w.0 < n
+Below n None = Unit {0}
 
-pub by_given : {A : Type 0} (P : A → Type 0) (n : ℕ) (g : Given) {d : A} {k : ℕ → ℕ → A} → Below n g → P d → ((v e : ℕ) → v < n → P (k v e)) → P (on_given g d k)
-by_given P n (Value v e) h p q = q v e h
-by_given P n Ungiven h p q = p
+pub by_given : {A : Type 0} (P : A → Type 0) (n : ℕ) (g : Option (ℕ × ℕ)) {d : A} {k : ℕ → ℕ → A} → Below n g → P d → ((v e : ℕ) → v < n → P (k v e)) → P (on_given g d k)
+by_given P n (Some w) h p q = q w.0 w.1 h
+by_given P n None h p q = p
 
-abbrev SmallMoney : Money → Type 0
-SmallMoney (Both b l e) = (b < ten 18) × (l < ten 18)
-SmallMoney Neither = Unit {0}
+abbrev SmallMoney : Option (ℕ × ℕ × ℕ) → Type 0
+SmallMoney (Some w) = (w.0 < ten 18) × (w.1 < ten 18)
+SmallMoney None = Unit {0}
 
-by_money : {A : Type 0} (P : A → Type 0) (m : Money) {d : A} {k : ℕ → ℕ → ℕ → A} → SmallMoney m → P d → ((b l e : ℕ) → b < ten 18 → l < ten 18 → P (k b l e)) → P (on_money m d k)
-by_money P (Both b l e) h p q = q b l e h.0 h.1
-by_money P Neither h p q = p
+by_money : {A : Type 0} (P : A → Type 0) (m : Option (ℕ × ℕ × ℕ)) {d : A} {k : ℕ → ℕ → ℕ → A} → SmallMoney m → P d → ((b l e : ℕ) → b < ten 18 → l < ten 18 → P (k b l e)) → P (on_money m d k)
+by_money P (Some w) h p q = q w.0 w.1 w.2 h.0 h.1
+by_money P None h p q = p
 
 -- ---- numbers, dates, codes
 
@@ -110,7 +97,7 @@ module _ (s : List ℕ) (at : ℕ) where
       (by_next (Below 2) (lit_at s at (bytes " suspended ")) tt (λ a p. omega arith))
       (λ a p. omega arith)
 
-  code_short : {e : ℕ} → code_at s at 4 ≡ Next e → is_short (short_at s at) ≡ true
+  code_short : {e : ℕ} → code_at s at 4 ≡ Some e → is_short (short_at s at) ≡ true
   code_short q = short_right s at (rw q)
 
 money_small : (s : List ℕ) (at : ℕ) → SmallMoney (money_at s at)
@@ -123,9 +110,9 @@ money_small s at =
 
 -- ---- a stream
 
-abbrev pub SmallStream : StreamLine → Type 0
-SmallStream (Served c a e) = (is_short c ≡ true) × (a < 256)
-SmallStream Unserved = Unit {0}
+abbrev pub SmallStream : Option (ℕ × ℕ × ℕ) → Type 0
+SmallStream (Some w) = (is_short w.0 ≡ true) × (w.1 < 256)
+SmallStream None = Unit {0}
 
 pub stream_small : (s : List ℕ) (at : ℕ) → SmallStream (stream_at s at)
 unfolding stream_at
@@ -140,11 +127,11 @@ stream_small s at =
 -- ---- a bank
 
 -- no code is zero: a place past the last stream is never named, and no bit stands for it
-unnamed : (s : List ℕ) (at : ℕ) {e : ℕ} → named_at s at 0 ≡ Next e → ⊥
+unnamed : (s : List ℕ) (at : ℕ) {e : ℕ} → named_at s at 0 ≡ Some e → ⊥
 unfolding named_at
 unnamed s at {e} =
-    let P : At → Type 0 = λ r. r ≡ Next e → ⊥ in
-    let no : P No = λ h. let z : ◌≡◌ {A = ℕ} 0 1 = cc in omega arith in
+    let P : Option ℕ → Type 0 = λ r. r ≡ Some e → ⊥ in
+    let no : P None = λ h. let z : ◌≡◌ {A = ℕ} 0 1 = cc in omega arith in
     by_next P (lit_at s at (bytes " ")) no (λ a p.
     by_next P (code_at s a 4) no (λ b q.
     by_test_lem P (eqb (short_at s a) 0) (λ t h. omega (arith, eqb-true (short_at s a) 0 t, short_some (short_at s a) (code_short s a q))) (λ t. no)))
@@ -183,9 +170,9 @@ pub record SmallEntry (n : ℕ) (b : Entry) : Type 0 where
   pub balance : b.balance < ten 18
   pub sublimit : b.sublimit < ten 18
 
-abbrev pub SmallBank : ℕ → BankLine → Type 0
-SmallBank n (Held b e) = SmallEntry n b
-SmallBank n Unheld = Unit {0}
+abbrev pub SmallBank : ℕ → Option (Entry × ℕ) → Type 0
+SmallBank n (Some w) = SmallEntry n w.0
+SmallBank n None = Unit {0}
 
 pub bank_small : (s : List ℕ) (at : ℕ) (row : List ℕ) (n : ℕ) → n ≤ 8 → ((i : ℕ) → n ≤ i → get_or row (2 * i) 0 ≡ 0) → SmallBank n (bank_at s at row)
 unfolding bank_at

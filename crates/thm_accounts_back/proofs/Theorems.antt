@@ -1,4 +1,5 @@
 -- A book that is composed from its account reads back as the account, or the account is not in range.
+use Rattle.std.specs.Prelude.{Ok}
 use Prim.Native.Nat.{ℕ, ◌*◌, ◌/◌, ◌^◌, ◌≤◌, ◌<◌}
 use mathlib.Core.Path.{◌≡◌, ap}
 use mathlib.Core.Bool.{true}
@@ -9,7 +10,6 @@ use native.Mathlib.Omega.{arith}
 use lib.ListN.{length}
 use borrow.Author.Tests.{le-leb}
 use Rattle.dates.specs.Dates.{sum}
-use Rattle.book_read.specs.declared.Answer.TheVariants.{Sound}
 use Rattle.book_read.specs.declared.Field.{Field}
 use Rattle.book_read.specs.declared.Field.TheVariants.{Code, Flags, Balance}
 use Rattle.book_read.specs.Book.{most_money, book_check}
@@ -18,7 +18,6 @@ use Rattle.book_read.specs.Range.{Each, is_short, InRange}
 use Rattle.book_read.proofs.Ranging.{each_all}
 use Rattle.book_read.proofs.Filling.{map_each, each_length}
 use Rattle.cli_book.specs.declared.BookAccount.{BookAccount}
-use Rattle.cli_book.specs.declared.Stop.TheVariants.{AtEnd}
 use Rattle.cli_book.specs.Account.{book_account}
 use Rattle.book_write.specs.Closing.{blocks_for, stream_of, bank_of, streams_of, banks_of, holding_columns, holding_rows, holds}
 use Rattle.thm_books_back.specs.Fitting.{FitStream, FitBank, Fitting}
@@ -140,7 +139,7 @@ module _ {a : BookAccount} (w : Whole a) where
     unfolding blocks_for
     enough = omega (arith, w.banks.few)
 
-    judged : (book_check (composed out a) ≡ Sound) ↔ InRange a.day (told_streams a) (told_banks a)
+    judged : (book_check (composed out a) ≡ Ok tt) ↔ InRange a.day (told_streams a) (told_banks a)
     judged = rw (put_there out (book_of a) (rows_of a) rows_hold enough fitting) (accepted_exactly a.day (told_streams a) (told_banks a) fitting)
 
     in_range_read : (into : Rows) → roomy into ≡ true → InRange a.day (told_streams a) (told_banks a) → Reopened out (book_of a) (rows_of a) into
@@ -155,13 +154,13 @@ module _ {a : BookAccount} (w : Whole a) where
     }
 
 -- whatever the text of the account: if it was read to its end, a buffer for five blocks is enough
-pub recounted : (s out : List ℕ) (into : Rows) → (book_account s).stop ≡ AtEnd → 2560 ≤ length out → roomy into ≡ true → Recounted out (book_account s) into
+pub recounted : (s out : List ℕ) (into : Rows) → (book_account s).stop ≡ Ok tt → 2560 ≤ length out → roomy into ≡ true → Recounted out (book_account s) into
 recounted s out into h room wide = recount (account_whole s h) out room into wide
 
 -- an account in range is told: its book is written, accepted and read back
-pub in_range_told : (s out : List ℕ) (into : Rows) → (book_account s).stop ≡ AtEnd → 2560 ≤ length out → roomy into ≡ true
+pub in_range_told : (s out : List ℕ) (into : Rows) → (book_account s).stop ≡ Ok tt → 2560 ≤ length out → roomy into ≡ true
     → InRange (book_account s).day (told_streams (book_account s)) (told_banks (book_account s))
-    → (book_check (composed out (book_account s)) ≡ Sound) × Reopened out (book_of (book_account s)) (rows_of (book_account s)) into
+    → (book_check (composed out (book_account s)) ≡ Ok tt) × Reopened out (book_of (book_account s)) (rows_of (book_account s)) into
 in_range_told s out into h room wide g =
     let r = recounted s out into h room wide in
     (r.judged.1 g, r.read (r.judged.1 g))

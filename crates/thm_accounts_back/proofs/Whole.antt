@@ -12,27 +12,23 @@ use Rattle.text_scan.specs.Scan.{ten}
 use Rattle.text_scan.proofs.Alike.{by_next}
 use Rattle.cli_request.specs.Account.{first_line}
 use Rattle.book_read.specs.Range.{is_short}
-use Rattle.cli_book.specs.declared.StreamLine.{StreamLine}
-use Rattle.cli_book.specs.declared.StreamLine.TheVariants.{Served, Unserved}
-use Rattle.cli_book.specs.declared.BankLine.{BankLine}
-use Rattle.cli_book.specs.declared.BankLine.TheVariants.{Held, Unheld}
+use Rattle.std.specs.Prelude.{Option, Some, None, Ok}
 use Rattle.cli_book.specs.declared.Entry.{Entry}
 use Rattle.cli_book.specs.declared.Wanted.{Wanted}
 use Rattle.cli_book.specs.declared.Wanted.TheVariants as wanted
-use Rattle.cli_book.specs.declared.Stop.TheVariants.{AtEnd}
 use Rattle.cli_book.specs.declared.Streams.{Streams}
 use Rattle.cli_book.specs.declared.Banks.{Banks}
 use Rattle.cli_book.specs.declared.BookAccount.{BookAccount}
 use Rattle.cli_book.specs.Account.{on_stream, on_bank, title_at, date_at, stream_at, streams_on, streams_at, bank_at, banks, no_banks, banks_on, banks_at, unread, rows_at, book_account}
 use Rattle.thm_accounts_back.proofs.Lines.{by_test_lem, by_given, date_small, SmallStream, stream_small, SmallEntry, SmallBank, bank_small}
 
-by_stream : {A : Type 0} (P : A → Type 0) (r : StreamLine) {d : A} {k : ℕ → ℕ → ℕ → A} → SmallStream r → P d → ((c a e : ℕ) → is_short c ≡ true → a < 256 → P (k c a e)) → P (on_stream r d k)
-by_stream P (Served c a e) h p q = q c a e h.0 h.1
-by_stream P Unserved h p q = p
+by_stream : {A : Type 0} (P : A → Type 0) (r : Option (ℕ × ℕ × ℕ)) {d : A} {k : ℕ → ℕ → ℕ → A} → SmallStream r → P d → ((c a e : ℕ) → is_short c ≡ true → a < 256 → P (k c a e)) → P (on_stream r d k)
+by_stream P (Some w) h p q = q w.0 w.1 w.2 h.0 h.1
+by_stream P None h p q = p
 
-by_bank : {A : Type 0} (P : A → Type 0) (n : ℕ) (r : BankLine) {d : A} {k : Entry → ℕ → A} → SmallBank n r → P d → ((b : Entry) (e : ℕ) → SmallEntry n b → P (k b e)) → P (on_bank r d k)
-by_bank P n (Held b e) h p q = q b e h
-by_bank P n Unheld h p q = p
+by_bank : {A : Type 0} (P : A → Type 0) (n : ℕ) (r : Option (Entry × ℕ)) {d : A} {k : Entry → ℕ → A} → SmallBank n r → P d → ((b : Entry) (e : ℕ) → SmallEntry n b → P (k b e)) → P (on_bank r d k)
+by_bank P n (Some w) h p q = q w.0 w.1 h
+by_bank P n None h p q = p
 
 -- what holds of a number that is stored, and of the others, holds wherever a row is looked at
 stored : (P : ℕ → Type 0) (l : List ℕ) (j v i : ℕ) → j < length l → (i ≡ j → P v) → ((i ≡ j → ⊥) → P (get_or l i 0)) → P (get_or (set l j v) i 0)
@@ -147,7 +143,7 @@ pub record Whole (a : BookAccount) : Type 0 where
   pub banks : Columns a.streams.n a.banks
 
 abbrev ToEnd : BookAccount → Type 0
-ToEnd a = a.stop ≡ AtEnd → Whole a
+ToEnd a = a.stop ≡ Ok tt → Whole a
 
 unread_not : (at : ℕ) (x : Wanted) → ToEnd (unread at x)
 unfolding unread
@@ -168,7 +164,7 @@ rows_whole s at day h =
       banks = banks_in_lem s xs.row xs.n (streams_in_lem s at) xs.at;
     }))
 
-pub account_whole : (s : List ℕ) → (book_account s).stop ≡ AtEnd → Whole (book_account s)
+pub account_whole : (s : List ℕ) → (book_account s).stop ≡ Ok tt → Whole (book_account s)
 unfolding book_account
 account_whole s =
     by_next ToEnd (title_at s (first_line s)) (unread_not (first_line s) wanted.Title) (λ a p.

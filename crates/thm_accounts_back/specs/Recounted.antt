@@ -1,14 +1,12 @@
 -- A book that is composed from its account: written from the account's rows, judged by the book's check, read again.
-use Rattle.std.specs.Prelude.{ℕ, ◌≤◌, ◌≡◌, List, ◌↔◌, take}
+use Rattle.std.specs.Prelude.{ℕ, ◌≤◌, ◌≡◌, List, ◌↔◌, take, Ok}
 use Rattle.dates.specs.Dates.{sum}
-use Rattle.book_read.specs.declared.Answer.TheVariants.{Sound}
 use Rattle.book_read.specs.declared.Book.{Book}
 use Rattle.book_read.specs.declared.Field.TheVariants.{Code, Balance, Sublimit}
 use Rattle.book_read.specs.Book.{most_money, book_check}
 use Rattle.book_read.specs.Accounts.{Stream, Bank, Rows, column}
 use Rattle.book_read.specs.Range.{Each, Rising, stream_codes, InRange}
 use Rattle.cli_book.specs.declared.BookAccount.{BookAccount}
-use Rattle.book_write.specs.declared.Writing.TheVariants.{Written}
 use Rattle.book_write.specs.Closing.{streams_of, banks_of, write_book}
 use Rattle.thm_books_back.specs.Reopened.{size_of, Reopened}
 
@@ -48,9 +46,9 @@ pub record Orderly (streams : List Stream) (banks : List Bank) : Type 0 where
 
 pub record Recounted (out : List ℕ) (a : BookAccount) (into : Rows) : Type 0 where
   -- it is written whole: never 06, never 07
-  pub written : (write_book out (book_of a) (rows_of a)).answer ≡ Written (size_of (book_of a))
+  pub written : (write_book out (book_of a) (rows_of a)).answer ≡ Ok (size_of (book_of a))
   -- the check refuses just the accounts that are not in the range of a book: those whose streams and banks are not orderly
-  pub judged : (book_check (composed out a) ≡ Sound) ↔ InRange a.day (told_streams a) (told_banks a)
+  pub judged : (book_check (composed out a) ≡ Ok tt) ↔ InRange a.day (told_streams a) (told_banks a)
   pub range : InRange a.day (told_streams a) (told_banks a) ↔ Orderly (told_streams a) (told_banks a)
   -- a book that it accepts, read into other rows, says the account's day, streams and banks
-  pub read : book_check (composed out a) ≡ Sound → Reopened out (book_of a) (rows_of a) into
+  pub read : book_check (composed out a) ≡ Ok tt → Reopened out (book_of a) (rows_of a) into

@@ -1,4 +1,5 @@
 -- An accepted book, read and written again, is the same bytes.
+use Rattle.std.specs.Prelude.{Option, Some, None}
 use Prim.Native.Nat.{ℕ, zero, suc, ◌+◌, ◌*◌, ◌-◌, ◌/◌, ◌%◌, ◌≤◌, ◌<◌}
 use mathlib.Core.Path.{◌≡◌, refl, sym, ◌∙◌, ap}
 use mathlib.Core.Bool.{Bool, true, ◌&&◌, false≢true}
@@ -16,17 +17,14 @@ use Rattle.codes.specs.Codes.{short_at, short_text, Bytes}
 use Rattle.codes.proofs.Laws.{pack_take, short_text_lem}
 use Rattle.checksum.specs.Sum.{block_sum}
 use Rattle.dates.specs.Dates.{day_of, date_of}
-use Rattle.dates.specs.declared.Day.{Day}
-use Rattle.dates.specs.declared.Day.TheVariants.{Number, Untrue}
 use Rattle.dates.proofs.Laws.{day_back}
-use Rattle.text_scan.specs.declared.Fixed.{Fixed}
-use Rattle.text_scan.specs.declared.Fixed.TheVariants.{Value, No as Unfit}
 use Rattle.text_scan.specs.Scan.{begins, digits, digits_at, number_at}
 use Rattle.text_put.specs.Digits.{digits_of}
 use Rattle.book_read.specs.Block.{little, head, entries_at, head_right, zeros_at, unused_right, check_right, entries_right}
 use Rattle.book_read.specs.Book.{is_day, date_in, numbered, blocks_in, bank_place, bank_count, code_before, each, code_right, stream_right, bank_right, bits_past}
 use Rattle.book_read.specs.Accounts.{day_in, on_day, streams_in, banks_in, Stream, Bank, stream_at, bank_at}
 use Rattle.book_write.specs.Closing.{little_of, stream_bytes, bank_bytes, joined, padded, sealed, stream_block, bank_block, bank_blocks_of, blocks_for, book_bytes}
+use Rattle.text_scan.proofs.Pairs.{some_pair}
 use Rattle.book_read.proofs.Rules.{by_holds}
 use Rattle.book_read.proofs.Accepted.{both, Accepted, stream_check, stream_head, stream_entries, streams_most, dated, date_zeros, bank_check, bank_head, bank_entries, count_full, last_some, last_few}
 use Rattle.book_read.proofs.Filling.{each_length}
@@ -208,28 +206,28 @@ digits_back (suc n) k at v (x ∷ l) h =
     rw (e, z) (digits_back n (k + 1) (at + 1) (v * 10 + d) l (end ∙ omega arith) ∙ digit_step k v d x (take n l) (omega arith) (omega arith)))
     (λ e. let no : at ≡ at + suc n = rw e at h in absurd (omega arith))
 
-pub number_back : (s : List ℕ) {v e : ℕ} → number_at s 8 6 ≡ Value v e → digits_of 6 v ≡ take 6 (drop 8 s)
+pub number_back : (s : List ℕ) {v e : ℕ} → number_at s 8 6 ≡ Some (v, e) → digits_of 6 v ≡ take 6 (drop 8 s)
 unfolding number_at digits_at digits_of
 number_back s {v = v} {e = e} h =
     by_holds (eqb (digits 6 8 0 (drop 8 s)).end 14)
     (λ q.
-    let same : Value (digits 6 8 0 (drop 8 s)).value 14 ≡ Value v e = rw q at h in
-    let is : (digits 6 8 0 (drop 8 s)).value ≡ v = cc in
+    let same : Some ((digits 6 8 0 (drop 8 s)).value, 14) ≡ Some (v, e) = rw q at h in
+    let is : (digits 6 8 0 (drop 8 s)).value ≡ v = (some_pair same).0 in
     rw (← is) (digits_back 6 0 8 0 (drop 8 s) (eqb-true _ 14 q)))
-    (λ q. let no : Unfit ≡ Value v e = rw q at h in let z : ◌≡◌ {A = ℕ} 0 1 = cc in absurd (omega arith))
+    (λ q. let no : None ≡ Some (v, e) = rw q at h in let z : ◌≡◌ {A = ℕ} 0 1 = cc in absurd (omega arith))
 
 -- the date is written as it stood
 pub date_written : (s : List ℕ) → is_day (date_in s) ≡ true → digits_of 6 (date_of (day_in s)) ≡ take 6 (drop 8 s)
 unfolding date_in day_in
 date_written s h = fixed (number_at s 8 6) refl h
   where
-    day : {v e : ℕ} → number_at s 8 6 ≡ Value v e → (d : Day) → day_of v ≡ d → is_day d ≡ true → digits_of 6 (date_of (on_day d)) ≡ take 6 (drop 8 s)
-    day {v = v} q (Number k) p h = rw (day_back v k p).0 (number_back s q)
-    day q Untrue p h = absurd (false≢true h)
+    day : {v e : ℕ} → number_at s 8 6 ≡ Some (v, e) → (d : Option ℕ) → day_of v ≡ d → is_day d ≡ true → digits_of 6 (date_of (on_day d)) ≡ take 6 (drop 8 s)
+    day {v = v} q (Some k) p h = rw (day_back v k p).0 (number_back s q)
+    day q None p h = absurd (false≢true h)
 
-    fixed : (f : Fixed) → number_at s 8 6 ≡ f → is_day (numbered f) ≡ true → digits_of 6 (date_of (on_day (numbered f))) ≡ take 6 (drop 8 s)
-    fixed (Value v e) q h = day q (day_of v) refl h
-    fixed Unfit q h = absurd (false≢true h)
+    fixed : (f : Option (ℕ × ℕ)) → number_at s 8 6 ≡ f → is_day (numbered f) ≡ true → digits_of 6 (date_of (on_day (numbered f))) ≡ take 6 (drop 8 s)
+    fixed (Some (v, e)) q h = day q (day_of v) refl h
+    fixed None q h = absurd (false≢true h)
 
 module _ (s : List ℕ) (b : Bytes s) (g : Accepted s) where
   pub size : length s ≡ 512 * blocks_in s

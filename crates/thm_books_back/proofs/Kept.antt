@@ -1,4 +1,5 @@
 -- Rows that were read from a book hold its streams and banks: written again they give the same book.
+use Rattle.std.specs.Prelude.{Ok}
 use Prim.Native.Nat.{ℕ, zero, suc, ◌+◌, ◌*◌, ◌≤◌, ◌<◌}
 use mathlib.Core.Path.{◌≡◌, refl, sym, ◌∙◌, ap}
 use mathlib.Core.Bool.{true}
@@ -11,7 +12,6 @@ use borrow.Author.Tests.{le-leb}
 use Rattle.codes.specs.Codes.{Bytes}
 use Rattle.book_read.specs.declared.Field.{Field}
 use Rattle.book_read.specs.declared.Field.TheVariants.{Code, Flags, Balance, Sublimit}
-use Rattle.book_write.specs.declared.Writing.TheVariants.{Written}
 use Rattle.book_read.specs.Block.{entries_at}
 use Rattle.book_read.specs.Book.{each, blocks_in, bank_place, bank_count}
 use Rattle.book_read.specs.Accounts.{Stream, Bank, Rows, stream_at, bank_at, stream_row, field_of, streams_in, banks_in, roomy, filled, book_in}
@@ -126,7 +126,7 @@ module _ (s : List ℕ) (g : Accepted s) (t : Rows) (h : roomy t ≡ true) where
 
   -- what `read` left in the rows, given to `write`, is the book itself
   pub kept : Bytes s → (out : List ℕ) → length s ≤ length out
-      → write_book out (book_in s) (filled s t) ≡ record { out = sets out 0 s; answer = Written (length s) }
+      → write_book out (book_in s) (filled s t) ≡ record { out = sets out 0 s; answer = Ok (length s) }
   unfolding write_book book_in
   kept b out l =
       rw (holds_filled b, blocks_are s b g, ← size s b g, le-leb (length s) (length out) l, banks_kept, streams_kept, written_again s b g)

@@ -1,4 +1,5 @@
 -- A book that is written is read as its day, its streams and its banks, if its bytes can hold them; in range, every rule holds of them.
+use Rattle.std.specs.Prelude.{Some}
 use Prim.Native.Nat.{ℕ, zero, suc, ◌+◌, ◌*◌, ◌-◌, ◌≤◌, ◌<◌}
 use mathlib.Core.Path.{◌≡◌, refl, sym, ◌∙◌, ap}
 use mathlib.Core.Bool.{true, false≢true}
@@ -10,10 +11,8 @@ use borrow.Author.Tests.{le-leb, eq-eqb, lt-ltb, le-ltb}
 use Rattle.chars.specs.Chars.{is_code, is_letter, is_digit}
 use Rattle.codes.specs.Codes.{unpacked, short_text}
 use Rattle.dates.specs.Dates.{date_of}
-use Rattle.dates.specs.declared.Day.TheVariants.{Number}
 use Rattle.dates.proofs.Laws.{date_back, date_small}
 use Rattle.text_scan.specs.Scan.{number_at}
-use Rattle.text_scan.specs.declared.Fixed.TheVariants.{Value}
 use Rattle.text_scan.proofs.Standing.{number_reads}
 use Rattle.text_put.specs.Digits.{digits_of}
 use Rattle.text_put.proofs.Laws.{digits_length}
@@ -93,11 +92,11 @@ module _ (s : List ℕ) (day : ℕ) (xs : List Stream) (blocks : ℕ) (r : List 
   streams_count = entries_stand s 0 83 0 (length xs) blocks (date ++ (0 ∷ 0 ∷ rest)) in_head
 
   module _ (true_date : day < 36525) where
-    date_stands : date_in s ≡ Number day
+    date_stands : date_in s ≡ Some day
     unfolding date_in
     date_stands =
         let v = date_of day in
-        let number : number_at s 8 6 ≡ Value v 14 =
+        let number : number_at s 8 6 ≡ Some (v, 14) =
         simp (digits_length, value_back 6 v (date_small day)) at (number_reads s 8 date (0 ∷ 0 ∷ rest) in_date (digits_all 6 v) (rw digits_length (omega arith))) in
         rw number (date_back day true_date)
 

@@ -1,10 +1,10 @@
 -- What is told of a request's break.
+use Rattle.std.specs.Prelude.{Some}
 use Prim.Native.Nat.{ℕ, ◌-◌}
 use mathlib.Core.Path.{◌≡◌, refl, ap, subst}
 use mathlib.Core.List.{List, [], ◌∷◌}
 use mathlib.Core.Bool.{Bool, true, false, cond}
 use mathlib.Core.Logic.{◌⊎◌, inl, inr}
-use mathlib.Core.Option.{some}
 use native.Mathlib.Omega.{arith}
 use borrow.Author.Tests.{lt-ltb, le-ltb, ltb-true, ltb-false}
 use lib.Dec.{ltb, eqb}
@@ -101,22 +101,22 @@ bank_behaves : (k : ℕ) (e : Expecting) → stage_of e ≡ At102 (10 - k) → B
 bank_behaves k e h v r o i n = (rw h (ap At203 (omega arith)), (in_line_lem f102 v tt i, tt))
 
 -- 113 after CR, or the bank
-credit : (k : ℕ) (s : List ℕ) (p : ℕ) (c : Choice Expecting) → standing (choices (at113 k false)) (drop p s) ≡ some c → At (at113 k false) s p c
+credit : (k : ℕ) (s : List ℕ) (p : ℕ) (c : Choice Expecting) → standing (choices (at113 k false)) (drop p s) ≡ Some c → At (at113 k false) s p c
 credit k s p c h = go (stood (choice no113 (λ v. at_end)) c (bank k ∷ []) (drop p s) h)
   where
-    go : ((begins (tag_of no113) (drop p s) ≡ true) × (choice no113 (λ v. at_end) ≡ c)) ⊎ ((begins (tag_of no113) (drop p s) ≡ false) × (standing (bank k ∷ []) (drop p s) ≡ some c)) → At (at113 k false) s p c
+    go : ((begins (tag_of no113) (drop p s) ≡ true) × (choice no113 (λ v. at_end) ≡ c)) ⊎ ((begins (tag_of no113) (drop p s) ≡ false) × (standing (bank k ∷ []) (drop p s) ≡ Some c)) → At (at113 k false) s p c
     go (inl x) = let i = no_bank s p x.0 in subst (At (at113 k false) s p) x.1 (never refl i.0 i.1)
     go (inr x) = alone Expecting choices stage_of Clean (at113 k false) s p c (bank k) T102 refl refl (bank_behaves k (at113 k false) refl) x.1
 
 -- a further payment, or the count
-further : (k : ℕ) (s : List ℕ) (p : ℕ) (c : Choice Expecting) → standing (choices (at203 k)) (drop p s) ≡ some c → At (at203 k) s p c
+further : (k : ℕ) (s : List ℕ) (p : ℕ) (c : Choice Expecting) → standing (choices (at203 k)) (drop p s) ≡ Some c → At (at203 k) s p c
 further k s p c h = go (ltb k 10) (more k (ltb k 10) refl) h
   where
-    go : (b : Bool) → ltb 0 (10 - k) ≡ b → standing (cond b (payment k ∷ count k ∷ []) (count k ∷ [])) (drop p s) ≡ some c → At (at203 k) s p c
+    go : (b : Bool) → ltb 0 (10 - k) ≡ b → standing (cond b (payment k ∷ count k ∷ []) (count k ∷ [])) (drop p s) ≡ Some c → At (at203 k) s p c
     go true i h = either Expecting choices stage_of Clean (at203 k) s p c (payment k) (count k) T127 T203 refl refl (ap (λ (b : Bool). cond b (Two T127 T203) (One T203)) i) (λ v r o g n. (ap (At32B (10 - k)) (side v r g), (in_line_lem f127 v tt g, tt))) (λ v r o g n. (refl, (in_line_lem (f203 k) v tt g, tt))) h
     go false i h = alone Expecting choices stage_of Clean (at203 k) s p c (count k) T203 refl (ap (λ (b : Bool). cond b (Two T127 T203) (One T203)) i) (λ v r o g n. (refl, (in_line_lem (f203 k) v tt g, tt))) h
 
-line : (e : Expecting) (s : List ℕ) (p : ℕ) (c : Choice Expecting) → standing (choices e) (drop p s) ≡ some c → At e s p c
+line : (e : Expecting) (s : List ℕ) (p : ℕ) (c : Choice Expecting) → standing (choices e) (drop p s) ≡ Some c → At e s p c
 line at20 s p c h = alone Expecting choices stage_of Clean at20 s p c (choice f20 (λ v. at12)) T20 refl refl (λ v r o g n. (refl, (in_line_lem f20 v tt g, tt))) h
 line at12 s p c h = alone Expecting choices stage_of Clean at12 s p c (choice (f12 (131 ∷ 133 ∷ [])) (λ v. at77e (eqb (value_of 0 v) 131))) T12 refl refl (λ v r o g n. (ap At77E (asks v r g n), (in_line_lem (f12 (131 ∷ 133 ∷ [])) v tt g, tt))) h
 line (at77e settles) s p c h = alone Expecting choices stage_of Clean (at77e settles) s p c (choice f77e (λ v. at22a settles)) T77E refl refl (λ v r o g n. (refl, (in_line_lem f77e v tt g, tt))) h

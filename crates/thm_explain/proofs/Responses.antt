@@ -1,9 +1,9 @@
 -- What is told of a response's break.
+use Rattle.std.specs.Prelude.{Some}
 use Prim.Native.Nat.{ℕ}
 use mathlib.Core.Path.{◌≡◌, refl, ap}
 use mathlib.Core.List.{List, [], ◌∷◌, ◌++◌}
 use mathlib.Core.Bool.{Bool, true, false, cond}
-use mathlib.Core.Option.{some}
 use lib.Dec.{eqb}
 use lib.ListN.{drop}
 use Rattle.chars.specs.Words.{bytes, crlf}
@@ -80,7 +80,7 @@ status settles v r k i n = go settles (begins (bytes "0") v) (outcome v r i) (in
     go false true h w = (rw h, (w, tt))
     go false false h w = (rw h, (w, tt))
 
-line : (e : Awaiting) (s : List ℕ) (p : ℕ) (c : Choice Awaiting) → standing (replies e) (drop p s) ≡ some c → Mirrored Awaiting replies stage_of Clean e s p c
+line : (e : Awaiting) (s : List ℕ) (p : ℕ) (c : Choice Awaiting) → standing (replies e) (drop p s) ≡ Some c → Mirrored Awaiting replies stage_of Clean e s p c
 line on20 s p c h = alone Awaiting replies stage_of Clean on20 s p c (choice f_b20 (λ v. on12)) T20 refl refl (λ v r o g n. (refl, (in_line_lem f_b20 v tt g, tt))) h
 line on12 s p c h = alone Awaiting replies stage_of Clean on12 s p c (choice (f12 (132 ∷ 134 ∷ [])) (λ v. on77e (eqb (value_of 0 v) 132))) T12 refl refl (λ v r o g n. (ap On77E (answers v r g n), (in_line_lem (f12 (132 ∷ 134 ∷ [])) v tt g, tt))) h
 line (on77e settles) s p c h = alone Awaiting replies stage_of Clean (on77e settles) s p c (choice f77e (λ v. on21 settles)) T77E refl refl (λ v r o g n. (refl, (in_line_lem f77e v tt g, tt))) h

@@ -1,6 +1,5 @@
 -- What is told of a break, beside the definition of where and how a text breaks (`Breaks` of `thm_first_break`).
-use Rattle.std.specs.Prelude.{ℕ, ◌+◌, ◌≡◌, List, [], ◌∷◌, Bool, true, false, cond, length, drop}
-use Rattle.std.proofs.Math.Option.{some}
+use Rattle.std.specs.Prelude.{ℕ, ◌+◌, ◌≡◌, List, [], ◌∷◌, Bool, true, false, cond, length, drop, Some}
 use Rattle.text_fields.specs.declared.Break.{Break}
 use Rattle.thm_first_break.specs.Rows.{Row, f20, f12, f77e, f22a, f119, f16a, f171, f175, f127, f32b, f113, no113, f102, f203, f_b20, f21, f451, f13e, f432, tag_of}
 use Rattle.thm_first_break.specs.Order.{Choice, Expecting, at20, at_end, choices}
@@ -51,11 +50,11 @@ module _ (E : Type 0) (may : E → List (Choice E)) (first last : E) where
     -- none of the tags that may stand there does: just these
     is_missing : (x : Tags) → b.missing ≡ true → texts_of x ≡ tags_in (may e) → t ≡ told n (Missing x) 0 → Explained s e b n t
     -- this one stands there, its value begins behind it and is wrong
-    is_wrong : (c : Choice E) (x : Tag) → b.missing ≡ false → standing (may e) (drop b.at s) ≡ some c → tag_text x ≡ tag_of c.row → t ≡ told n (Wrong x) (b.at + length (tag_of c.row)) → Explained s e b n t
+    is_wrong : (c : Choice E) (x : Tag) → b.missing ≡ false → standing (may e) (drop b.at s) ≡ Some c → tag_text x ≡ tag_of c.row → t ≡ told n (Wrong x) (b.at + length (tag_of c.row)) → Explained s e b n t
     -- a sub type that is not known
-    is_unknown : (c : Choice E) → b.missing ≡ false → standing (may e) (drop b.at s) ≡ some c → t ≡ told n Unknown (b.at + length (tag_of c.row)) → Explained s e b n t
+    is_unknown : (c : Choice E) → b.missing ≡ false → standing (may e) (drop b.at s) ≡ Some c → t ≡ told n Unknown (b.at + length (tag_of c.row)) → Explained s e b n t
     -- a 113 after CR
-    is_never_lem : (c : Choice E) → b.missing ≡ false → standing (may e) (drop b.at s) ≡ some c → is_never c.row ≡ true → t ≡ told n AfterCredit (b.at + length (tag_of c.row)) → Explained s e b n t
+    is_never_lem : (c : Choice E) → b.missing ≡ false → standing (may e) (drop b.at s) ≡ Some c → is_never c.row ≡ true → t ≡ told n AfterCredit (b.at + length (tag_of c.row)) → Explained s e b n t
 
   -- the line is the one behind those that were read, and its break is explained
   pub record Tells (s : List ℕ) (b : Break) (t : Told) : Type 0 where

@@ -1,18 +1,16 @@
 -- The payments of a request, walked through line by line: how a request breaks among them and behind them.
+use Rattle.std.specs.Prelude.{Option, Some, None, Result, Ok, Err}
 use Prim.Native.Nat.{ℕ, zero, suc, ◌+◌}
 use mathlib.Core.Path.{◌≡◌, refl, ap, sym, ◌∙◌}
 use mathlib.Core.List.{List, [], ◌∷◌}
 use mathlib.Core.Bool.{Bool, true, false, cond, false≢true}
 use mathlib.Core.Logic.{◌⊎◌, inl, inr}
-use mathlib.Core.Option.{Option, none, some}
 use native.Mathlib.Omega.{arith}
 use borrow.Author.Tests.{eq-eqb, ne_eqb, ltb-true, lt-ltb}
 use lib.Dec.{eqb, ltb}
 use lib.ListN.{drop, set}
 use Rattle.chars.specs.Words.{bytes}
 use Rattle.text_scan.specs.Scan.{on_next, begins, lit_at}
-use Rattle.text_scan.specs.declared.At.{At}
-use Rattle.text_scan.specs.declared.At.TheVariants.{Next, No}
 use Rattle.text_scan.specs.declared.Cursor.{Cursor}
 use Rattle.text_scan.proofs.Laws.{lit_yes, lit_not}
 use Rattle.text_values.specs.Values.{stands}
@@ -23,9 +21,6 @@ use Rattle.text_fields.specs.declared.Kind.TheVariants.{Word, Side, Amount, Lett
 use Rattle.request_read.specs.declared.terms.Terms.{Terms}
 use Rattle.request_read.specs.payments.Payments.{payment as paid, bank_at, credit_at, debit_at, payment_at, more_at, on_paid, ended, payments_on}
 use Rattle.request_read.specs.declared.payments.Payment.{Payment}
-use Rattle.request_read.specs.declared.payments.Paid.{Paid}
-use Rattle.request_read.specs.declared.payments.Paid.TheVariants.{One, Unpaid}
-use Rattle.request_read.specs.declared.payments.Ending.TheVariants.{Done, Cut}
 use Rattle.request_read.specs.declared.payments.Payments.{Payments}
 use Rattle.request_read.specs.whole.Request.{refusal, settlement, on_done, ending}
 use Rattle.request_read.specs.declared.whole.Head.{Head}
@@ -41,9 +36,9 @@ use Rattle.thm_first_break.proofs.Steps.{fits127, fits32b, fits113, fits102, fit
 
 -- the break of a reading, if it is refused
 abbrev pub broken_by : Outcome → Option Break
-broken_by (Refused b) = some b
-broken_by Settlement = none
-broken_by Recall = none
+broken_by (Refused b) = Some b
+broken_by Settlement = None
+broken_by Recall = None
 
 abbrev pub broken_in : Reading → Option Break
 broken_in r = broken_by r.outcome
@@ -94,31 +89,31 @@ module _ (s : List ℕ) where
   }
 
   -- 102
-  module _ (answer : Paid → Option Break) (ok : (b : Break) → answer (Unpaid b) ≡ some b) (k : ℕ) (on : (x : Payment) (c : Cursor) → Walk (answer (One x c)) c.at (at203 (k + 1))) where
+  module _ (answer : Result (Payment × Cursor) Break → Option Break) (ok : (b : Break) → answer (Err b) ≡ Some b) (k : ℕ) (on : (x : Payment) (c : Cursor) → Walk (answer (Ok (x, c))) c.at (at203 (k + 1))) where
     bank_walk : (p : ℕ) (e : Expecting) (side amount letters : Item) → Ask p e (bank k) → Walk (answer (bank_at s p side amount letters)) p e
     unfolding bank_at
-    bank_walk p e side amount letters ask = on_line answer Unpaid ok (λ i c. One (paid side amount letters i) c) (bank k) (Word 4) (fits102 s) ask (λ v. refl) (λ i d q g. on (paid side amount letters i) d)
+    bank_walk p e side amount letters ask = on_line answer Err ok (λ i c. Ok (paid side amount letters i, c)) (bank k) (Word 4) (fits102 s) ask (λ v. refl) (λ i d q g. on (paid side amount letters i) d)
 
     -- "113 stands after DR and never after CR"
     credit_walk : (p : ℕ) (side amount : Item) → Walk (answer (credit_at s p side amount)) p (at113 k false)
     unfolding credit_at
     credit_walk p side amount = go (lit_at s p (bytes ":113:")) refl
       where
-        go : (r : At) → lit_at s p (bytes ":113:") ≡ r → Walk (answer (on_next r (bank_at s p side amount nothing) (λ a. Unpaid (wrong_at p)))) p (at113 k false)
-        go (Next a) l = stop {e = at113 k false} (wrong_at p) (ok (wrong_at p)) (wrong (choice no113 (λ v. at_end)) refl (rw (lit_yes s p (bytes ":113:") l)) (λ r g. g.is))
-        go No l = bank_walk p (at113 k false) side amount nothing (second p (at113 k false) (choice no113 (λ v. at_end)) (bank k) refl refl (lit_not s p (bytes ":113:") l))
+        go : (r : Option ℕ) → lit_at s p (bytes ":113:") ≡ r → Walk (answer (on_next r (bank_at s p side amount nothing) (λ a. Err (wrong_at p)))) p (at113 k false)
+        go (Some a) l = stop {e = at113 k false} (wrong_at p) (ok (wrong_at p)) (wrong (choice no113 (λ v. at_end)) refl (rw (lit_yes s p (bytes ":113:") l)) (λ r g. g.is))
+        go None l = bank_walk p (at113 k false) side amount nothing (second p (at113 k false) (choice no113 (λ v. at_end)) (bank k) refl refl (lit_not s p (bytes ":113:") l))
 
     debit_walk : (p : ℕ) (side amount : Item) → Walk (answer (debit_at s p side amount)) p (at113 k true)
     unfolding debit_at
     debit_walk p side amount =
-        on_line answer Unpaid ok (λ letters c. bank_at s c.at side amount letters) (choice f113 (λ v. at102 k)) Letters (fits113 s) (alone p (at113 k true) (choice f113 (λ v. at102 k)) refl refl) (λ v. refl) (λ letters c q g.
+        on_line answer Err ok (λ letters c. bank_at s c.at side amount letters) (choice f113 (λ v. at102 k)) Letters (fits113 s) (alone p (at113 k true) (choice f113 (λ v. at102 k)) refl refl) (λ v. refl) (λ letters c q g.
         bank_walk c.at (at102 k) side amount letters (alone c.at (at102 k) (bank k) refl refl))
 
     payment_walk : (p : ℕ) (e : Expecting) → Ask p e (payment k) → Walk (answer (payment_at s p)) p e
     unfolding payment_at begins
     payment_walk p e ask =
-        on_line answer Unpaid ok _ (payment k) Side (fits127 s) ask (λ v. refl) (λ side c q g.
-        on_line answer Unpaid ok _ (choice f32b (λ v. at113 k (begins (bytes "DR") g.line.value))) Amount (fits32b s) (alone c.at (at32b k (begins (bytes "DR") g.line.value)) (choice f32b (λ v. at113 k (begins (bytes "DR") g.line.value))) refl refl) (λ v. refl) (λ amount d r h.
+        on_line answer Err ok _ (payment k) Side (fits127 s) ask (λ v. refl) (λ side c q g.
+        on_line answer Err ok _ (choice f32b (λ v. at113 k (begins (bytes "DR") g.line.value))) Amount (fits32b s) (alone c.at (at32b k (begins (bytes "DR") g.line.value)) (choice f32b (λ v. at113 k (begins (bytes "DR") g.line.value))) refl refl) (λ v. refl) (λ amount d r h.
         sided side amount d.at g.line.value (side_number s p q g.line)))
       where
         sided : (side amount : Item) (p : ℕ) (v : List ℕ) → ((v ≡ bytes "CR") × (side.number ≡ 0)) ⊎ ((v ≡ bytes "DR") × (side.number ≡ 1)) → Walk (answer (cond (eqb side.number 0) (credit_at s p side amount) (debit_at s p side amount))) p (at113 k (begins (bytes "DR") v))
@@ -139,22 +134,22 @@ module _ (s : List ℕ) where
         go true e = second p (at203 k) (payment k) (count k) refl (rw e) (f e)
         go false e = alone p (at203 k) (count k) refl (rw e)
 
-    count_walk : (t : Terms) (k p : ℕ) (items : List Payment) → (ltb k 10 ≡ true → begins (bytes ":127:") (drop p s) ≡ false) → Walk (paid_for t (ended (Done (place p)) k items)) p (at203 k)
+    count_walk : (t : Terms) (k p : ℕ) (items : List Payment) → (ltb k 10 ≡ true → begins (bytes ":127:") (drop p s) ≡ false) → Walk (paid_for t (ended (Ok (place p)) k items)) p (at203 k)
     count_walk t k p items f =
-        on_line broken_in (λ b. refusal h.subtype b h.address) (λ b. refl) (λ n e. ending s e.at h (settlement h t (ended (Done (place p)) k items) n)) (count k) (Count k) (fits203 s k) (counted k p f) (λ v. refl) (λ n d q g.
-        end_walk broken_in (refusal h.subtype (absent d.at) h.address) (settlement h t (ended (Done (place p)) k items) n) d.at refl refl)
+        on_line broken_in (λ b. refusal h.subtype b h.address) (λ b. refl) (λ n e. ending s e.at h (settlement h t (ended (Ok (place p)) k items) n)) (count k) (Count k) (fits203 s k) (counted k p f) (λ v. refl) (λ n d q g.
+        end_walk broken_in (refusal h.subtype (absent d.at) h.address) (settlement h t (ended (Ok (place p)) k items) n) d.at refl refl)
 
-    abbrev paid_on : Terms → ℕ → ℕ → List Payment → Paid → Option Break
-    paid_on t room k items x = paid_for t (on_paid x (λ b. ended (Cut b) k items) (λ y c. cond (more_at s c.at) (payments_on room s c.at (k + 1) (set items k y)) (ended (Done (place c.at)) (k + 1) (set items k y))))
+    abbrev paid_on : Terms → ℕ → ℕ → List Payment → Result (Payment × Cursor) Break → Option Break
+    paid_on t room k items x = paid_for t (on_paid x (λ b. ended (Err b) k items) (λ y c. cond (more_at s c.at) (payments_on room s c.at (k + 1) (set items k y)) (ended (Ok (place c.at)) (k + 1) (set items k y))))
 
     -- behind a payment: a further one, or 203
-    more_walk : (t : Terms) (room k p : ℕ) (items : List Payment) → (begins (bytes ":127:") (drop p s) ≡ true → Walk (paid_for t (payments_on room s p (k + 1) items)) p (at203 (k + 1))) → Walk (paid_for t (cond (more_at s p) (payments_on room s p (k + 1) items) (ended (Done (place p)) (k + 1) items))) p (at203 (k + 1))
+    more_walk : (t : Terms) (room k p : ℕ) (items : List Payment) → (begins (bytes ":127:") (drop p s) ≡ true → Walk (paid_for t (payments_on room s p (k + 1) items)) p (at203 (k + 1))) → Walk (paid_for t (cond (more_at s p) (payments_on room s p (k + 1) items) (ended (Ok (place p)) (k + 1) items))) p (at203 (k + 1))
     unfolding more_at
     more_walk t room k p items on = go (lit_at s p (bytes ":127:")) refl
       where
-        go : (r : At) → lit_at s p (bytes ":127:") ≡ r → Walk (paid_for t (cond (stands r) (payments_on room s p (k + 1) items) (ended (Done (place p)) (k + 1) items))) p (at203 (k + 1))
-        go (Next a) l = on (lit_yes s p (bytes ":127:") l)
-        go No l = count_walk t (k + 1) p items (λ e. lit_not s p (bytes ":127:") l)
+        go : (r : Option ℕ) → lit_at s p (bytes ":127:") ≡ r → Walk (paid_for t (cond (stands r) (payments_on room s p (k + 1) items) (ended (Ok (place p)) (k + 1) items))) p (at203 (k + 1))
+        go (Some a) l = on (lit_yes s p (bytes ":127:") l)
+        go None l = count_walk t (k + 1) p items (λ e. lit_not s p (bytes ":127:") l)
 
     -- "1 to 10 times"
     pub payments_walk : (t : Terms) (room k p : ℕ) (items : List Payment) (e : Expecting) → k + suc room ≡ 10 → Ask p e (payment k) → Walk (paid_for t (payments_on (suc room) s p k items)) p e

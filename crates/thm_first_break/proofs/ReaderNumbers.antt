@@ -1,9 +1,9 @@
 -- The numbers of the readers: 80, 81, 87 and 88, of a response 87 and 88.
+use Rattle.std.specs.Prelude.{Some, None}
 use Prim.Native.Nat.{ℕ, ◌+◌}
 use mathlib.Core.Path.{◌≡◌, refl, ap, sym, ◌∙◌}
 use mathlib.Core.List.{List, [], ◌∷◌}
 use mathlib.Core.Bool.{Bool, true, false, cond, ◌&&◌}
-use mathlib.Core.Option.{none, some}
 use native.Mathlib.Omega.{arith}
 use lib.ListN.{length, get_or, drop}
 use Rattle.chars.specs.Words.{member}
@@ -55,7 +55,7 @@ row_number f13e l = refl
 row_number f432 l = refl
 
 -- what a text is refused with is the number of a row, 87 or 88
-by_break : {E : Type 0} {may : E → List (Choice E)} {first last : E} {s : List ℕ} {e : E} {b : Break} (numbers : List ℕ) → Breaks E may first last s e b → ((c : Choice E) (l : List ℕ) → standing (may e) (drop b.at s) ≡ some c → OneOf numbers (refusal_of c.row l)) → OneOf numbers Malformed → OneOf numbers OtherSubType → OneOf numbers b.refusal
+by_break : {E : Type 0} {may : E → List (Choice E)} {first last : E} {s : List ℕ} {e : E} {b : Break} (numbers : List ℕ) → Breaks E may first last s e b → ((c : Choice E) (l : List ℕ) → standing (may e) (drop b.at s) ≡ Some c → OneOf numbers (refusal_of c.row l)) → OneOf numbers Malformed → OneOf numbers OtherSubType → OneOf numbers b.refusal
 by_break {E} {may} {first} {last} {s} {e} {b} numbers v row malformed sub_type = go v
   where
     told : {r : Refusal} → b.refusal ≡ r → OneOf numbers r → OneOf numbers b.refusal
@@ -70,15 +70,15 @@ by_break {E} {may} {first} {last} {s} {e} {b} numbers v row malformed sub_type =
 pub request_numbers : (s : List ℕ) (b : Break) → (request_at s).outcome ≡ Unread b → OneOf (80 ∷ 81 ∷ 87 ∷ 88 ∷ []) b.refusal
 request_numbers s b h = by_break (80 ∷ 81 ∷ 87 ∷ 88 ∷ []) (request-break s b h).breaks (λ c l i. row_number c.row l) refl refl
 
-only_row : {E : Type 0} (c : Choice E) (l : List ℕ) {d : Choice E} → standing (c ∷ []) l ≡ some d → d.row ≡ c.row
+only_row : {E : Type 0} (c : Choice E) (l : List ℕ) {d : Choice E} → standing (c ∷ []) l ≡ Some d → d.row ≡ c.row
 only_row {E} c l {d} h = go (begins (tag_of c.row) l) h
   where
-    go : (b : Bool) → cond b (some c) none ≡ some d → d.row ≡ c.row
+    go : (b : Bool) → cond b (Some c) None ≡ Some d → d.row ≡ c.row
     go true h = let z : c ≡ d = cc in ap (λ (x : Choice E). x.row) (sym z)
     go false h = let z : ◌≡◌ {A = ℕ} 0 1 = cc in absurd (omega arith)
 
 -- a response has no letters
-reply_row : (e : Awaiting) (l m : List ℕ) (c : Choice Awaiting) → standing (replies e) l ≡ some c → refusal_of c.row m ≡ Malformed
+reply_row : (e : Awaiting) (l m : List ℕ) (c : Choice Awaiting) → standing (replies e) l ≡ Some c → refusal_of c.row m ≡ Malformed
 reply_row on20 l m c h = ap (λ (f : Row). refusal_of f m) (only_row (choice f_b20 _) l h)
 reply_row on12 l m c h = ap (λ (f : Row). refusal_of f m) (only_row (choice (f12 _) _) l h)
 reply_row (on77e b) l m c h = ap (λ (f : Row). refusal_of f m) (only_row (choice f77e _) l h)

@@ -1,10 +1,10 @@
 -- A field's step on the walk: its line stands there, or it breaks the text there.
+use Rattle.std.specs.Prelude.{Result, Ok, Err, Option, Some, None}
 use Prim.Native.Nat.{ℕ, ◌+◌}
 use mathlib.Core.Path.{◌≡◌, refl, ap, sym, subst, ◌∙◌}
 use mathlib.Core.List.{List, [], ◌∷◌, ◌++◌}
 use mathlib.Core.Bool.{Bool, true, false, cond}
 use mathlib.Core.Logic.{◌⊎◌, inl, inr}
-use mathlib.Core.Option.{Option, none, some}
 use native.Mathlib.Omega.{arith}
 use borrow.Author.Tests.{ltb-true, ltb-false}
 use lib.Dec.{ltb}
@@ -13,6 +13,7 @@ use Rattle.chars.specs.Chars.{is_digit}
 use Rattle.chars.specs.Words.{crlf}
 use Rattle.text_scan.specs.Scan.{begins}
 use Rattle.text_scan.specs.declared.Cursor.{Cursor}
+use Rattle.text_scan.proofs.Pairs.{ok_pair}
 use Rattle.text_scan.proofs.Laws.{lit_yes}
 use Rattle.text_scan.proofs.Standing.{lit_reads}
 use Rattle.text_values.specs.Values.{text_of}
@@ -21,8 +22,6 @@ use Rattle.text_values.specs.Grammar.{IsNumeral, IsBin}
 use Rattle.text_fields.specs.Fields.{absent, broken, place, on_good, value_at, field_at}
 use Rattle.text_fields.specs.declared.Break.{Break}
 use Rattle.text_fields.specs.declared.Item.{Item}
-use Rattle.text_fields.specs.declared.Field.{Field}
-use Rattle.text_fields.specs.declared.Field.TheVariants.{Good, Bad}
 use Rattle.text_fields.specs.declared.Kind.{Kind}
 use Rattle.text_fields.specs.declared.Kind.TheVariants.{Empty, Reference, Numeral, Word, Bin, Numbers, Date, Time, Side, Amount, Letters, Count}
 use Rattle.text_fields.proofs.Alike.{Fine}
@@ -104,13 +103,13 @@ module _ (s : List ℕ) where
   pub covers13e : Covers s f13e (Numeral 12)
   covers13e = record { bound = 0; fine = omega arith; from = λ v h. h.twelve; told = λ a. told (numeral_plain s a 12) }
 
-pub read_and_not : {A : Type 0} {x : Field} {b : Break} {i : Item} {c : Cursor} → x ≡ Good i c → x ≡ Bad b → A
+pub read_and_not : {A : Type 0} {x : Result (Item × Cursor) Break} {b : Break} {i : Item} {c : Cursor} → x ≡ Ok (i, c) → x ≡ Err b → A
 read_and_not p q = let z : ◌≡◌ {A = ℕ} 0 1 = cc in absurd (omega arith)
 
 -- the row stands there where its tag does, else nothing does that may
 pub record Asked (E : Type 0) (may : E → List (Choice E)) (last : E) (s : List ℕ) (p : ℕ) (e : E) (c : Choice E) : Type 0 where
-  pub yes : begins (tag_of c.row) (drop p s) ≡ true → standing (may e) (drop p s) ≡ some c
-  pub no : begins (tag_of c.row) (drop p s) ≡ false → standing (may e) (drop p s) ≡ none
+  pub yes : begins (tag_of c.row) (drop p s) ≡ true → standing (may e) (drop p s) ≡ Some c
+  pub no : begins (tag_of c.row) (drop p s) ≡ false → standing (may e) (drop p s) ≡ None
   pub open_end : e ≡ last → ⊥
 
 -- one row alone may stand there
@@ -123,7 +122,7 @@ alone E may last s p e c n h = record {
 
 module _ {E : Type 0} {may : E → List (Choice E)} {first last : E} {ends : may last ≡ []} {s : List ℕ} where
   -- "and nothing else"
-  pub end_walk : {A : Type 0} (answer : A → Option Break) (x r : A) (p : ℕ) → answer x ≡ some (absent p) → answer r ≡ none → Verdict E may first last ends s (answer (cond (ltb p (length s)) x r)) p last
+  pub end_walk : {A : Type 0} (answer : A → Option Break) (x r : A) (p : ℕ) → answer x ≡ Some (absent p) → answer r ≡ None → Verdict E may first last ends s (answer (cond (ltb p (length s)) x r)) p last
   end_walk answer x r p h k = go (ltb p (length s)) refl
     where
       go : (b : Bool) → ltb p (length s) ≡ b → Verdict E may first last ends s (answer (cond b x r)) p last
@@ -131,28 +130,28 @@ module _ {E : Type 0} {may : E → List (Choice E)} {first last : E} {ends : may
       go false e = fine k refl (drop_of_length-le s (ltb-false p (length s) e))
 
   -- a field that may stand there, and what it is read for
-  pub on_field : {A : Type 0} (answer : A → Option Break) (bad : Break → A) → ((b : Break) → answer (bad b) ≡ some b) → (good : Item → Cursor → A) {p : ℕ} {e : E} (c : Choice E) (k : Kind) → Covers s c.row k → Asked E may last s p e c
-      → ((i : Item) (d : Cursor) → field_at s p (tag_of c.row) k ≡ Good i d → (g : LineRead s p (tag_of c.row) k i d) → standing (may e) (drop p s) ≡ some c → ((o : Option Break) → Is c.row g.line.value → known c.row g.line.value ≡ true → Verdict E may first last ends s o d.at (c.next g.line.value) → Verdict E may first last ends s o p e) → Verdict E may first last ends s (answer (good i d)) p e)
+  pub on_field : {A : Type 0} (answer : A → Option Break) (bad : Break → A) → ((b : Break) → answer (bad b) ≡ Some b) → (good : Item → Cursor → A) {p : ℕ} {e : E} (c : Choice E) (k : Kind) → Covers s c.row k → Asked E may last s p e c
+      → ((i : Item) (d : Cursor) → field_at s p (tag_of c.row) k ≡ Ok (i, d) → (g : LineRead s p (tag_of c.row) k i d) → standing (may e) (drop p s) ≡ Some c → ((o : Option Break) → Is c.row g.line.value → known c.row g.line.value ≡ true → Verdict E may first last ends s o d.at (c.next g.line.value) → Verdict E may first last ends s o p e) → Verdict E may first last ends s (answer (good i d)) p e)
       → Verdict E may first last ends s (answer (on_good (field_at s p (tag_of c.row) k) bad good)) p e
   on_field {A} answer bad ok good {p} {e} c k fit ask on = go (field_at s p (tag_of c.row) k) refl
     where
-      go : (x : Field) → field_at s p (tag_of c.row) k ≡ x → Verdict E may first last ends s (answer (on_good x bad good)) p e
-      go (Good i d) q =
+      go : (x : Result (Item × Cursor) Break) → field_at s p (tag_of c.row) k ≡ x → Verdict E may first last ends s (answer (on_good x bad good)) p e
+      go (Ok (i, d)) q =
           let g = line_read s p (tag_of c.row) k fit.bound fit.fine q in
           let w = line_complete s p (tag_of c.row) k fit.bound fit.fine refl g.line in
-          let z : d ≡ place (p + length (tag_of c.row) + length g.line.value + 2) = cc (q, w.is) in
+          let z : d ≡ place (p + length (tag_of c.row) + length g.line.value + 2) = (ok_pair (sym q ∙ w.is)).1 in
           let t = ask.yes (lit_yes s p (tag_of c.row) (lit_reads s p (tag_of c.row) (g.line.value ++ (crlf ++ drop d.at s)) (line_text_lem g.line))) in
           on i d q g t (λ o is n v. step c t (record { value = g.line.value; text = g.line.text; is = is }) n (ap (λ (x : Cursor). x.at) z) v)
-      go (Bad b) q = broke (field_bad s p (tag_of c.row) k (refusal_of c.row (drop (p + length (tag_of c.row)) s)) (fit.told (p + length (tag_of c.row))) q)
+      go (Err b) q = broke (field_bad s p (tag_of c.row) k (refusal_of c.row (drop (p + length (tag_of c.row)) s)) (fit.told (p + length (tag_of c.row))) q)
         where
           broke : ((begins (tag_of c.row) (drop p s) ≡ false) × (b ≡ absent p)) ⊎ ((begins (tag_of c.row) (drop p s) ≡ true) × (b ≡ broken p (refusal_of c.row (drop (p + length (tag_of c.row)) s)))) → Verdict E may first last ends s (answer (bad b)) p e
-          broke (inl x) = stop (absent p) (ok b ∙ ap some x.1) (missing refl (ask.no x.0) (λ h n. ask.open_end h))
-          broke (inr x) = stop (broken p (refusal_of c.row (drop (p + length (tag_of c.row)) s))) (ok b ∙ ap some x.1) (wrong c refl (ask.yes x.0) (λ r g.
+          broke (inl x) = stop (absent p) (ok b ∙ ap Some x.1) (missing refl (ask.no x.0) (λ h n. ask.open_end h))
+          broke (inr x) = stop (broken p (refusal_of c.row (drop (p + length (tag_of c.row)) s))) (ok b ∙ ap Some x.1) (wrong c refl (ask.yes x.0) (λ r g.
               read_and_not (line_complete s p (tag_of c.row) k fit.bound fit.fine refl (record { value = g.value; text = g.text; is = fit.from g.value g.is })).is q))
 
   -- where every well-formed value is known: the walk goes on behind it
-  pub on_line : {A : Type 0} (answer : A → Option Break) (bad : Break → A) → ((b : Break) → answer (bad b) ≡ some b) → (good : Item → Cursor → A) {p : ℕ} {e : E} (c : Choice E) (k : Kind) → Fits s c.row k → Asked E may last s p e c
+  pub on_line : {A : Type 0} (answer : A → Option Break) (bad : Break → A) → ((b : Break) → answer (bad b) ≡ Some b) → (good : Item → Cursor → A) {p : ℕ} {e : E} (c : Choice E) (k : Kind) → Fits s c.row k → Asked E may last s p e c
       → ((v : List ℕ) → known c.row v ≡ true)
-      → ((i : Item) (d : Cursor) → field_at s p (tag_of c.row) k ≡ Good i d → (g : LineRead s p (tag_of c.row) k i d) → Verdict E may first last ends s (answer (good i d)) d.at (c.next g.line.value))
+      → ((i : Item) (d : Cursor) → field_at s p (tag_of c.row) k ≡ Ok (i, d) → (g : LineRead s p (tag_of c.row) k i d) → Verdict E may first last ends s (answer (good i d)) d.at (c.next g.line.value))
       → Verdict E may first last ends s (answer (on_good (field_at s p (tag_of c.row) k) bad good)) p e
   on_line answer bad ok good c k fit ask n on = on_field answer bad ok good c k fit.covers ask (λ i d q g t f. f (answer (good i d)) (fit.to g.line.value g.line.is) (n g.line.value) (on i d q g))

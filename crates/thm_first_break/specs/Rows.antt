@@ -1,12 +1,10 @@
 -- The rows of document 01's table, and those of responses: a tag, what its value is, and the number of a line whose value is none.
-use Rattle.std.specs.Prelude.{ℕ, ◌/◌, ◌%◌, ◌≡◌, List, ◌++◌, Bool, true, false, ◌&&◌, cond, ◌⊎◌, eqb, get_or}
+use Rattle.std.specs.Prelude.{ℕ, ◌/◌, ◌%◌, ◌≡◌, List, ◌++◌, Bool, true, false, ◌&&◌, cond, ◌⊎◌, eqb, get_or, Some}
 use Rattle.chars.specs.Words.{bytes, member}
 use Rattle.chars.specs.declared.Refusal.{Refusal}
 use Rattle.chars.specs.declared.Refusal.TheVariants.{Malformed, WrongEsa, WrongLetter}
 use Rattle.clock.specs.Clock.{second_of}
-use Rattle.clock.specs.declared.Second.TheVariants.{Number as Clocked}
 use Rattle.dates.specs.Dates.{day_of}
-use Rattle.dates.specs.declared.Day.TheVariants.{Number}
 use Rattle.text_scan.specs.Scan.{on_next, line_end}
 use Rattle.text_scan.specs.Spelling.{value_of}
 use Rattle.text_values.specs.Letters.{is_status}
@@ -27,8 +25,8 @@ pub record IsMoment (v : List ℕ) : Type 0 where
   pub twelve : IsNumeral 12 v
   pub day : ℕ
   pub second : ℕ
-  pub true_date : day_of (value_of 0 v / 1000000) ≡ Number day
-  pub true_time : second_of (value_of 0 v % 1000000) ≡ Clocked second
+  pub true_date : day_of (value_of 0 v / 1000000) ≡ Some day
+  pub true_time : second_of (value_of 0 v % 1000000) ≡ Some second
 
 -- 12 with the sub types that are known, 119 with the stream that it begins with, 203 with the payments that it counts; `no113` is the 113 that "never"
 -- stands after CR

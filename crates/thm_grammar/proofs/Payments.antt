@@ -1,4 +1,6 @@
 -- The payments of a request: those of the grammar are read, and nothing else is.
+use Rattle.chars.specs.declared.Refusal.{Refusal}
+use Rattle.std.specs.Prelude.{Option, Some, None, Result, Ok, Err}
 use Prim.Native.Nat.{ℕ, zero, suc, ◌+◌, ◌≤◌, ◌<◌}
 use mathlib.Core.Path.{◌≡◌, refl, ap, sym, subst, ◌∙◌}
 use mathlib.Core.List.{List, [], ◌++◌}
@@ -12,43 +14,35 @@ use lib.Seq.{get_or-set_same, get_or-set_other}
 use Rattle.chars.specs.Words.{bytes, crlf}
 use Rattle.codes.specs.Codes.{packed}
 use Rattle.text_scan.specs.Scan.{on_next, begins, lit_at}
-use Rattle.text_scan.specs.declared.At.{At}
-use Rattle.text_scan.specs.declared.At.TheVariants.{Next, No}
 use Rattle.text_scan.specs.declared.Cursor.{Cursor}
+use Rattle.text_scan.proofs.Pairs.{ok_pair}
 use Rattle.text_scan.proofs.Standing.{past, lit_reads, lit_next}
 use Rattle.text_values.specs.Values.{text_of, side_at}
-use Rattle.text_values.specs.declared.Value.{Value}
-use Rattle.text_values.specs.declared.Value.TheVariants.{Read, Unread}
 use Rattle.text_values.specs.Grammar.{IsSide, IsWord, cents_in}
 use Rattle.text_fields.specs.Fields.{absent, broken, wrong, nothing, item, place, on_read, on_good, value_at, field_at}
 use Rattle.text_fields.specs.declared.Break.{Break}
 use Rattle.text_fields.specs.declared.Item.{Item}
-use Rattle.text_fields.specs.declared.Field.{Field}
-use Rattle.text_fields.specs.declared.Field.TheVariants.{Good, Bad}
 use Rattle.text_fields.specs.declared.Kind.{Kind}
 use Rattle.text_fields.specs.declared.Kind.TheVariants.{Word, Side, Amount, Letters}
 use Rattle.text_fields.specs.Grammar.{Line}
 use Rattle.text_fields.proofs.Grammar.{line_complete, line_text_lem}
 use Rattle.request_read.specs.payments.Payments.{none, no_payment, payment, bank_at, credit_at, debit_at, payment_at, more_at, on_paid, ended, payments_on, payments_at}
 use Rattle.request_read.specs.declared.payments.Payment.{Payment}
-use Rattle.request_read.specs.declared.payments.Paid.{Paid}
-use Rattle.request_read.specs.declared.payments.Paid.TheVariants.{One, Unpaid}
-use Rattle.request_read.specs.declared.payments.Ending.TheVariants.{Done, Cut}
 use Rattle.request_read.specs.declared.payments.Payments.{Payments}
-use Rattle.thm_grammar.proofs.Meanings.{number_is, LineRead, line_read}
+use Rattle.thm_grammar.proofs.Meanings.{number_is, not_read, LineRead, line_read}
 use Rattle.thm_grammar.specs.Text.{PaymentText, credit, debit, PaymentsText, none_left, one_more, PaymentIs, PartsAre, PaymentSays, PaymentParts, PaymentsSay, PaymentsParts}
 
 -- what a fixed string is not, from its first bytes
-pub not_there : (s : List ℕ) (at : ℕ) (p q r : List ℕ) → drop at s ≡ q ++ r → begins p (q ++ r) ≡ false → lit_at s at p ≡ No
+pub not_there : (s : List ℕ) (at : ℕ) (p q r : List ℕ) → drop at s ≡ q ++ r → begins p (q ++ r) ≡ false → lit_at s at p ≡ None
 unfolding lit_at
 not_there s at p q r h e = rw (h, e)
 
 -- the number of a side
-side_cr : (s : List ℕ) (at : ℕ) (r : List ℕ) → drop at s ≡ bytes "CR" ++ r → side_at s at ≡ Read 0 (at + 2)
+side_cr : (s : List ℕ) (at : ℕ) (r : List ℕ) → drop at s ≡ bytes "CR" ++ r → side_at s at ≡ Ok (0, at + 2)
 unfolding side_at
 side_cr s at r h = simp (lit_reads s at (bytes "CR") r h)
 
-side_dr : (s : List ℕ) (at : ℕ) (r : List ℕ) → drop at s ≡ bytes "DR" ++ r → side_at s at ≡ Read 1 (at + 2)
+side_dr : (s : List ℕ) (at : ℕ) (r : List ℕ) → drop at s ≡ bytes "DR" ++ r → side_at s at ≡ Ok (1, at + 2)
 unfolding side_at begins
 side_dr s at r h = simp (not_there s at (bytes "CR") (bytes "DR") r h refl, lit_reads s at (bytes "DR") r h)
 
@@ -56,7 +50,7 @@ side_dr s at r h = simp (not_there s at (bytes "CR") (bytes "DR") r h refl, lit_
 pub record Paying (s : List ℕ) (at : ℕ) (r : List ℕ) : Type 0 where
   pub payment : Payment
   pub next : ℕ
-  pub is : payment_at s at ≡ One payment (place next)
+  pub is : payment_at s at ≡ Ok (payment, place next)
   pub rest : drop next s ≡ r
 
 abbrev with_side : (w : List ℕ) {l r : List ℕ} → IsSide w → Line (bytes ":127:") (λ (v : List ℕ). v ≡ w) l r → Line (bytes ":127:") IsSide l r
@@ -70,7 +64,7 @@ payment_complete s at h (credit {m = m} {r = r} g₁ g₂ g₃) =
     let n = at + 5 + length g₁.value + 2 + 5 + length g₂.value + 2 in
     let c = line_complete s n (bytes ":102:") (Word 4) 0 (omega arith) b.rest g₃ in
     let z : a.number ≡ 0 = number_is a.value (side_cr s (at + 5) (crlf ++ m) (a.part ∙ ap (λ (l : List ℕ). l ++ (crlf ++ m)) g₁.is)) in
-    let x : lit_at s n (bytes ":113:") ≡ No = not_there s n (bytes ":113:") (bytes ":102:") (g₃.value ++ (crlf ++ r)) (b.rest ∙ line_text_lem g₃) refl in
+    let x : lit_at s n (bytes ":113:") ≡ None = not_there s n (bytes ":113:") (bytes ":102:") (g₃.value ++ (crlf ++ r)) (b.rest ∙ line_text_lem g₃) refl in
     record {
       payment = payment (item (at + 5) (at + 5 + length g₁.value) a.number) (item (at + 5 + length g₁.value + 2 + 5) (at + 5 + length g₁.value + 2 + 5 + length g₂.value) b.number) nothing (item (n + 5) (n + 5 + length g₃.value) c.number);
       next = n + 5 + length g₃.value + 2;
@@ -105,7 +99,7 @@ more_is s at false h e = rw (h, e)
 
 pub record AllPaid (x : Payments) (s : List ℕ) (n : ℕ) (r : List ℕ) : Type 0 where
   pub next : ℕ
-  pub is : x.ending ≡ Done (place next)
+  pub is : x.ending ≡ Ok (place next)
   pub count : x.n ≡ n
   pub rest : drop next s ≡ r
 
@@ -127,15 +121,12 @@ unfolding payments_at
 payments_complete s at k h p m e = let g = on_complete s 10 k at 0 none h p m e in record { next = g.next; is = g.is; count = g.count ∙ omega arith; rest = g.rest }
 
 -- sound
-unpaid : {A : Type 0} {b : Break} {p : Payment} {c : Cursor} → Unpaid b ≡ One p c → A
-unpaid h = let z : ◌≡◌ {A = ℕ} 0 1 = cc in absurd (omega arith)
-
-on_field : {A : Type 0} (s : List ℕ) (at : ℕ) (tag : List ℕ) (k : Kind) (f : Item → Cursor → Paid) {p : Payment} {c : Cursor} → on_good (field_at s at tag k) Unpaid f ≡ One p c → ((i : Item) (d : Cursor) → field_at s at tag k ≡ Good i d → f i d ≡ One p c → A) → A
+on_field : {A : Type 0} (s : List ℕ) (at : ℕ) (tag : List ℕ) (k : Kind) (f : Item → Cursor → Result (Payment × Cursor) Break) {p : Payment} {c : Cursor} → on_good (field_at s at tag k) Err f ≡ Ok (p, c) → ((i : Item) (d : Cursor) → field_at s at tag k ≡ Ok (i, d) → f i d ≡ Ok (p, c) → A) → A
 on_field {A} s at tag k f {p} {c} h g = go (field_at s at tag k) refl h
   where
-    go : (x : Field) → field_at s at tag k ≡ x → on_good x Unpaid f ≡ One p c → A
-    go (Good i d) q h = g i d q h
-    go (Bad b) q h = unpaid h
+    go : (x : Result (Item × Cursor) Break) → field_at s at tag k ≡ x → on_good x Err f ≡ Ok (p, c) → A
+    go (Ok (i, d)) q h = g i d q h
+    go (Err b) q h = not_read h
 
 record BankStands (s : List ℕ) (at : ℕ) (side amount letters : Item) (p : Payment) (c : Cursor) : Type 0 where
   line : Line (bytes ":102:") (IsWord 4) (drop at s) (drop c.at s)
@@ -144,37 +135,33 @@ record BankStands (s : List ℕ) (at : ℕ) (side amount letters : Item) (p : Pa
   number : bank.number ≡ packed 4 line.value
   part : text_of s bank.part ≡ line.value
 
-bank_sound : (s : List ℕ) (at : ℕ) (side amount letters : Item) {p : Payment} {c : Cursor} → bank_at s at side amount letters ≡ One p c → BankStands s at side amount letters p c
+bank_sound : (s : List ℕ) (at : ℕ) (side amount letters : Item) {p : Payment} {c : Cursor} → bank_at s at side amount letters ≡ Ok (p, c) → BankStands s at side amount letters p c
 unfolding bank_at
-bank_sound s at side amount letters {p} {c} h = on_field s at (bytes ":102:") (Word 4) (λ bank d. One (payment side amount letters bank) d) h (λ i d q r.
-    let z : d ≡ c = cc in
-    let g = line_read s at (bytes ":102:") (Word 4) 0 (omega arith) (q ∙ ap (Good i) z) in
-    record { line = g.line; bank = i; is = cc; number = g.means refl; part = g.text })
-
-no_field : {A : Type 0} {b : Break} {i : Item} {c : Cursor} → Bad b ≡ Good i c → A
-no_field h = let z : ◌≡◌ {A = ℕ} 0 1 = cc in absurd (omega arith)
+bank_sound s at side amount letters {p} {c} h = on_field s at (bytes ":102:") (Word 4) (λ bank d. Ok (payment side amount letters bank, d)) h (λ i d q r.
+    let z = ok_pair r in
+    let g = line_read s at (bytes ":102:") (Word 4) 0 (omega arith) (q ∙ ap (λ (e : Cursor). Ok (i, e)) z.1) in
+    record { line = g.line; bank = i; is = sym z.0; number = g.means refl; part = g.text })
 
 -- the number beside a field is that of its value, and its part begins after the tag
-pub field_value : (s : List ℕ) (at : ℕ) (tag : List ℕ) (k : Kind) {i : Item} {c : Cursor} → field_at s at tag k ≡ Good i c → (value_at s (at + length tag) k ≡ Read i.number i.part.end) × (i.part.start ≡ at + length tag)
+pub field_value : (s : List ℕ) (at : ℕ) (tag : List ℕ) (k : Kind) {i : Item} {c : Cursor} → field_at s at tag k ≡ Ok (i, c) → (value_at s (at + length tag) k ≡ Ok (i.number, i.part.end)) × (i.part.start ≡ at + length tag)
 unfolding field_at
 field_value s at tag k {i} {c} h = go₁ (lit_at s at tag) refl h
   where
-    go₃ : (a v e : ℕ) → lit_at s at tag ≡ Next a → value_at s a k ≡ Read v e → (r : At) → on_next r (Bad (wrong at)) (λ n. Good (item a e v) (place n)) ≡ Good i c → (value_at s (at + length tag) k ≡ Read i.number i.part.end) × (i.part.start ≡ at + length tag)
-    go₃ a v e l g No h = no_field h
-    go₃ a v e l g (Next n) h =
-        let z : item a e v ≡ i = cc in
-        rw (← z, ← lit_next s at tag l) (g, refl)
+    go₃ : (a v e : ℕ) → lit_at s at tag ≡ Some a → value_at s a k ≡ Ok (v, e) → (r : Option ℕ) → on_next {A = Result (Item × Cursor) Break} r (Err (wrong at)) (λ n. Ok (item a e v, place n)) ≡ Ok (i, c) → (value_at s (at + length tag) k ≡ Ok (i.number, i.part.end)) × (i.part.start ≡ at + length tag)
+    go₃ a v e l g None h = not_read h
+    go₃ a v e l g (Some n) h =
+        rw (← (ok_pair h).0, ← lit_next s at tag l) (g, refl)
 
-    go₂ : (a : ℕ) → lit_at s at tag ≡ Next a → (r : Value) → value_at s a k ≡ r → on_read r (λ x. Bad (broken at x)) (λ v e. on_next (lit_at s e crlf) (Bad (wrong at)) (λ n. Good (item a e v) (place n))) ≡ Good i c → (value_at s (at + length tag) k ≡ Read i.number i.part.end) × (i.part.start ≡ at + length tag)
-    go₂ a l (Read v e) g h = go₃ a v e l g (lit_at s e crlf) h
-    go₂ a l (Unread x) g h = no_field h
+    go₂ : (a : ℕ) → lit_at s at tag ≡ Some a → (r : Result (ℕ × ℕ) Refusal) → value_at s a k ≡ r → on_read {A = Result (Item × Cursor) Break} r (λ x. Err (broken at x)) (λ v e. on_next (lit_at s e crlf) (Err (wrong at)) (λ n. Ok (item a e v, place n))) ≡ Ok (i, c) → (value_at s (at + length tag) k ≡ Ok (i.number, i.part.end)) × (i.part.start ≡ at + length tag)
+    go₂ a l (Ok (v, e)) g h = go₃ a v e l g (lit_at s e crlf) h
+    go₂ a l (Err x) g h = not_read h
 
-    go₁ : (r : At) → lit_at s at tag ≡ r → on_next r (Bad (absent at)) (λ a. on_read (value_at s a k) (λ x. Bad (broken at x)) (λ v e. on_next (lit_at s e crlf) (Bad (wrong at)) (λ n. Good (item a e v) (place n)))) ≡ Good i c → (value_at s (at + length tag) k ≡ Read i.number i.part.end) × (i.part.start ≡ at + length tag)
-    go₁ (Next a) l h = go₂ a l (value_at s a k) refl h
-    go₁ No l h = no_field h
+    go₁ : (r : Option ℕ) → lit_at s at tag ≡ r → on_next {A = Result (Item × Cursor) Break} r (Err (absent at)) (λ a. on_read (value_at s a k) (λ x. Err (broken at x)) (λ v e. on_next (lit_at s e crlf) (Err (wrong at)) (λ n. Ok (item a e v, place n)))) ≡ Ok (i, c) → (value_at s (at + length tag) k ≡ Ok (i.number, i.part.end)) × (i.part.start ≡ at + length tag)
+    go₁ (Some a) l h = go₂ a l (value_at s a k) refl h
+    go₁ None l h = not_read h
 
 -- which side a line says, with its number
-pub side_number : (s : List ℕ) (at : ℕ) {i : Item} {d : Cursor} → field_at s at (bytes ":127:") Side ≡ Good i d → (g : Line (bytes ":127:") IsSide (drop at s) (drop d.at s)) → ((g.value ≡ bytes "CR") × (i.number ≡ 0)) ⊎ ((g.value ≡ bytes "DR") × (i.number ≡ 1))
+pub side_number : (s : List ℕ) (at : ℕ) {i : Item} {d : Cursor} → field_at s at (bytes ":127:") Side ≡ Ok (i, d) → (g : Line (bytes ":127:") IsSide (drop at s) (drop d.at s)) → ((g.value ≡ bytes "CR") × (i.number ≡ 0)) ⊎ ((g.value ≡ bytes "DR") × (i.number ≡ 1))
 side_number s at {i} {d} q g = go g.is
   where
     here : {w : List ℕ} → g.value ≡ w → drop (at + 5) s ≡ w ++ (crlf ++ drop d.at s)
@@ -190,7 +177,7 @@ record Sided (s : List ℕ) (at : ℕ) (side : List ℕ) (n : ℕ) (i : Item) (d
   number : i.number ≡ n
   part : text_of s i.part ≡ line.value
 
-side_sound : (s : List ℕ) (at : ℕ) (i : Item) (d : Cursor) → field_at s at (bytes ":127:") Side ≡ Good i d → Sided s at (bytes "CR") 0 i d ⊎ Sided s at (bytes "DR") 1 i d
+side_sound : (s : List ℕ) (at : ℕ) (i : Item) (d : Cursor) → field_at s at (bytes ":127:") Side ≡ Ok (i, d) → Sided s at (bytes "CR") 0 i d ⊎ Sided s at (bytes "DR") 1 i d
 side_sound s at i d q = go (side_number s at q g.line)
   where
     g : LineRead s at (bytes ":127:") Side i d
@@ -213,16 +200,16 @@ record PaymentStands (s : List ℕ) (at : ℕ) (p : Payment) (c : Cursor) : Type
   says : PaymentSays text p
   parts : PaymentParts s text p
 
-payment_sound : (s : List ℕ) (at : ℕ) {p : Payment} {c : Cursor} → payment_at s at ≡ One p c → PaymentStands s at p c
+payment_sound : (s : List ℕ) (at : ℕ) {p : Payment} {c : Cursor} → payment_at s at ≡ Ok (p, c) → PaymentStands s at p c
 unfolding payment_at credit_at debit_at
 payment_sound s at {p} {c} h = on_field s at (bytes ":127:") Side _ h (λ i d q₁ r₁.
     on_field s d.at (bytes ":32B:") Amount _ r₁ (λ m e q₂ r₂. go i d m e (side_sound s at i d q₁) (line_read s d.at (bytes ":32B:") Amount 0 tt q₂) (eqb i.number 0) refl r₂))
   where
-    no_letters : (i m : Item) (e : Cursor) (r : At) → on_next r (bank_at s e.at i m nothing) (λ a. Unpaid (wrong e.at)) ≡ One p c → BankStands s e.at i m nothing p c
-    no_letters i m e No h = bank_sound s e.at i m nothing h
-    no_letters i m e (Next a) h = unpaid h
+    no_letters : (i m : Item) (e : Cursor) (r : Option ℕ) → on_next r (bank_at s e.at i m nothing) (λ a. Err (wrong e.at)) ≡ Ok (p, c) → BankStands s e.at i m nothing p c
+    no_letters i m e None h = bank_sound s e.at i m nothing h
+    no_letters i m e (Some a) h = not_read h
 
-    go : (i : Item) (d : Cursor) (m : Item) (e : Cursor) → Sided s at (bytes "CR") 0 i d ⊎ Sided s at (bytes "DR") 1 i d → LineRead s d.at (bytes ":32B:") Amount m e → (b : Bool) → eqb i.number 0 ≡ b → cond b (on_next (lit_at s e.at (bytes ":113:")) (bank_at s e.at i m nothing) (λ a. Unpaid (wrong e.at))) (on_good (field_at s e.at (bytes ":113:") Letters) Unpaid (λ letters f. bank_at s f.at i m letters)) ≡ One p c → PaymentStands s at p c
+    go : (i : Item) (d : Cursor) (m : Item) (e : Cursor) → Sided s at (bytes "CR") 0 i d ⊎ Sided s at (bytes "DR") 1 i d → LineRead s d.at (bytes ":32B:") Amount m e → (b : Bool) → eqb i.number 0 ≡ b → cond b (on_next (lit_at s e.at (bytes ":113:")) (bank_at s e.at i m nothing) (λ a. Err (wrong e.at))) (on_good (field_at s e.at (bytes ":113:") Letters) Err (λ letters f. bank_at s f.at i m letters)) ≡ Ok (p, c) → PaymentStands s at p c
     go i d m e (inl g) a true b h =
         let k = no_letters i m e (lit_at s e.at (bytes ":113:")) h in
         record {
@@ -253,24 +240,21 @@ pub record ReadOff (x : Payments) (s : List ℕ) (at n room : ℕ) (items : List
   pub size : length x.items ≡ length items
   pub kept : (j : ℕ) → j < n → get_or x.items j no_payment ≡ get_or items j no_payment
 
-cut_off : {A : Type 0} {b : Break} {d : Cursor} → Cut b ≡ Done d → A
-cut_off h = let z : ◌≡◌ {A = ℕ} 0 1 = cc in absurd (omega arith)
-
 abbrev onward : List ℕ → ℕ → ℕ → List Payment → Bool → Payment → Cursor → Payments
-onward s room n items b p c = cond b (payments_on room s c.at (n + 1) (set items n p)) (ended (Done (place c.at)) (n + 1) (set items n p))
+onward s room n items b p c = cond b (payments_on room s c.at (n + 1) (set items n p)) (ended (Ok (place c.at)) (n + 1) (set items n p))
 
 -- the n-th place of a list that keeps what is put there
 put_there : (items result : List Payment) (n : ℕ) (p : Payment) → n < length items → ((j : ℕ) → j < n + 1 → get_or result j no_payment ≡ get_or (set items n p) j no_payment) → (get_or result n no_payment ≡ p) × ((j : ℕ) → j < n → get_or result j no_payment ≡ get_or items j no_payment)
 put_there items result n p h f = (f n (omega arith) ∙ get_or-set_same items n p no_payment h, λ j k. f j (omega arith) ∙ get_or-set_other items n j p no_payment (omega arith))
 
-on_sound : (s : List ℕ) (room at n : ℕ) (items : List Payment) (d : Cursor) → n + room ≤ length items → (payments_on room s at n items).ending ≡ Done d → ReadOff (payments_on room s at n items) s at n room items d
+on_sound : (s : List ℕ) (room at n : ℕ) (items : List Payment) (d : Cursor) → n + room ≤ length items → (payments_on room s at n items).ending ≡ Ok d → ReadOff (payments_on room s at n items) s at n room items d
 unfolding payments_on
 on_sound s zero at n items d fit h =
     let z : place at ≡ d = cc in
     rw (← z) (record { many = 0; most = omega arith; least = λ z. z; count = omega arith; text = none_left; says = tt; parts = tt; size = refl; kept = λ j k. refl })
 on_sound s (suc room) at n items d fit h = paid (payment_at s at) refl h (λ c p. on_sound s room c.at (n + 1) (set items n p) d (rw length-set (omega arith)))
   where
-    more : (b : Bool) (p : Payment) (c : Cursor) → PaymentStands s at p c → ((payments_on room s c.at (n + 1) (set items n p)).ending ≡ Done d → ReadOff (payments_on room s c.at (n + 1) (set items n p)) s c.at (n + 1) room (set items n p) d) → (onward s room n items b p c).ending ≡ Done d → ReadOff (onward s room n items b p c) s at n (suc room) items d
+    more : (b : Bool) (p : Payment) (c : Cursor) → PaymentStands s at p c → ((payments_on room s c.at (n + 1) (set items n p)).ending ≡ Ok d → ReadOff (payments_on room s c.at (n + 1) (set items n p)) s c.at (n + 1) room (set items n p) d) → (onward s room n items b p c).ending ≡ Ok d → ReadOff (onward s room n items b p c) s at n (suc room) items d
     more true p c g f h =
         let i = f h in
         let k = put_there items (payments_on room s c.at (n + 1) (set items n p)).items n p (omega arith) i.kept in
@@ -300,10 +284,10 @@ on_sound s (suc room) at n items d fit h = paid (payment_at s at) refl h (λ c p
           kept = k.1;
         })
 
-    paid : (x : Paid) → payment_at s at ≡ x → (on_paid x (λ b. ended (Cut b) n items) (λ p c. onward s room n items (more_at s c.at) p c)).ending ≡ Done d → ((c : Cursor) (p : Payment) → (payments_on room s c.at (n + 1) (set items n p)).ending ≡ Done d → ReadOff (payments_on room s c.at (n + 1) (set items n p)) s c.at (n + 1) room (set items n p) d) → ReadOff (on_paid x (λ b. ended (Cut b) n items) (λ p c. onward s room n items (more_at s c.at) p c)) s at n (suc room) items d
-    paid (One p c) q h f = more (more_at s c.at) p c (payment_sound s at q) (f c p) h
-    paid (Unpaid b) q h f = cut_off h
+    paid : (x : Result (Payment × Cursor) Break) → payment_at s at ≡ x → (on_paid x (λ b. ended (Err b) n items) (λ p c. onward s room n items (more_at s c.at) p c)).ending ≡ Ok d → ((c : Cursor) (p : Payment) → (payments_on room s c.at (n + 1) (set items n p)).ending ≡ Ok d → ReadOff (payments_on room s c.at (n + 1) (set items n p)) s c.at (n + 1) room (set items n p) d) → ReadOff (on_paid x (λ b. ended (Err b) n items) (λ p c. onward s room n items (more_at s c.at) p c)) s at n (suc room) items d
+    paid (Ok (p, c)) q h f = more (more_at s c.at) p c (payment_sound s at q) (f c p) h
+    paid (Err b) q h f = not_read h
 
-pub payments_sound : (s : List ℕ) (at : ℕ) (d : Cursor) → (payments_at s at).ending ≡ Done d → ReadOff (payments_at s at) s at 0 10 none d
+pub payments_sound : (s : List ℕ) (at : ℕ) (d : Cursor) → (payments_at s at).ending ≡ Ok d → ReadOff (payments_at s at) s at 0 10 none d
 unfolding payments_at
 payments_sound s at d h = on_sound s 10 at 0 none d (omega arith) h

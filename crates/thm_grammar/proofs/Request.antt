@@ -1,4 +1,5 @@
 -- A text of the grammar is accepted, what is accepted is such a text, and what the reading then says of it.
+use Rattle.std.specs.Prelude.{Option, Some, None, Result, Ok, Err}
 use Prim.Native.Nat.{ℕ, zero, suc, ◌+◌, ◌≤◌}
 use mathlib.Core.Path.{◌≡◌, refl, ap, sym, subst, ◌∙◌}
 use mathlib.Core.List.{List, [], ◌∷◌, ◌++◌}
@@ -12,10 +13,9 @@ use Rattle.chars.specs.Words.{bytes, member, crlf, line}
 use Rattle.chars.specs.declared.Refusal.TheVariants.{OtherSubType}
 use Rattle.codes.specs.Codes.{packed, long_of}
 use Rattle.text_scan.specs.Scan.{on_next, begins, lit_at}
-use Rattle.text_scan.specs.declared.At.{At}
-use Rattle.text_scan.specs.declared.At.TheVariants.{Next, No}
 use Rattle.text_scan.specs.declared.Cursor.{Cursor}
 use Rattle.text_scan.specs.Spelling.{value_of}
+use Rattle.text_scan.proofs.Pairs.{ok_pair}
 use Rattle.text_scan.proofs.Standing.{lit_reads}
 use Rattle.text_values.specs.Values.{no_part, text_of, code_of, count_in}
 use Rattle.text_values.specs.declared.Part.{Part}
@@ -24,8 +24,6 @@ use Rattle.text_values.proofs.Grammar.{numeral_reads, count_in_lem}
 use Rattle.text_fields.specs.Fields.{absent, broken, nothing, item, place, on_good, field_at}
 use Rattle.text_fields.specs.declared.Break.{Break}
 use Rattle.text_fields.specs.declared.Item.{Item}
-use Rattle.text_fields.specs.declared.Field.{Field}
-use Rattle.text_fields.specs.declared.Field.TheVariants.{Good, Bad}
 use Rattle.text_fields.specs.declared.Kind.{Kind}
 use Rattle.text_fields.specs.declared.Kind.TheVariants.{Empty, Reference, Numeral, Word, Bin, Numbers, Date, Time, Count}
 use Rattle.text_fields.specs.Grammar.{Line, Spelt}
@@ -34,23 +32,15 @@ use Rattle.request_read.specs.terms.Terms.{activation_at, on_given, on_whole, te
 use Rattle.request_read.specs.declared.terms.Terms.{Terms}
 use Rattle.request_read.specs.declared.terms.Activation.{Activation}
 use Rattle.request_read.specs.declared.terms.Activation.TheVariants.{AtOnce, Minute}
-use Rattle.request_read.specs.declared.terms.Activated.{Activated}
-use Rattle.request_read.specs.declared.terms.Activated.TheVariants.{Given, Ungiven}
-use Rattle.request_read.specs.declared.terms.Stated.{Stated}
-use Rattle.request_read.specs.declared.terms.Stated.TheVariants.{Whole, Partial}
 use Rattle.request_read.specs.payments.Payments.{payments_at}
-use Rattle.request_read.specs.declared.payments.Ending.{Ending}
-use Rattle.request_read.specs.declared.payments.Ending.TheVariants.{Done, Cut}
 use Rattle.request_read.specs.whole.Request.{named_at, address, nowhere, to_stream, head, bare, refusal, unread, settlement, address_at, on_to, on_done, ending, settlement_at, recall_at, message_at, request_at}
 use Rattle.request_read.specs.declared.whole.Reached.TheVariants.{Bin as Both}
 use Rattle.request_read.specs.declared.whole.Address.{Address}
-use Rattle.request_read.specs.declared.whole.Addressed.{Addressed}
-use Rattle.request_read.specs.declared.whole.Addressed.TheVariants.{To, Lost}
 use Rattle.request_read.specs.declared.whole.Head.{Head}
 use Rattle.request_read.specs.declared.whole.Outcome.{Outcome}
 use Rattle.request_read.specs.declared.whole.Outcome.TheVariants.{Settlement, Recall, Refused}
 use Rattle.request_read.specs.declared.whole.Reading.{Reading}
-use Rattle.thm_grammar.proofs.Meanings.{number_is, part_is, line_read}
+use Rattle.thm_grammar.proofs.Meanings.{number_is, not_read, part_is, line_read}
 use Rattle.thm_grammar.proofs.Payments.{payments_complete, no_text, payments_sound}
 use Rattle.thm_grammar.specs.Text.{HeadText, RecallText, PaymentText, credit, debit, PaymentsText, none_left, one_more, BodyText, SettlementText, HeadSays, ActivationSays, ActivationPart, BodySays, BodyParts, SettlementSays, RecallSays}
 
@@ -61,7 +51,7 @@ pub record HeadRead (kind : ℕ) (s r : List ℕ) : Type 0 where
   pub is : request_at s ≡ cond (eqb kind 131) (settlement_at s next of) (recall_at s next of)
   pub rest : drop next s ≡ r
 
-address_complete : (s : List ℕ) (at : ℕ) {l m n r : List ℕ} → drop at s ≡ l → Line (bytes ":77E:") IsEmpty l m → (g : Line (bytes ":22A:") (IsWord 4) m n) → Line (bytes ":119:") (IsBin g.value) n r → (a : Address) × ((k : ℕ) × ((address_at s at ≡ To a (place k)) × (drop k s ≡ r)))
+address_complete : (s : List ℕ) (at : ℕ) {l m n r : List ℕ} → drop at s ≡ l → Line (bytes ":77E:") IsEmpty l m → (g : Line (bytes ":22A:") (IsWord 4) m n) → Line (bytes ":119:") (IsBin g.value) n r → (a : Address) × ((k : ℕ) × ((address_at s at ≡ Ok (a, place k)) × (drop k s ≡ r)))
 unfolding address_at
 address_complete s at {n = n} h g₁ g₂ g₃ =
     let a = line_complete s at (bytes ":77E:") Empty 0 tt h g₁ in
@@ -100,7 +90,7 @@ pub not_timed_many : {k : ℕ} {l r : List ℕ} → 1 ≤ k → PaymentsText k l
 not_timed_many h none_left = absurd (omega arith)
 not_timed_many h (one_more p q) = not_timed p
 
-lit_none : (s : List ℕ) (at : ℕ) (p : List ℕ) {l : List ℕ} → drop at s ≡ l → begins p l ≡ false → lit_at s at p ≡ No
+lit_none : (s : List ℕ) (at : ℕ) (p : List ℕ) {l : List ℕ} → drop at s ≡ l → begins p l ≡ false → lit_at s at p ≡ None
 unfolding lit_at
 lit_none s at p h e = rw (h, e)
 
@@ -108,7 +98,7 @@ pub record Activates (s : List ℕ) (at : ℕ) (r : List ℕ) : Type 0 where
   pub of : Activation
   pub part : Part
   pub next : ℕ
-  pub is : activation_at s at ≡ Given of part (place next)
+  pub is : activation_at s at ≡ Ok (of, part, place next)
   pub rest : drop next s ≡ r
 
 activation_complete : (s : List ℕ) (at : ℕ) {l r : List ℕ} → drop at s ≡ l → ((l ≡ r) ⊎ Line (bytes ":175:") IsTime l r) → begins (bytes ":175:") r ≡ false → Activates s at r
@@ -156,8 +146,12 @@ recall_complete s g =
     ap (λ (r : Reading). r.outcome) h.is ∙ recalled s h.next h.of h.rest
 
 -- sound: what is accepted is a text of the grammar
-unaddressed : {A : Type 0} {b : Break} {x a : Address} {c : Cursor} → Lost b x ≡ To a c → A
-unaddressed h = let z : ◌≡◌ {A = ℕ} 0 1 = cc in absurd (omega arith)
+
+-- two steps that read the same: the three parts of what they read are the same
+ok_three : {A B C E : Type 0} {a x : A} {b y : B} {c z : C} → ◌≡◌ {A = Result (A × B × C) E} (Ok (a, b, c)) (Ok (x, y, z)) → (a ≡ x) × (b ≡ y) × (c ≡ z)
+ok_three {A} {B} {C} {E} {a} {x} {b} {y} {c} {z} h =
+    let e : ◌≡◌ {A = A × B × C} (a, b, c) (x, y, z) = cc in
+    (ap (λ (r : A × B × C). r.0) e, ap (λ (r : A × B × C). r.1) e, ap (λ (r : A × B × C). r.2) e)
 
 record AddressStands (s l r : List ℕ) (a : Address) : Type 0 where
   r₃ : List ℕ
@@ -179,23 +173,23 @@ named_part : (s : List ℕ) (p : Part) (v : List ℕ) → text_of s p ≡ v → 
 unfolding named_at
 named_part s p v h = h
 
-on_address : {A : Type 0} (s : List ℕ) (at : ℕ) (tag : List ℕ) (k : Kind) (x : Address) (f : Item → Cursor → Addressed) {a : Address} {c : Cursor} → on_good (field_at s at tag k) (λ b. Lost b x) f ≡ To a c → ((i : Item) (d : Cursor) → field_at s at tag k ≡ Good i d → f i d ≡ To a c → A) → A
+on_address : {A : Type 0} (s : List ℕ) (at : ℕ) (tag : List ℕ) (k : Kind) (x : Address) (f : Item → Cursor → Result (Address × Cursor) (Break × Address)) {a : Address} {c : Cursor} → on_good (field_at s at tag k) (λ b. Err (b, x)) f ≡ Ok (a, c) → ((i : Item) (d : Cursor) → field_at s at tag k ≡ Ok (i, d) → f i d ≡ Ok (a, c) → A) → A
 on_address {A} s at tag k x f {a} {c} h g = go (field_at s at tag k) refl h
   where
-    go : (y : Field) → field_at s at tag k ≡ y → on_good y (λ b. Lost b x) f ≡ To a c → A
-    go (Good i d) q h = g i d q h
-    go (Bad b) q h = unaddressed h
+    go : (y : Result (Item × Cursor) Break) → field_at s at tag k ≡ y → on_good y (λ b. Err (b, x)) f ≡ Ok (a, c) → A
+    go (Ok (i, d)) q h = g i d q h
+    go (Err b) q h = not_read h
 
-address_sound : (s : List ℕ) (at : ℕ) {a : Address} {c : Cursor} → address_at s at ≡ To a c → AddressStands s (drop at s) (drop c.at s) a
+address_sound : (s : List ℕ) (at : ℕ) {a : Address} {c : Cursor} → address_at s at ≡ Ok (a, c) → AddressStands s (drop at s) (drop c.at s) a
 unfolding address_at
 address_sound s at {a} {c} h = on_address s at (bytes ":77E:") Empty nowhere _ h (λ i d q₁ r₁.
     on_address s d.at (bytes ":22A:") (Word 4) nowhere _ r₁ (λ j e q₂ r₂.
     on_address s e.at (bytes ":119:") (Bin j.part) (to_stream j) _ r₂ (λ k f q₃ r₃.
-    let z : f ≡ c = cc in
-    let y : a ≡ address Both j (named_at s k.part) = cc in
+    let z = ok_pair r₃ in
+    let y : a ≡ address Both j (named_at s k.part) = sym z.0 in
     let g₂ = line_read s d.at (bytes ":22A:") (Word 4) 0 (omega arith) q₂ in
     let w : j.part.end ≡ j.part.start + 4 = rw g₂.span (omega (arith, g₂.line.is.size)) in
-    let g₃ = line_read s e.at (bytes ":119:") (Bin j.part) j.part.end (omega arith, omega (arith, w)) (q₃ ∙ ap (Good k) z) in
+    let g₃ = line_read s e.at (bytes ":119:") (Bin j.part) j.part.end (omega arith, omega (arith, w)) (q₃ ∙ ap (λ (g : Cursor). Ok (k, g)) z.1) in
     record {
       r₃ = drop d.at s;
       r₄ = drop e.at s;
@@ -208,33 +202,27 @@ address_sound s at {a} {c} h = on_address s at (bytes ":77E:") Empty nowhere _ h
       bin_part = ap (λ (x : Address). text_of s x.bin.part) y ∙ named_part s k.part g₃.line.value g₃.text;
     })))
 
-ungiven : {A : Type 0} {b : Break} {m : Activation} {p : Part} {c : Cursor} → Ungiven b ≡ Given m p c → A
-ungiven h = let z : ◌≡◌ {A = ℕ} 0 1 = cc in absurd (omega arith)
-
 record ActivationStands (s l r : List ℕ) (m : Activation) (p : Part) : Type 0 where
   text : (l ≡ r) ⊎ Line (bytes ":175:") IsTime l r
   says : ActivationSays text m
   part : ActivationPart s text p
 
-activation_sound : (s : List ℕ) (at : ℕ) {m : Activation} {p : Part} {c : Cursor} → activation_at s at ≡ Given m p c → ActivationStands s (drop at s) (drop c.at s) m p
+activation_sound : (s : List ℕ) (at : ℕ) {m : Activation} {p : Part} {c : Cursor} → activation_at s at ≡ Ok (m, p, c) → ActivationStands s (drop at s) (drop c.at s) m p
 unfolding activation_at
 activation_sound s at {m} {p} {c} h = go (lit_at s at (bytes ":175:")) h
   where
-    timed : (x : Field) → field_at s at (bytes ":175:") Time ≡ x → on_good x Ungiven (λ i d. Given (Minute i.number) i.part d) ≡ Given m p c → ActivationStands s (drop at s) (drop c.at s) m p
-    timed (Good i d) q h =
-        let z : d ≡ c = cc in
-        let y : m ≡ Minute i.number = cc in
-        let w : p ≡ i.part = cc in
-        let g = line_read s at (bytes ":175:") Time 0 tt (q ∙ ap (Good i) z) in
-        record { text = inr g.line; says = y ∙ ap Minute g.means; part = ap (text_of s) w ∙ g.text }
-    timed (Bad b) q h = ungiven h
+    timed : (x : Result (Item × Cursor) Break) → field_at s at (bytes ":175:") Time ≡ x → on_good {A = Result (Activation × Part × Cursor) Break} x Err (λ i d. Ok (Minute i.number, i.part, d)) ≡ Ok (m, p, c) → ActivationStands s (drop at s) (drop c.at s) m p
+    timed (Ok (i, d)) q h =
+        let z = ok_three h in
+        let g = line_read s at (bytes ":175:") Time 0 tt (q ∙ ap (λ (e : Cursor). Ok (i, e)) z.2) in
+        record { text = inr g.line; says = sym z.0 ∙ ap Minute g.means; part = ap (text_of s) (sym z.1) ∙ g.text }
+    timed (Err b) q h = not_read h
 
-    go : (r : At) → on_next r (Given AtOnce no_part (place at)) (λ a. on_good (field_at s at (bytes ":175:") Time) Ungiven (λ i d. Given (Minute i.number) i.part d)) ≡ Given m p c → ActivationStands s (drop at s) (drop c.at s) m p
-    go No h =
-        let z : place at ≡ c = cc in
-        let w : p ≡ no_part = cc in
-        record { text = inl (ap (λ (k : Cursor). drop k.at s) z); says = cc; part = ap (text_of s) w ∙ no_text s }
-    go (Next a) h = timed (field_at s at (bytes ":175:") Time) refl h
+    go : (r : Option ℕ) → on_next {A = Result (Activation × Part × Cursor) Break} r (Ok (AtOnce, no_part, place at)) (λ a. on_good (field_at s at (bytes ":175:") Time) Err (λ i d. Ok (Minute i.number, i.part, d))) ≡ Ok (m, p, c) → ActivationStands s (drop at s) (drop c.at s) m p
+    go None h =
+        let z = ok_three h in
+        record { text = inl (ap (λ (k : Cursor). drop k.at s) z.2); says = sym z.0; part = ap (text_of s) (sym z.1) ∙ no_text s }
+    go (Some a) h = timed (field_at s at (bytes ":175:") Time) refl h
 
 record TermsStand (s l r : List ℕ) (t : Terms) : Type 0 where
   r₂ : List ℕ
@@ -250,20 +238,17 @@ record TermsStand (s l r : List ℕ) (t : Terms) : Type 0 where
   date_part : text_of s t.date.part ≡ date.value
   activation_part : ActivationPart s activation t.activated
 
-partial : {A : Type 0} {b : Break} {t : Terms} {c : Cursor} → Partial b ≡ Whole t c → A
-partial h = let z : ◌≡◌ {A = ℕ} 0 1 = cc in absurd (omega arith)
-
-terms_sound : (s : List ℕ) (at : ℕ) {t : Terms} {c : Cursor} → terms_at s at ≡ Whole t c → TermsStand s (drop at s) (drop c.at s) t
+terms_sound : (s : List ℕ) (at : ℕ) {t : Terms} {c : Cursor} → terms_at s at ≡ Ok (t, c) → TermsStand s (drop at s) (drop c.at s) t
 unfolding terms_at
 terms_sound s at {t} {c} h = go₁ (field_at s at (bytes ":16A:") Numbers) refl h
   where
-    go₃ : (i j : Item) (d e : Cursor) → field_at s at (bytes ":16A:") Numbers ≡ Good i d → field_at s d.at (bytes ":171:") Date ≡ Good j e → (x : Activated) → activation_at s e.at ≡ x → on_given x Partial (λ m p f. Whole (terms s i j m p) f) ≡ Whole t c → TermsStand s (drop at s) (drop c.at s) t
-    go₃ i j d e q₁ q₂ (Given m p f) q₃ h =
-        let z : f ≡ c = cc in
-        let y : t ≡ terms s i j m p = cc in
+    go₃ : (i j : Item) (d e : Cursor) → field_at s at (bytes ":16A:") Numbers ≡ Ok (i, d) → field_at s d.at (bytes ":171:") Date ≡ Ok (j, e) → (x : Result (Activation × Part × Cursor) Break) → activation_at s e.at ≡ x → on_given {A = Result (Terms × Cursor) Break} x Err (λ m p f. Ok (terms s i j m p, f)) ≡ Ok (t, c) → TermsStand s (drop at s) (drop c.at s) t
+    go₃ i j d e q₁ q₂ (Ok (m, p, f)) q₃ h =
+        let z = ok_pair h in
+        let y : t ≡ terms s i j m p = sym z.0 in
         let a = line_read s at (bytes ":16A:") Numbers 0 tt q₁ in
         let b = line_read s d.at (bytes ":171:") Date 0 tt q₂ in
-        let k = activation_sound s e.at (q₃ ∙ ap (Given m p) z) in
+        let k = activation_sound s e.at (q₃ ∙ ap (λ (g : Cursor). Ok (m, p, g)) z.1) in
         record {
           r₂ = drop d.at s;
           r₃ = drop e.at s;
@@ -278,24 +263,24 @@ terms_sound s at {t} {c} h = go₁ (field_at s at (bytes ":16A:") Numbers) refl 
           date_part = ap (λ (u : Terms). text_of s u.date.part) y ∙ b.text;
           activation_part = subst (λ (u : Terms). ActivationPart s k.text u.activated) (sym y) k.part;
         }
-    go₃ i j d e q₁ q₂ (Ungiven b) q₃ h = partial h
+    go₃ i j d e q₁ q₂ (Err b) q₃ h = not_read h
 
-    go₂ : (i : Item) (d : Cursor) → field_at s at (bytes ":16A:") Numbers ≡ Good i d → (x : Field) → field_at s d.at (bytes ":171:") Date ≡ x → on_good x Partial (λ j e. on_given (activation_at s e.at) Partial (λ m p f. Whole (terms s i j m p) f)) ≡ Whole t c → TermsStand s (drop at s) (drop c.at s) t
-    go₂ i d q₁ (Good j e) q₂ h = go₃ i j d e q₁ q₂ (activation_at s e.at) refl h
-    go₂ i d q₁ (Bad b) q₂ h = partial h
+    go₂ : (i : Item) (d : Cursor) → field_at s at (bytes ":16A:") Numbers ≡ Ok (i, d) → (x : Result (Item × Cursor) Break) → field_at s d.at (bytes ":171:") Date ≡ x → on_good {A = Result (Terms × Cursor) Break} x Err (λ j e. on_given (activation_at s e.at) Err (λ m p f. Ok (terms s i j m p, f))) ≡ Ok (t, c) → TermsStand s (drop at s) (drop c.at s) t
+    go₂ i d q₁ (Ok (j, e)) q₂ h = go₃ i j d e q₁ q₂ (activation_at s e.at) refl h
+    go₂ i d q₁ (Err b) q₂ h = not_read h
 
-    go₁ : (x : Field) → field_at s at (bytes ":16A:") Numbers ≡ x → on_good x Partial (λ i d. on_good (field_at s d.at (bytes ":171:") Date) Partial (λ j e. on_given (activation_at s e.at) Partial (λ m p f. Whole (terms s i j m p) f))) ≡ Whole t c → TermsStand s (drop at s) (drop c.at s) t
-    go₁ (Good i d) q₁ h = go₂ i d q₁ (field_at s d.at (bytes ":171:") Date) refl h
-    go₁ (Bad b) q₁ h = partial h
+    go₁ : (x : Result (Item × Cursor) Break) → field_at s at (bytes ":16A:") Numbers ≡ x → on_good {A = Result (Terms × Cursor) Break} x Err (λ i d. on_good (field_at s d.at (bytes ":171:") Date) Err (λ j e. on_given (activation_at s e.at) Err (λ m p f. Ok (terms s i j m p, f)))) ≡ Ok (t, c) → TermsStand s (drop at s) (drop c.at s) t
+    go₁ (Ok (i, d)) q₁ h = go₂ i d q₁ (field_at s d.at (bytes ":171:") Date) refl h
+    go₁ (Err b) q₁ h = not_read h
 
 -- an outcome that is no refusal
 module _ (o : Outcome) (ok : (b : Break) → Refused b ≡ o → ⊥) where
-  on_reading : {A : Type 0} (s : List ℕ) (at : ℕ) (tag : List ℕ) (k : Kind) (u : Item) (x : Address) (f : Item → Cursor → Reading) → (on_good (field_at s at tag k) (λ b. refusal u b x) f).outcome ≡ o → ((i : Item) (d : Cursor) → field_at s at tag k ≡ Good i d → (f i d).outcome ≡ o → A) → A
+  on_reading : {A : Type 0} (s : List ℕ) (at : ℕ) (tag : List ℕ) (k : Kind) (u : Item) (x : Address) (f : Item → Cursor → Reading) → (on_good (field_at s at tag k) (λ b. refusal u b x) f).outcome ≡ o → ((i : Item) (d : Cursor) → field_at s at tag k ≡ Ok (i, d) → (f i d).outcome ≡ o → A) → A
   on_reading {A} s at tag k u x f h g = go (field_at s at tag k) refl h
     where
-      go : (y : Field) → field_at s at tag k ≡ y → (on_good y (λ b. refusal u b x) f).outcome ≡ o → A
-      go (Good i d) q h = g i d q h
-      go (Bad b) q h = absurd (ok b h)
+      go : (y : Result (Item × Cursor) Break) → field_at s at tag k ≡ y → (on_good y (λ b. refusal u b x) f).outcome ≡ o → A
+      go (Ok (i, d)) q h = g i d q h
+      go (Err b) q h = absurd (ok b h)
 
   on_ending : {A : Type 0} (s : List ℕ) (at : ℕ) (x : Head) (r : Reading) → (ending s at x r).outcome ≡ o → (ltb at (length s) ≡ false → r.outcome ≡ o → A) → A
   on_ending {A} s at x r h f = go (ltb at (length s)) refl h
@@ -319,9 +304,9 @@ module _ (o : Outcome) (ok : (b : Break) → Refused b ≡ o → ⊥) where
   head_sound s h = on_reading s 0 (bytes ":20:") Reference nothing nowhere _ h (λ i c q₁ r₁.
       on_reading s c.at (bytes ":12:") (Numeral 3) nothing nowhere _ r₁ (λ t d q₂ r₂. typed i c t d q₁ q₂ (member t.number (131 ∷ 133 ∷ [])) refl r₂))
     where
-      addressed : (i : Item) (c : Cursor) (t : Item) (d : Cursor) → field_at s 0 (bytes ":20:") Reference ≡ Good i c → field_at s c.at (bytes ":12:") (Numeral 3) ≡ Good t d → member t.number (131 ∷ 133 ∷ []) ≡ true → (x : Addressed) → address_at s d.at ≡ x → (on_to x (refusal t) (λ a e. cond (eqb t.number 131) (settlement_at s e.at (head (named_at s i.part) t a)) (recall_at s e.at (head (named_at s i.part) t a)))).outcome ≡ o → HeadStands s
-      addressed i c t d q₁ q₂ m (Lost b a) q₃ h = absurd (ok b h)
-      addressed i c t d q₁ q₂ m (To a e) q₃ h =
+      addressed : (i : Item) (c : Cursor) (t : Item) (d : Cursor) → field_at s 0 (bytes ":20:") Reference ≡ Ok (i, c) → field_at s c.at (bytes ":12:") (Numeral 3) ≡ Ok (t, d) → member t.number (131 ∷ 133 ∷ []) ≡ true → (x : Result (Address × Cursor) (Break × Address)) → address_at s d.at ≡ x → (on_to x (refusal t) (λ a e. cond (eqb t.number 131) (settlement_at s e.at (head (named_at s i.part) t a)) (recall_at s e.at (head (named_at s i.part) t a)))).outcome ≡ o → HeadStands s
+      addressed i c t d q₁ q₂ m (Err (b, a)) q₃ h = absurd (ok b h)
+      addressed i c t d q₁ q₂ m (Ok (a, e)) q₃ h =
           let g₁ = line_read s 0 (bytes ":20:") Reference 0 tt q₁ in
           let g₂ = line_read s c.at (bytes ":12:") (Numeral 3) 0 (omega arith) q₂ in
           let g₃ = address_sound s d.at q₃ in
@@ -355,7 +340,7 @@ module _ (o : Outcome) (ok : (b : Break) → Refused b ≡ o → ⊥) where
             is = h;
           }
 
-      typed : (i : Item) (c : Cursor) (t : Item) (d : Cursor) → field_at s 0 (bytes ":20:") Reference ≡ Good i c → field_at s c.at (bytes ":12:") (Numeral 3) ≡ Good t d → (b : Bool) → member t.number (131 ∷ 133 ∷ []) ≡ b → (cond b (on_to (address_at s d.at) (refusal t) (λ a e. cond (eqb t.number 131) (settlement_at s e.at (head (named_at s i.part) t a)) (recall_at s e.at (head (named_at s i.part) t a)))) (unread (broken c.at OtherSubType))).outcome ≡ o → HeadStands s
+      typed : (i : Item) (c : Cursor) (t : Item) (d : Cursor) → field_at s 0 (bytes ":20:") Reference ≡ Ok (i, c) → field_at s c.at (bytes ":12:") (Numeral 3) ≡ Ok (t, d) → (b : Bool) → member t.number (131 ∷ 133 ∷ []) ≡ b → (cond b (on_to (address_at s d.at) (refusal t) (λ a e. cond (eqb t.number 131) (settlement_at s e.at (head (named_at s i.part) t a)) (recall_at s e.at (head (named_at s i.part) t a)))) (unread (broken c.at OtherSubType))).outcome ≡ o → HeadStands s
       typed i c t d q₁ q₂ true m h = addressed i c t d q₁ q₂ m (address_at s d.at) refl h
       typed i c t d q₁ q₂ false m h = absurd (ok (broken c.at OtherSubType) h)
 
@@ -370,9 +355,9 @@ module _ (o : Outcome) (ok : (b : Break) → Refused b ≡ o → ⊥) where
   unfolding settlement_at
   body_sound s at x h = go₁ (terms_at s at) refl h
     where
-      go₂ : (u : Terms) (c : Cursor) → terms_at s at ≡ Whole u c → (e : Ending) → (payments_at s c.at).ending ≡ e → (on_done e (λ b. refusal x.subtype b x.address) (λ d. on_good (field_at s d.at (bytes ":203:") (Count (payments_at s c.at).n)) (λ b. refusal x.subtype b x.address) (λ count f. ending s f.at x (settlement x u (payments_at s c.at) count)))).outcome ≡ o → BodyStands s (drop at s) x (settlement_at s at x)
-      go₂ u c q (Cut b) p h = absurd (ok b h)
-      go₂ u c q (Done d) p h = on_reading s d.at (bytes ":203:") (Count (payments_at s c.at).n) x.subtype x.address _ h (λ i f q₃ r.
+      go₂ : (u : Terms) (c : Cursor) → terms_at s at ≡ Ok (u, c) → (e : Result Cursor Break) → (payments_at s c.at).ending ≡ e → (on_done e (λ b. refusal x.subtype b x.address) (λ d. on_good (field_at s d.at (bytes ":203:") (Count (payments_at s c.at).n)) (λ b. refusal x.subtype b x.address) (λ count f. ending s f.at x (settlement x u (payments_at s c.at) count)))).outcome ≡ o → BodyStands s (drop at s) x (settlement_at s at x)
+      go₂ u c q (Err b) p h = absurd (ok b h)
+      go₂ u c q (Ok d) p h = on_reading s d.at (bytes ":203:") (Count (payments_at s c.at).n) x.subtype x.address _ h (λ i f q₃ r.
           on_ending s f.at x (settlement x u (payments_at s c.at) i) r (λ at_end last.
           let nil = drop_of_length-le s (ltb-false f.at (length s) at_end) in
           let same : settlement_at s at x ≡ settlement x u (payments_at s c.at) i = simp (q, p, q₃, at_end) in
@@ -410,9 +395,9 @@ module _ (o : Outcome) (ok : (b : Break) → Refused b ≡ o → ⊥) where
             parts = record { numbers = g.numbers_part; date = g.date_part; activation = g.activation_part; payments = w.parts; count = v.text };
           })))
 
-      go₁ : (t : Stated) → terms_at s at ≡ t → (on_whole t (λ b. refusal x.subtype b x.address) (λ u c. on_done (payments_at s c.at).ending (λ b. refusal x.subtype b x.address) (λ d. on_good (field_at s d.at (bytes ":203:") (Count (payments_at s c.at).n)) (λ b. refusal x.subtype b x.address) (λ count f. ending s f.at x (settlement x u (payments_at s c.at) count))))).outcome ≡ o → BodyStands s (drop at s) x (settlement_at s at x)
-      go₁ (Whole u c) q h = go₂ u c q (payments_at s c.at).ending refl h
-      go₁ (Partial b) q h = absurd (ok b h)
+      go₁ : (t : Result (Terms × Cursor) Break) → terms_at s at ≡ t → (on_whole t (λ b. refusal x.subtype b x.address) (λ u c. on_done (payments_at s c.at).ending (λ b. refusal x.subtype b x.address) (λ d. on_good (field_at s d.at (bytes ":203:") (Count (payments_at s c.at).n)) (λ b. refusal x.subtype b x.address) (λ count f. ending s f.at x (settlement x u (payments_at s c.at) count))))).outcome ≡ o → BodyStands s (drop at s) x (settlement_at s at x)
+      go₁ (Ok (u, c)) q h = go₂ u c q (payments_at s c.at).ending refl h
+      go₁ (Err b) q h = absurd (ok b h)
 
   record RecallStands (l : List ℕ) (x : Head) (r : Reading) : Type 0 where
     recalls : Recall ≡ o

@@ -1,4 +1,5 @@
 -- An accepted request that is read and written again reads as the same request.
+use Rattle.std.specs.Prelude.{Some}
 use Prim.Native.Nat.{ℕ, zero, suc, ◌+◌, ◌≤◌, ◌<◌}
 use mathlib.Core.Path.{◌≡◌, refl, sym, subst, ◌∙◌}
 use mathlib.Core.Bool.{Bool, true, false, cond}
@@ -9,7 +10,6 @@ use borrow.Author.Tests.{eq-eqb, ne_eqb, ltb-false}
 use lib.Dec.{eqb, ltb}
 use lib.ListN.{get_or, get_or-map}
 use Rattle.chars.specs.Words.{bytes}
-use Rattle.dates.specs.declared.Day.TheVariants.{Number}
 use Rattle.dates.proofs.Laws.{date_back}
 use Rattle.response_read.proofs.Digits.{code_bytes}
 use Rattle.text_values.specs.Grammar.{IsTime, IsCount}
@@ -196,7 +196,7 @@ same_values r g = record {
 
 -- ---- two readings with the values of one order
 
-same_number : {x y : ℕ} → Number x ≡ Number y → x ≡ y
+same_number : {x y : ℕ} → Some x ≡ Some y → x ≡ y
 same_number h = cc
 
 same_paid : (side : Side) (cents bank : ℕ) {p t : Payment} → SamePayment side cents bank p → SamePayment side cents bank t → SamePaid p t

@@ -1,4 +1,5 @@
 -- What an administrator writes, if the reader accepts it, reads back as the same values.
+use Rattle.std.specs.Prelude.{Some}
 use Prim.Native.Nat.{ℕ, zero, suc, ◌+◌, ◌≤◌, ◌<◌}
 use mathlib.Core.Path.{◌≡◌, refl, ap, sym, subst, ◌∙◌}
 use mathlib.Core.Bool.{Bool, true, false, cond, false≢true}
@@ -12,7 +13,6 @@ use lib.Dec.{eqb, ltb}
 use lib.ListN.{length, get_or}
 use Rattle.chars.specs.Words.{bytes}
 use Rattle.dates.specs.Dates.{day_of}
-use Rattle.dates.specs.declared.Day.TheVariants.{Number}
 use Rattle.text_scan.specs.Scan.{begins}
 use Rattle.text_scan.specs.Spelling.{value_of}
 use Rattle.text_values.specs.Grammar.{IsTime}
@@ -155,7 +155,7 @@ body_back o {r = r} head e b =
       head = head;
       number = b.number ∙ nn.0;
       count = b.count ∙ nn.1;
-      date = ap day_of (sym day) ∙ t.date.is.true_date ∙ ap Number (sym b.date);
+      date = ap day_of (sym day) ∙ t.date.is.true_date ∙ ap Some (sym b.date);
       activation = d.0;
       n = b.n ∙ many;
       payments = λ i h. w.same i (omega arith) (omega (arith, h, many, w.many_are));

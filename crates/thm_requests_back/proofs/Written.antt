@@ -1,4 +1,5 @@
 -- A value that is written means what was given, in each field; one that its field cannot hold is left out.
+use Rattle.std.specs.Prelude.{Some}
 use Prim.Native.Nat.{ℕ, suc, ◌/◌, ◌%◌, ◌≤◌, ◌<◌}
 use mathlib.Core.Path.{◌≡◌, refl, ap, ap₂, sym, ◌∙◌}
 use mathlib.Core.Bool.{Bool, true, false, ◌&&◌, cond, false≢true}
@@ -11,7 +12,6 @@ use lib.Seq.{take_at, drop_at}
 use Rattle.chars.specs.Words.{bytes}
 use Rattle.chars.specs.Chars.{is_code, is_letter, is_digit}
 use Rattle.clock.specs.Clock.{hhmm_of, minute_of}
-use Rattle.clock.specs.declared.Minute.TheVariants.{Number as Clocked}
 use Rattle.clock.proofs.Laws.{hhmm_in, hhmm_back}
 use Rattle.codes.specs.Codes.{packed, unpacked, long_of, named, short_text, spelled, long_text, Bytes, filled}
 use Rattle.codes.specs.declared.Code.{Code}
@@ -182,7 +182,7 @@ time_is m h = simp (lt-ltb m 1440 h)
 pub hhmm_value : (m : ℕ) → m < 1440 → value_of 0 (digits_of 4 (hhmm_of m)) ≡ hhmm_of m
 hhmm_value m h = value_back 4 (hhmm_of m) (omega (arith, hhmm_in m h))
 
-same_minute : {x y : ℕ} → Clocked x ≡ Clocked y → x ≡ y
+same_minute : {x y : ℕ} → Some x ≡ Some y → x ≡ y
 same_minute h = cc
 
 pub time_back : (m : ℕ) {v : List ℕ} (g : IsTime v) → v ≡ time_text m → g.minute ≡ m

@@ -1,8 +1,7 @@
 -- The values of a request: as an administrator gives them, and as they are read.
-use Rattle.std.specs.Prelude.{ℕ, ◌<◌, ◌≡◌, cond, List, map, eqb, get_or}
+use Rattle.std.specs.Prelude.{ℕ, ◌<◌, ◌≡◌, cond, List, map, eqb, get_or, Some}
 use Rattle.codes.specs.declared.Code.{Code}
 use Rattle.dates.specs.Dates.{day_of, date_of}
-use Rattle.dates.specs.declared.Day.TheVariants.{Number}
 use Rattle.request_read.specs.declared.payments.Payment.{Payment}
 use Rattle.request_read.specs.whole.Request.{request_at}
 use Rattle.request_read.specs.declared.whole.Head.{Head}
@@ -39,7 +38,7 @@ pub record SameValues (o : Order) (r : Reading) : Type 0 where
   pub head : SameHead o r.head
   pub number : r.terms.number ≡ o.number
   pub count : r.terms.count ≡ o.count
-  pub date : day_of o.date ≡ Number r.terms.date.number
+  pub date : day_of o.date ≡ Some r.terms.date.number
   pub activation : r.terms.activation ≡ o.activation
   pub n : r.n ≡ o.n
   pub payments : (i : ℕ) → i < o.n → SamePayable (get_or o.payments i no_payable) (get_or r.payments i no_payment)

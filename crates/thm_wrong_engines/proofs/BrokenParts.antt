@@ -1,4 +1,5 @@
 -- Ticket 1 of document 02: engines that do something else with a broken part. Each breaks a promise that `call` keeps, on a day on which it can be seen.
+use Rattle.std.specs.Prelude.{Err}
 use Prim.Native.Nat.{ℕ}
 use Prim.Native.String.{String}
 use mathlib.Core.Path.{◌≡◌, refl, sym, ap, ◌∙◌}
@@ -16,7 +17,6 @@ use Rattle.request_read.specs.declared.whole.Outcome.{Outcome as Read}
 use Rattle.request_read.specs.declared.whole.Outcome.TheVariants.{Settlement, Recall, Refused as Unread}
 use Rattle.book_write.specs.Closing.{book_bytes}
 use Rattle.model.specs.declared.Action.TheVariants.{Opening, Message}
-use Rattle.model.specs.declared.Answer.TheVariants.{Refused}
 use Rattle.model.specs.Answers.{answer_number}
 use Rattle.model.specs.Kinds.{steps, kind_of, Own, receives, changes_sublimit, changes_status, nothing}
 use Rattle.model.specs.State.{is_free, free, State, no_entry}
@@ -110,8 +110,8 @@ record Shown : Type 0 where
   credit_spared : Differs (acting sparing_credits) assembled credit Malformed is_live 0 1
   stranger_ends : Differs (acting ending_by_strangers) assembled strange WrongEsa is_live 1 0
   waiting_ends : Differs (acting ending_waiting) queued wrong WrongEsa is_live 1 0
-  right_number : (left_by call assembled wrong).answer ≡ Refused WrongEsa
-  wrong_number : (left_by (acting ending87) assembled wrong).answer ≡ Refused Malformed
+  right_number : (left_by call assembled wrong).answer ≡ Err WrongEsa
+  wrong_number : (left_by (acting ending87) assembled wrong).answer ≡ Err Malformed
 
 shown : Shown
 unfolding goes course

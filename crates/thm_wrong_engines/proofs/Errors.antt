@@ -1,4 +1,5 @@
 -- "Errors we have seen in such engines". Each breaks a promise that `call` keeps, on a day on which it can be seen.
+use Rattle.std.specs.Prelude.{Ok}
 use Prim.Native.Nat.{ℕ}
 use mathlib.Core.Path.{◌≡◌, refl, sym, ap, subst, ◌∙◌}
 use mathlib.Core.Bool.{true, false, false≢true}
@@ -14,9 +15,8 @@ use Rattle.queue.specs.Tests.{passed_of}
 use Rattle.queue.specs.Promise.{AllCovered, Trail, pass}
 use Rattle.queue.proofs.Trail.{covered_passes}
 use Rattle.queue.proofs.Agree.{passes≢stops}
+use Rattle.model.specs.Answers.{Answer}
 use Rattle.model.specs.declared.Action.TheVariants.{Opening, Message, SubLimit}
-use Rattle.model.specs.declared.Answer.{Answer}
-use Rattle.model.specs.declared.Answer.TheVariants.{Done}
 use Rattle.model.specs.Kinds.{steps, kind_of}
 use Rattle.model.specs.State.{payments_at as placed}
 use Rattle.model.specs.Calls.{Call, Engine, Result, judge, call}
@@ -33,7 +33,7 @@ use Rattle.thm_wrong_engines.proofs.ShutOut.{deeds, left_by, Refuses, stands_at,
 
 -- after the calls `cs` the call c settles the batch at place 0, though one of its payers does not cover its part
 record Settles (f : Engine → Call → Result) (cs : List Call) (c : Call) : Type 0 where
-  moment : judge (course call start (deeds cs)).state c ≡ Done
+  moment : judge (course call start (deeds cs)).state c ≡ Ok tt
   passed : passed_of (left_by f cs c).tries ≡ 0 ∷ []
   payer : ℕ
   held : verdict (acted (course call start (deeds cs)) c).books (placed (acted (course call start (deeds cs)) c).batches 0) ≡ Stops payer
@@ -45,8 +45,8 @@ uncovered_shut_out : (f : Engine → Call → Result) (cs : List Call) (c : Call
 uncovered_shut_out f cs c k g h =
     let e : Engine = course call start (deeds cs) in
     let r : Result = left_by f cs c in
-    let on : CoveredBy Done steps e c r =
-    subst (λ z. CoveredBy Done z e c r) k (subst (λ (j : Answer). CoveredBy j (kind_of c.asked.action) e c r) g.moment (h (deeds cs) c)) in
+    let on : CoveredBy (Ok tt) steps e c r =
+    subst (λ z. CoveredBy (Ok tt) z e c r) k (subst (λ (j : Answer). CoveredBy j (kind_of c.asked.action) e c r) g.moment (h (deeds cs) c)) in
     let t : Trail (placed (acted e c).batches) (acted e c).books (0 ∷ []) r.engine.state.books =
     subst (λ (l : List ℕ). Trail (placed (acted e c).batches) (acted e c).books l r.engine.state.books) g.passed on in
     passes≢stops (sym (covered_passes (acted e c).books _ (first_covered _ _ _ 0 [] t)) ∙ g.held)

@@ -1,4 +1,5 @@
 -- "Shut out": engines that are none. Each breaks a promise that `call` keeps, on a day on which it can be seen.
+use Rattle.std.specs.Prelude.{Ok, Err}
 use Prim.Native.Nat.{ℕ, suc, ◌+◌, ◌-◌}
 use mathlib.Core.Path.{◌≡◌, refl, sym, ap, subst, ◌∙◌}
 use mathlib.Core.Bool.{Bool, true, false, ◌&&◌, not, cond, false≢true}
@@ -21,8 +22,6 @@ use Rattle.queue.specs.History.{Event}
 use Rattle.queue.specs.Promise.{Stuck, brought, taken, brought_by, taken_by}
 use Rattle.queue.proofs.History.{tries_one}
 use Rattle.model.specs.declared.Action.TheVariants.{Opening, Message, SubLimit, Tick, Close}
-use Rattle.model.specs.declared.Answer.{Answer}
-use Rattle.model.specs.declared.Answer.TheVariants.{Done, Refused}
 use Rattle.model.specs.Kinds.{Kind, opens, steps, gives, kind_of, is_opening, Own}
 use Rattle.model.specs.State.{on_found, seek, is_free, free, live, with_place, Batches, Known, State, fresh, no_entry, no_batches, payments_at as placed}
 use Rattle.model.specs.Messages.{Acted, Waking, place, first_batch, with_message}
@@ -33,7 +32,7 @@ use Rattle.model.specs.Course.{start, Deed, clears, calls, course, since, since_
 use Rattle.model.specs.LeftBehind.{LeftBehind}
 use Rattle.model.specs.Happened.{history, ByRuleIn}
 use Rattle.model.specs.Waiting.{is_live, has_started, joined_in, completed_now, Ordered, OrderedBy}
-use Rattle.model.specs.Answers.{answer_number}
+use Rattle.model.specs.Answers.{Answer, answer_number}
 use Rattle.model.specs.Answered.{acted}
 use Rattle.model.specs.Promises.{Agree, Always, BalancesFollow, NonePasses, Numbered, OpensRight, SameSeen, TestsByRule, Tried, View, Written, by, chosen, is_done, ledger_after, no_ledger, view, views_by}
 use Rattle.thm_wrong_engines.specs.Engines.{refusing, agreeing, doing_nothing, inventing, performed_by, judged_by, call_by, call_with, call_acting, never}
@@ -50,8 +49,8 @@ performed_same steps e c = refl
 performed_same (gives date) e c = refl
 
 judged_same : (j : Answer) (e : Engine) (c : Call) → judged_by act tested j e c ≡ judged j e c
-judged_same Done e c = performed_same (kind_of c.asked.action) e c
-judged_same (Refused r) e c = refl
+judged_same (Ok tt) e c = performed_same (kind_of c.asked.action) e c
+judged_same (Err r) e c = refl
 
 pub with_its_own : (e : Engine) (c : Call) → call_by act tested e c ≡ call e c
 unfolding call
@@ -224,8 +223,8 @@ record Passing (r : Result) (p : ℕ) (others : List ℕ) : Type 0 where
   passes : verdict r.engine.state.books (placed r.engine.state.batches p) ≡ Passes
 
 record Shown : Type 0 where
-  opens : (call start opening).answer ≡ Done
-  too_early : (call start due).answer ≡ Refused WrongMoment
+  opens : (call start opening).answer ≡ Ok tt
+  too_early : (call start due).answer ≡ Err WrongMoment
   texts : (left_by call earlier due).out ≡ reply132 "1" "A2" "PROP0002" "0\r\n:13E:270203103100" ++ reply132 "2" "A1" "PROP0001" "0\r\n:13E:270203103100"
   tries : (left_by call earlier due).tries ≡ 3 ∷ 1 ∷ []
   untried : (left_by call [] due).tries ≡ []
@@ -266,9 +265,9 @@ shown = record {
 
 -- what the right engine and a wrong one leave of a refused call
 pub record Refuses (f : Engine → Call → Result) (cs : List Call) (c : Call) (q : Refusal) : Type 0 where
-  pub moment : judge (course call start (deeds cs)).state c ≡ Done
-  pub right : (left_by call cs c).answer ≡ Refused q
-  pub wrong : (left_by f cs c).answer ≡ Refused q
+  pub moment : judge (course call start (deeds cs)).state c ≡ Ok tt
+  pub right : (left_by call cs c).answer ≡ Err q
+  pub wrong : (left_by f cs c).answer ≡ Err q
 
 abbrev pub stands_at : ℕ → Result → Bool
 stands_at p r = is_free (get_or r.engine.state.batches.places p free)
@@ -335,7 +334,7 @@ unfolding goes course
 turned = record { in_order = refl; out_of_order = refl; right = refl; wrong = refl }
 
 record Old : Type 0 where
-  opened : (left_by (opening_as yesterdays_balances) [] opening).answer ≡ Done
+  opened : (left_by (opening_as yesterdays_balances) [] opening).answer ≡ Ok tt
   right : first_balance (left_by call [] opening) ≡ 10000000
   wrong : first_balance (left_by (opening_as yesterdays_balances) [] opening) ≡ 0
   account : get_or (course (opening_as yesterdays_balances) start (deeds (opening ∷ []))).state.books.balances 0 0 ≡ 0
@@ -347,7 +346,7 @@ unfolding goes course since_on ledger_after
 old = record { opened = refl; right = refl; wrong = refl; account = refl; book_account_lem = refl; none_gone = refl }
 
 record Forgets : Type 0 where
-  opened : (left_by (opening_as forgetting) one_day second_day).answer ≡ Done
+  opened : (left_by (opening_as forgetting) one_day second_day).answer ≡ Ok tt
   right : (get_or (course call start (deeds one_day)).state.known.references 0 no_entry).day ≡ 9895
   wrong : (get_or (left_by (opening_as forgetting) one_day second_day).engine.state.known.references 0 no_entry).day ≡ 0
 
@@ -378,10 +377,10 @@ inventing_shut_out l h =
 
 -- by the rule there is one list of tries
 same_tries : (j : Answer) (k : Kind) (e : Engine) (es : List Event) (c : Call) (r x : Result) → ByRuleIn j k e es c r → ByRuleIn j k e es c x → r.tries ≡ x.tries
-same_tries (Refused q) k e es c r x g h = g ∙ sym h
-same_tries Done opens e es c r x g h = g ∙ sym h
-same_tries Done steps e es c r x g h = tries_one c.asked.quick _ g.tries h.tries
-same_tries Done (gives date) e es c r x g h = g ∙ sym h
+same_tries (Err q) k e es c r x g h = g ∙ sym h
+same_tries (Ok tt) opens e es c r x g h = g ∙ sym h
+same_tries (Ok tt) steps e es c r x g h = tries_one c.asked.quick _ g.tries h.tries
+same_tries (Ok tt) (gives date) e es c r x g h = g ∙ sym h
 
 pub one_list_of_tries : (f : Engine → Call → Result) → TestsByRule f → (ds : List Deed) (c : Call) → (f (course f start ds) c).tries ≡ (call (course call start ds) c).tries
 one_list_of_tries f h ds c =
@@ -422,15 +421,15 @@ emptying_shut_out h =
 
 -- in its order there is one queue of the same places
 same_queue : (e : Engine) (c : Call) (j : Answer) (k : Kind) (r x : Result) → OrderedBy e c j k r → OrderedBy e c j k x → free_in r ≡ free_in x → queue_of r ≡ queue_of x
-same_queue e c (Refused q) k r x g h w = g.queue ∙ sym h.queue
-same_queue e c Done opens r x g h w = g.queue ∙ sym h.queue
-same_queue e c Done steps r x g h w =
+same_queue e c (Err q) k r x g h w = g.queue ∙ sym h.queue
+same_queue e c (Ok tt) opens r x g h w = g.queue ∙ sym h.queue
+same_queue e c (Ok tt) steps r x g h w =
     g.queue
     ∙ keep_same (is_live r.engine.state.batches) (is_live x.engine.state.batches)
     ((e.state.batches.queue ++ joined_in c.asked.clock e.state.batches) ++ keep (has_started c.asked.clock (acted e c).batches) (completed_now e c))
     (λ p i. ap not (sym (get_or-map is_free r.engine.state.batches.places p free) ∙ ap (λ (l : List Bool). get_or l p true) w ∙ get_or-map is_free x.engine.state.batches.places p free))
     ∙ sym h.queue
-same_queue e c Done (gives date) r x g h w = g.queue ∙ sym h.queue
+same_queue e c (Ok tt) (gives date) r x g h w = g.queue ∙ sym h.queue
 
 one_queue : (f : Engine → Call → Result) (cs : List Call) (c : Call) → Always f Ordered → free_in (left_by f cs c) ≡ free_in (left_by call cs c) → queue_of (left_by f cs c) ≡ queue_of (left_by call cs c)
 one_queue f cs c h w =
@@ -489,14 +488,14 @@ module _ (e : Engine) (c : Call) (x y : Bool) where
   idle_performed opens = idle_opened (opening_answer e.state.day c.asked.input)
     where
       idle_opened : (r : Answer) → opened_by r e (by x c) ≡ opened_by r e (by y c)
-      idle_opened Done = refl
-      idle_opened (Refused r) = refl
+      idle_opened (Ok tt) = refl
+      idle_opened (Err r) = refl
   idle_performed steps = refl
   idle_performed (gives date) = refl
 
   idle_judged : (j : Answer) → judged_by act never j e (by x c) ≡ judged_by act never j e (by y c)
-  idle_judged Done = idle_performed (kind_of c.asked.action)
-  idle_judged (Refused r) = refl
+  idle_judged (Ok tt) = idle_performed (kind_of c.asked.action)
+  idle_judged (Err r) = refl
 
   idle_same : call_with never e (by x c) ≡ call_with never e (by y c)
   unfolding judge

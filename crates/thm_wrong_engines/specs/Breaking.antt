@@ -1,5 +1,5 @@
 -- Ticket 1 of document 02: wrong engines by what they do with a text that step 1 refuses.
-use Rattle.std.specs.Prelude.{ℕ, Bool, true, false, cond, List, [], ◌∷◌, ◌++◌, eqb}
+use Rattle.std.specs.Prelude.{ℕ, Bool, true, false, cond, List, [], ◌∷◌, ◌++◌, eqb, Result, Ok, Err}
 use Rattle.chars.specs.Words.{bytes}
 use Rattle.chars.specs.Refusals.{number_of}
 use Rattle.chars.specs.declared.Refusal.{Refusal}
@@ -7,8 +7,6 @@ use Rattle.chars.specs.declared.Refusal.TheVariants.{Malformed}
 use Rattle.codes.specs.declared.Code.{Code}
 use Rattle.text_fields.specs.Fields.{field_at}
 use Rattle.text_fields.specs.declared.Break.{Break}
-use Rattle.text_fields.specs.declared.Field.{Field}
-use Rattle.text_fields.specs.declared.Field.TheVariants.{Good, Bad}
 use Rattle.text_fields.specs.declared.Kind.TheVariants.{Letters}
 use Rattle.request_read.specs.whole.Request.{request_at, on_outcome}
 use Rattle.request_read.specs.declared.whole.Reading.{Reading}
@@ -49,9 +47,9 @@ module _ (s : State) (sender : ℕ) (input : List ℕ) where
   ending_by_missing b = rightly (record { refusal = b.refusal; at = b.at; missing = false })
 
   -- a 113 after CR touches no batch: its line breaks the text though its letters are right
-  abbrev is_good : Field → Bool
-  is_good (Good i c) = true
-  is_good (Bad b) = false
+  abbrev is_good : {X : Type 0} → Result X Break → Bool
+  is_good (Ok x) = true
+  is_good (Err b) = false
 
   abbrev pub sparing_credits : Break → Acted
   sparing_credits b = cond (is_good (field_at input b.at (bytes ":113:") Letters)) (untouched s b.refusal) (rightly b)

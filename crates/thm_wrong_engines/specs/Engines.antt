@@ -1,9 +1,8 @@
 -- Wrong engines: what each does in place of `call`.
-use Rattle.std.specs.Prelude.{ℕ, Bool, cond, List, []}
+use Rattle.std.specs.Prelude.{ℕ, Bool, cond, List, [], Ok, Err}
 use Rattle.chars.specs.declared.Refusal.{Refusal}
 use Rattle.queue.specs.Tests.{Outcome, nothing_tried}
-use Rattle.model.specs.declared.Answer.{Answer}
-use Rattle.model.specs.declared.Answer.TheVariants.{Done, Refused}
+use Rattle.model.specs.Answers.{Answer}
 use Rattle.model.specs.Kinds.{Kind, kind_of, on_kind, is_close, Own, own_of}
 use Rattle.model.specs.State.{State}
 use Rattle.model.specs.Messages.{Acted}
@@ -12,11 +11,11 @@ use Rattle.model.specs.Calls.{Call, Engine, Result, judge, begun, act, woken, te
 
 -- one that refuses all, with any numbers, whatever else it does as f
 abbrev pub refusing : (Engine → Call → Result) → (Engine → Call → Refusal) → Engine → Call → Result
-refusing f q e c = record { answer = Refused (q e c); out = (f e c).out; tries = (f e c).tries; engine = (f e c).engine }
+refusing f q e c = record { answer = Err (q e c); out = (f e c).out; tries = (f e c).tries; engine = (f e c).engine }
 
 -- one that answers 0 to all
 abbrev pub agreeing : (Engine → Call → Result) → Engine → Call → Result
-agreeing f e c = record { answer = Done; out = (f e c).out; tries = (f e c).tries; engine = (f e c).engine }
+agreeing f e c = record { answer = Ok tt; out = (f e c).out; tries = (f e c).tries; engine = (f e c).engine }
 
 -- a call that does nothing, whatever it answers
 abbrev pub doing_nothing : (Engine → Call → Answer) → Engine → Call → Result
@@ -39,8 +38,8 @@ module _ (acting : State → Own → List ℕ → Acted) (testing : Bool → Act
   performed_by k e c = on_kind k (opened_by (opening_answer e.state.day c.asked.input) e c) (stepped_by e c) (book_given e c)
 
   abbrev pub judged_by : Answer → Engine → Call → Result
-  judged_by Done e c = performed_by (kind_of c.asked.action) e c
-  judged_by (Refused r) e c = refused e r
+  judged_by (Ok tt) e c = performed_by (kind_of c.asked.action) e c
+  judged_by (Err r) e c = refused e r
 
   abbrev pub call_by : Engine → Call → Result
   call_by e c = judged_by (judge e.state c) e c

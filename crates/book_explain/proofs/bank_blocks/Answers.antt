@@ -1,16 +1,14 @@
+use Rattle.std.proofs.lemmas.Result.{err_from_is_err_and}
 use Rattle.book_explain.proofs.Failing.{blocks_done, blocks_on, blocks_broken}
-use mathlib.Core.Path.{refl, ◌∙◌}
+use mathlib.Core.Path.{◌∙◌}
 use native.Mathlib.Omega.{arith}
 use Rattle.book_explain.proofs.bank_blocks.Goals as goal
 
-pub loop-k-init : goal.loop-k-init
-loop-k-init c = (omega arith, omega arith, refl)
-
 pub loop-k-preserved : goal.loop-k-preserved
-loop-k-preserved c = (omega arith, omega arith, blocks_on _ _ _ (omega arith) c.bank_block.ensures c.in-Whole.is ∙ c.loop-k.invariant.2)
+loop-k-preserved c = blocks_on _ _ _ (omega arith) c.bank_block.ensures c.in_ok-bank_block.was ∙ c.loop-k.invariant
 
-pub returns-in-Broken : goal.returns-in-Broken
-returns-in-Broken c = blocks_broken _ _ _ (omega arith) c.bank_block.ensures c.in-Broken.is ∙ c.loop-k.invariant.2
+pub returns-in_err-bank_block : goal.returns-in_err-bank_block
+returns-in_err-bank_block c = let p = err_from_is_err_and c.from_residual.result c.from_residual.ensures.1 in rw (p.1, p.2) (blocks_broken _ _ _ (omega arith) c.bank_block.ensures c.in_err-bank_block.was ∙ c.loop-k.invariant)
 
 pub returns : goal.returns
-returns c = blocks_done _ _ _ (omega arith) ∙ c.loop-k.invariant.2
+returns c = blocks_done _ _ _ (omega arith) ∙ c.loop-k.invariant

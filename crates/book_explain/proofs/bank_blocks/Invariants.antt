@@ -1,10 +1,7 @@
 use Rattle.book_explain.specs.Faults.{first_failed, bank_block_tests}
 use mathlib.Core.Path.{◌≡◌}
-use Prim.Native.Nat.{◌-◌, ◌≤◌}
+use Prim.Native.Nat.{◌-◌}
 use Rattle.book_explain.proofs.bank_blocks.Given as goal
 
 abbrev pub invariant-loop-k : goal.invariant-loop-k
-invariant-loop-k l = (1 ≤ l.k) × (l.k ≤ l.blocks) × (first_failed (bank_block_tests l.s l.blocks l.k (l.blocks - l.k)) ≡ first_failed (bank_block_tests l.s l.blocks 1 (l.blocks - 1)))
-
-abbrev pub decreases-loop-k : goal.decreases-loop-k
-decreases-loop-k l = l.blocks - l.k
+invariant-loop-k l = first_failed (bank_block_tests l.s l.blocks l.k (l.blocks - l.k)) ≡ first_failed (bank_block_tests l.s l.blocks 1 (l.blocks - 1))

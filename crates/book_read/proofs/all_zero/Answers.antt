@@ -1,12 +1,10 @@
-use Rattle.book_read.proofs.Leaves.{zeros_start, zeros_on, zeros_done}
 use native.Mathlib.Omega.{arith}
+use mathlib.Core.Path.{refl, ◌∙◌}
+use Rattle.book_read.proofs.Leaves.{zeros_on, zeros_done}
 use Rattle.book_read.proofs.all_zero.Goals as goal
 
-pub loop-left-init : goal.loop-left-init
-loop-left-init c = search zeros_start
-
-pub loop-left-preserved : goal.loop-left-preserved
-loop-left-preserved c = search zeros_on
+pub loop-j-preserved : goal.loop-j-preserved
+loop-j-preserved c = zeros_on _ _ _ _ (omega arith) (omega arith) refl ∙ c.loop-j.invariant
 
 pub returns : goal.returns
-returns c = zeros_done c.loop-left.invariant (omega arith)
+returns c = zeros_done _ _ _ _ (omega arith) ∙ c.loop-j.invariant

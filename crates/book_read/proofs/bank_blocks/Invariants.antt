@@ -1,11 +1,8 @@
-use Prim.Native.Nat.{◌-◌, ◌≤◌}
+use Prim.Native.Nat.{◌-◌}
 use mathlib.Core.Path.{◌≡◌}
 use Rattle.book_read.specs.Block.{first_broken}
 use Rattle.book_read.specs.Book.{bank_blocks}
 use Rattle.book_read.proofs.bank_blocks.Given as goal
 
 abbrev pub invariant-loop-k : goal.invariant-loop-k
-invariant-loop-k l = (1 ≤ l.k) × (l.k ≤ l.blocks) × (first_broken (bank_blocks l.s l.blocks l.k (l.blocks - l.k)) ≡ first_broken (bank_blocks l.s l.blocks 1 (l.blocks - 1)))
-
-abbrev pub decreases-loop-k : goal.decreases-loop-k
-decreases-loop-k l = l.blocks - l.k
+invariant-loop-k l = first_broken (bank_blocks l.s l.blocks l.k (l.blocks - l.k)) ≡ first_broken (bank_blocks l.s l.blocks 1 (l.blocks - 1))

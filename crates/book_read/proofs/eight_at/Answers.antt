@@ -1,5 +1,6 @@
+use Rattle.std.proofs.Common.{arith}
 use Rattle.book_read.proofs.Leaves.{eight_is}
 use Rattle.book_read.proofs.eight_at.Goals as goal
 
 pub returns : goal.returns
-returns c = search eight_is
+returns c = omega (arith, c.from_le_bytes.ensures, eight_is c.args.s.now c.args.at)

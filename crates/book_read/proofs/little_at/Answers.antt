@@ -16,7 +16,7 @@ pub overflow_add-v : goal.overflow_add-v
 overflow_add-v c = omega (arith, taking_fits c.loop-i.invariant c.requires.1 (omega arith))
 
 pub loop-i-preserved : goal.loop-i-preserved
-loop-i-preserved c = taking_on c.loop-i.invariant (omega arith) (c.wide.ensures.value ∙ c.byte.ensures) c.wide.ensures.small
+loop-i-preserved c = taking_on c.loop-i.invariant (omega arith) (c.from.ensures ∙ c.byte.ensures) (omega (arith, c.from.ensures))
 
 pub returns : goal.returns
 returns c = taking_done c.loop-i.invariant (omega arith)

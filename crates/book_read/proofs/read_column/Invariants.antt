@@ -1,4 +1,3 @@
-use Prim.Native.Nat.{◌-◌}
 use Rattle.book_read.specs.Book.{bank_place}
 use Rattle.book_read.specs.Accounts.{bank_at, field_of}
 use Rattle.book_read.proofs.Filling.{Filling}
@@ -6,6 +5,3 @@ use Rattle.book_read.proofs.read_column.Given as goal
 
 abbrev pub invariant-loop-i : goal.invariant-loop-i
 invariant-loop-i l = Filling (λ j. field_of l.field (bank_at l.s (bank_place j))) l.n l.initial.out l.out l.i
-
-abbrev pub decreases-loop-i : goal.decreases-loop-i
-decreases-loop-i l = l.n - l.i

@@ -14,7 +14,7 @@ pub bounds-out-i-in-loop-i : goal.bounds-out-i-in-loop-i
 bounds-out-i-in-loop-i c = simp length-set (omega (arith, c.loop-i.invariant.size))
 
 pub loop-i-preserved : goal.loop-i-preserved
-loop-i-preserved c = pairing_on c.loop-i.invariant (omega arith) c.short_code.ensures.value (c.wide.ensures.value ∙ c.byte.ensures)
+loop-i-preserved c = pairing_on c.loop-i.invariant (omega arith) c.short_code.ensures.value (c.from.ensures ∙ c.byte.ensures)
 
 pub shape_of-out : goal.shape_of-out
 shape_of-out c = c.loop-i.invariant.size

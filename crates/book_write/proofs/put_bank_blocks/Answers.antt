@@ -31,10 +31,6 @@ put_bank_block-requires c =
     let is : c.args.blocks ≡ (banks + 19) / 20 + 1 = c.requires.blocks_value.0 in
     let part : c.in_block.result ≡ min 20 (banks - 20 * (k - 1)) = c.in_block.ensures in record { blocks_bound = omega (arith, c.loop-k.invariant.2.size); reaching = reach_part (20 * (k - 1) + c.in_block.result) (omega arith) c.requires.reaching }
 
-pub overflow_add-k : goal.overflow_add-k
-unfolding blocks_for
-overflow_add-k c = omega (arith, c.requires.blocks_value.0)
-
 pub loop-k-preserved : goal.loop-k-preserved
 loop-k-preserved c =
     let k = c.loop-k.k in

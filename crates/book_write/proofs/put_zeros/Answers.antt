@@ -1,16 +1,17 @@
 use native.Mathlib.Omega.{arith}
-use mathlib.Core.Path.{refl}
-use Rattle.book_write.proofs.Storing.{storing_start, storing_on, storing_done, zeros_next, zeros_none}
+use Prim.Native.Nat.{◌-◌}
+use lib.ListN.{replicate}
+use Rattle.book_write.proofs.Storing.{storing_first, storing_on, storing_done, zeros_next, zeros_none}
 use Rattle.book_write.proofs.put_zeros.Goals as goal
 
-pub loop-left-init : goal.loop-left-init
-loop-left-init c = (refl, storing_start _ _ _)
+pub loop-i-init : goal.loop-i-init
+loop-i-init c = storing_first _ _ _ (λ n. replicate n 0)
 
-pub loop-left-preserved : goal.loop-left-preserved
-loop-left-preserved c = (omega arith, storing_on c.loop-left.invariant.1 (zeros_next c.loop-left.left (omega arith)) c.put_byte.ensures)
+pub loop-i-preserved : goal.loop-i-preserved
+loop-i-preserved c = storing_on c.loop-i.invariant (omega arith) (zeros_next (c.args.n - c.loop-i.i) (omega arith)) c.put_byte.ensures
 
 pub shape_of-out : goal.shape_of-out
-shape_of-out c = c.loop-left.invariant.1.size
+shape_of-out c = c.loop-i.invariant.size
 
 pub returns : goal.returns
-returns c = storing_done c.loop-left.invariant.1 (zeros_none c.loop-left.left (omega arith))
+returns c = storing_done c.loop-i.invariant (zeros_none (c.args.n - c.loop-i.i) (omega arith))

@@ -33,4 +33,4 @@ pub shape_of-report : goal.shape_of-report
 shape_of-report c = c.write_report.auto.report
 
 pub returns : goal.returns
-returns c = shown _ _ _ _ _ _ _ _ _ _ _ _ _ _ _ _ _ _ _ _ (c.call_banks-told.auto.banks ∙ c.requires.shaped.banks_long) c.read_desk-before.ensures c.call_banks-told.ensures c.write_desk.ensures c.write_report.ensures c.number.ensures
+returns c = shown _ _ _ _ _ _ _ _ _ _ _ _ _ _ _ _ _ _ _ _ (c.call_banks-told.auto.banks ∙ c.requires.shaped.banks_long) c.read_desk-before.ensures c.call_banks-told.ensures c.write_desk.ensures c.write_report.ensures c.number_of.ensures

@@ -1,9 +1,5 @@
 use Rattle.c_engine.proofs.Banks.{Saving}
-use Prim.Native.Nat.{◌-◌}
 use Rattle.c_engine.proofs.save.Given as goal
 
 abbrev pub invariant-loop-i : goal.invariant-loop-i
 invariant-loop-i l = Saving l.banks l.i l.codes l.flags l.balances l.sublimits l.sheet
-
-abbrev pub decreases-loop-i : goal.decreases-loop-i
-decreases-loop-i l = 64 - l.i

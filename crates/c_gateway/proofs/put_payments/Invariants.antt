@@ -1,11 +1,7 @@
 use Rattle.c_gateway.proofs.Laws.{Put}
 use lib.ListN.{length}
 use mathlib.Core.Path.{◌≡◌}
-use Prim.Native.Nat.{◌-◌}
 use Rattle.c_gateway.proofs.put_payments.Given as goal
 
 abbrev pub invariant-loop-n : goal.invariant-loop-n
 invariant-loop-n l = (length l.places ≡ length l.initial.places) × Put l.text l.initial.at l.places l.n l.at
-
-abbrev pub decreases-loop-n : goal.decreases-loop-n
-decreases-loop-n l = 10 - l.n

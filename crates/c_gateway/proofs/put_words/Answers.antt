@@ -1,7 +1,6 @@
 use Rattle.text_put.proofs.Laws.{putting_start, putting_on, putting_done}
 use native.Mathlib.Omega.{arith}
 use mathlib.Core.Path.{refl}
-use Prim.Native.Nat.{◌-◌}
 use Rattle.c_gateway.proofs.put_words.Goals as goal
 
 pub loop-i-init : goal.loop-i-init

@@ -1,10 +1,5 @@
 use Rattle.text_put.proofs.Laws.{Putting}
-use lib.ListN.{length}
-use Prim.Native.Nat.{◌-◌}
 use Rattle.c_gateway.proofs.put_words.Given as goal
 
 abbrev pub invariant-loop-i : goal.invariant-loop-i
 invariant-loop-i l = Putting l.initial.row l.words l.at l.row l.i
-
-abbrev pub decreases-loop-i : goal.decreases-loop-i
-decreases-loop-i l = length l.words - l.i

@@ -1,4 +1,5 @@
 -- (c): each action leaves in the rows what the model's action leaves.
+use Rattle.std.specs.Prelude.{Ok}
 use Prim.Native.Nat.{ℕ}
 use mathlib.Core.Path.{◌≡◌, refl, sym, ap, subst}
 use mathlib.Core.List.{List, []}
@@ -6,10 +7,9 @@ use Rattle.codes.specs.declared.Code.{Code}
 use Rattle.request_read.specs.whole.Request.{request_at}
 use Rattle.request_read.specs.declared.whole.Reading.{Reading}
 use Rattle.settle.specs.Settlement.{Accounts, accounts}
+use Rattle.model.specs.Answers.{Answer}
 use Rattle.model.specs.declared.Action.{Action}
 use Rattle.model.specs.declared.Action.TheVariants.{Opening, Message, SubLimit, Status, Tick, Close, ClosingBook}
-use Rattle.model.specs.declared.Answer.{Answer}
-use Rattle.model.specs.declared.Answer.TheVariants.{Done}
 use Rattle.model.specs.State.{Known, State}
 use Rattle.model.specs.Replies.{Reply}
 use Rattle.model.specs.Messages.{Acted, leaving, message}
@@ -45,7 +45,7 @@ module _ (d : Desk) (input codes flags sublimits t q : List ℕ) (nq : ℕ) (w :
 
   -- ---- an action without a change
 
-  idle_deed : a ≡ leaving s Done [] [] s.batches s.known → Carried a balances m out d.texts Done sublimits t q nq w nw m out 0 d.texts rs bs
+  idle_deed : a ≡ leaving s (Ok tt) [] [] s.batches s.known → Carried a balances m out d.texts (Ok tt) sublimits t q nq w nw m out 0 d.texts rs bs
   unfolding woken
   idle_deed e =
       rw e
@@ -55,19 +55,19 @@ module _ (d : Desk) (input codes flags sublimits t q : List ℕ) (nq : ℕ) (w :
         known = record { references = refl; bins = refl };
       })
 
-  pub opening_deed : x ≡ Opening → Carried a balances m out d.texts Done sublimits t q nq w nw m out 0 d.texts rs bs
+  pub opening_deed : x ≡ Opening → Carried a balances m out d.texts (Ok tt) sublimits t q nq w nw m out 0 d.texts rs bs
   unfolding act
   opening_deed e = idle_deed (rw e)
 
-  pub tick_deed : x ≡ Tick → Carried a balances m out d.texts Done sublimits t q nq w nw m out 0 d.texts rs bs
+  pub tick_deed : x ≡ Tick → Carried a balances m out d.texts (Ok tt) sublimits t q nq w nw m out 0 d.texts rs bs
   unfolding act
   tick_deed e = idle_deed (rw e)
 
-  pub close_deed : x ≡ Close → Carried a balances m out d.texts Done sublimits t q nq w nw m out 0 d.texts rs bs
+  pub close_deed : x ≡ Close → Carried a balances m out d.texts (Ok tt) sublimits t q nq w nw m out 0 d.texts rs bs
   unfolding act
   close_deed e = idle_deed (rw e)
 
-  pub book_deed : (date : ℕ) → x ≡ ClosingBook date → Carried a balances m out d.texts Done sublimits t q nq w nw m out 0 d.texts rs bs
+  pub book_deed : (date : ℕ) → x ≡ ClosingBook date → Carried a balances m out d.texts (Ok tt) sublimits t q nq w nw m out 0 d.texts rs bs
   unfolding act
   book_deed date e = idle_deed (rw e)
 

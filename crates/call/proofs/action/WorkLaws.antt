@@ -10,8 +10,8 @@ use Rattle.settle.specs.Settlement.{Accounts, accounts}
 use Rattle.settle.specs.Rules.{Books}
 use Rattle.queue.specs.Tests.{Outcome, test, fuel}
 use Rattle.queue.specs.Memory.{forgotten}
+use Rattle.model.specs.Answers.{Answer}
 use Rattle.model.specs.declared.Action.{Action}
-use Rattle.model.specs.declared.Answer.{Answer}
 use Rattle.model.specs.Kinds.{own_of}
 use Rattle.model.specs.State.{Batches, State, payments_at}
 use Rattle.model.specs.Replies.{Reply}

@@ -1,4 +1,5 @@
 -- What each kind of call leaves in what was lent.
+use Rattle.std.specs.Prelude.{Ok, Err}
 use Prim.Native.Nat.{ℕ, ◌*◌, ◌≤◌}
 use mathlib.Core.Path.{◌≡◌, refl, sym, ap, subst, ◌∙◌}
 use mathlib.Core.Bool.{Bool, true, false, not, false≢true}
@@ -10,9 +11,8 @@ use Rattle.chars.specs.declared.Refusal.{Refusal}
 use Rattle.chars.specs.declared.Refusal.TheVariants.{BrokenTables}
 use Rattle.dates.specs.Dates.{day_of}
 use Rattle.book_write.specs.Closing.{book_bytes, blocks_for}
+use Rattle.model.specs.Answers.{Answer}
 use Rattle.model.specs.declared.Action.{Action}
-use Rattle.model.specs.declared.Answer.{Answer}
-use Rattle.model.specs.declared.Answer.TheVariants.{Done, Refused}
 use Rattle.model.specs.Kinds.{Kind, opens, steps, gives, kind_of}
 use Rattle.model.specs.Days.{on_date, opened, opening_answer, closing_text}
 use Rattle.model.specs.Calls.{Call, Engine, refused, stepped, opened_by, book_given, performed, judged, judge, call}
@@ -49,12 +49,12 @@ module _ (quick : Bool) (clock : ℕ) (a : Action) (input : List ℕ) (d : Desk)
   abbrev asked : Asked
   asked = record { quick = quick; clock = clock; action = a; input = input }
 
-  refused_left : Right d T → (f : Refusal) → left_as (Refused f) 0 0 d T out r ≡ left_by x (refused e f)
+  refused_left : Right d T → (f : Refusal) → left_as (Err f) 0 0 d T out r ≡ left_by x (refused e f)
   refused_left k f = rw (k.desk, k.tables)
 
   -- ---- 06, 05, 07
 
-  pub broken : (b : Bool) → Says (Right d T) b → not b ≡ true → (y : Told) → y ≡ record { answer = Refused BrokenTables; written = 0; tried = 0; desk = d }
+  pub broken : (b : Bool) → Says (Right d T) b → not b ≡ true → (y : Told) → y ≡ record { answer = Err BrokenTables; written = 0; tried = 0; desk = d }
       → Called x asked (left_as y.answer y.written y.tried y.desk T out r)
   unfolding call_lent
   broken true s h y g = absurd (false≢true h)
@@ -76,17 +76,17 @@ module _ (quick : Bool) (clock : ℕ) (a : Action) (input : List ℕ) (d : Desk)
     unfolding engine_in
     is_judged = sym (g.is T quick input)
 
-    pub refuses : (f : Refusal) → j ≡ Refused f → (y : Told) → y ≡ record { answer = Refused f; written = 0; tried = 0; desk = d }
+    pub refuses : (f : Refusal) → j ≡ Err f → (y : Told) → y ≡ record { answer = Err f; written = 0; tried = 0; desk = d }
         → Called x asked (left_as y.answer y.written y.tried y.desk T out r)
     unfolding call
     refuses f i y u =
         let k = right_so b s h in
         rw u (called k _ (refused_left k f ∙ ap (left_by x) (ap (λ (n : Answer). judged n e c) (sym (is_judged ∙ i)))))
 
-    pub able : j ≡ Done → Performable d T clock a out r
+    pub able : j ≡ Ok tt → Performable d T clock a out r
     able i = record { right = right_so b s h; judged = subst (λ (n : Answer). Judged d clock a (length out) (length r) n) i g }
 
-    pub performs : j ≡ Done → (y : Left) → y ≡ left_by x (performed (kind_of a) e c) → Called x asked y
+    pub performs : j ≡ Ok tt → (y : Left) → y ≡ left_by x (performed (kind_of a) e c) → Called x asked y
     unfolding call
     performs i y u = called (right_so b s h) y (u ∙ ap (left_by x) (ap (λ (n : Answer). judged n e c) (sym (is_judged ∙ i))))
 
@@ -108,13 +108,13 @@ module _ (quick : Bool) (clock : ℕ) (a : Action) (input : List ℕ) (d : Desk)
 
     opens_left : (n : Answer) → begins (opened_on n d clock input (columns codes flags balances sublimits)) ≡ left_by x (opened_by n e c)
     unfolding opened desk_of tables_of
-    opens_left Done =
+    opens_left (Ok tt) =
         let u : (tables_of e).batches ≡ t = ap (λ (z : Tables). z.batches) k.right.tables in
         let v : (tables_of e).references ≡ rs = ap (λ (z : Tables). z.references) k.right.tables in
         let w : (tables_of e).bins ≡ bs = ap (λ (z : Tables). z.bins) k.right.tables in
         let z : (tables_of e).sheet ≡ sheet = ap (λ (z : Tables). z.sheet) k.right.tables in
         rw (u, v, w, z)
-    opens_left (Refused f) = refused_left k.right f
+    opens_left (Err f) = refused_left k.right f
 
     pub opens_day : kind_of a ≡ opens → (b : Begins) → b ≡ opened_on (opening_answer (day_on d) input) d clock input (columns codes flags balances sublimits)
         → left_as b.answer 0 0 b.desk
@@ -150,7 +150,7 @@ module _ (quick : Bool) (clock : ℕ) (a : Action) (input : List ℕ) (d : Desk)
       pub steps_ruled : Ruled t'
       steps_ruled =
           right_ruled y.desk (lent_with codes flags balances' sublimits' t' rs' bs')
-          (right_left x asked Y k.right (performs true k.right refl Done k.judged refl Y steps_left))
+          (right_left x asked Y k.right (performs true k.right refl (Ok tt) k.judged refl Y steps_left))
 
       pub takes_steps : (sheet' : List ℕ) → sheet' ≡ sheet_words (batches_in t')
           → left_as y.answer y.written y.tried y.desk (lent_on codes flags balances' sublimits' t' rs' bs' sheet') out' r'
@@ -169,9 +169,9 @@ module _ (quick : Bool) (clock : ℕ) (a : Action) (input : List ℕ) (d : Desk)
 
     pub gives_book : (date : ℕ) → kind_of a ≡ gives date → (out' : List ℕ) (n : ℕ) (z : Desk)
         → (out' ≡ sets out 0 (book_bytes (on_date (day_of date)) (streams_on d) (banks_on d (columns codes flags balances sublimits)))) × (n ≡ 512 * blocks_for d.banks)
-        → z ≡ moved_to d clock → left_as Done n 0 z T out' r ≡ left_by x (performed (kind_of a) e c)
+        → z ≡ moved_to d clock → left_as (Ok tt) n 0 z T out' r ≡ left_by x (performed (kind_of a) e c)
     unfolding closing_text engine_in state_in
     gives_book date i out' n z u v =
-        as_kind (gives date) i (left_as Done n 0 z T out' r)
+        as_kind (gives date) i (left_as (Ok tt) n 0 z T out' r)
         (let l : n ≡ length (closing_text e.state date) = u.1 ∙ sym (closing_length d T date (right_few d T k.right).1) in
         rw (u.0, l, v, given_desk date, ← given_tables date))

@@ -1,4 +1,5 @@
 -- What 06, 05 and 07 have told of a call that is performed.
+use Rattle.std.specs.Prelude.{Ok}
 use Prim.Native.Nat.{ℕ, ◌*◌, ◌≤◌}
 use mathlib.Core.Path.{◌≡◌, refl, sym, ap, subst, ◌∙◌}
 use mathlib.Core.Bool.{Bool, true, ◌&&◌}
@@ -7,7 +8,6 @@ use native.Mathlib.Omega.{arith}
 use lib.ListN.{length}
 use Rattle.book_write.specs.Closing.{blocks_for}
 use Rattle.model.specs.declared.Action.{Action}
-use Rattle.model.specs.declared.Answer.TheVariants.{Done}
 use Rattle.model.specs.declared.Phase.{Phase}
 use Rattle.model.specs.declared.Phase.TheVariants.{Fresh, Open, Closed}
 use Rattle.model.specs.Kinds.{Kind, steps, gives, kind_of}
@@ -64,7 +64,7 @@ module _ (d : Desk) (t : Tables) (clock : ℕ) (a : Action) (out r : List ℕ) (
   abbrev c : Call
   c = call_for true clock a [] (length out) (length r)
 
-  done : judge (state_in d t) c ≡ Done
+  done : judge (state_in d t) c ≡ Ok tt
   done = sym (k.judged.is t true [])
 
   for_kind : (z : Kind) → kind_of a ≡ z → day_for z (state_in d t).day ≡ true

@@ -10,8 +10,8 @@ use Rattle.book_read.specs.Accounts.{stream_row}
 use Rattle.settle.specs.Settlement.{Accounts}
 use Rattle.queue.specs.Tests.{Outcome}
 use Rattle.queue.specs.Memory.{forgotten}
+use Rattle.model.specs.Answers.{Answer}
 use Rattle.model.specs.declared.Action.{Action}
-use Rattle.model.specs.declared.Answer.{Answer}
 use Rattle.model.specs.declared.Phase.{Phase}
 use Rattle.model.specs.declared.Phase.TheVariants.{Closed}
 use Rattle.model.specs.State.{Batches, Entry, State, no_batches, no_memory}

@@ -4,8 +4,8 @@ use Rattle.std.proofs.lemmas.List.Edits.{sets}
 use Rattle.settle.specs.Settlement.{accounts}
 use Rattle.queue.specs.Tests.{Outcome}
 use Rattle.queue.specs.Memory.{forgotten}
+use Rattle.model.specs.Answers.{Answer}
 use Rattle.model.specs.declared.Action.{Action}
-use Rattle.model.specs.declared.Answer.{Answer}
 use Rattle.model.specs.State.{State}
 use Rattle.model.specs.Kinds.{own_of}
 use Rattle.model.specs.Messages.{Acted}

@@ -1,7 +1,6 @@
 -- What a call is before it is performed.
-use Rattle.std.specs.Prelude.{ℕ, List, length}
+use Rattle.std.specs.Prelude.{ℕ, List, length, Ok}
 use Rattle.model.specs.declared.Action.{Action}
-use Rattle.model.specs.declared.Answer.TheVariants.{Done}
 use Rattle.model.specs.Kinds.{Kind, opens, steps, gives}
 use Rattle.tables.specs.declared.Desk.{Desk}
 use Rattle.tables.specs.Rows.{Tables}
@@ -19,4 +18,4 @@ kind_by (Gives date) = gives date
 -- neither 06 nor 05 nor 07
 pub record Performable (d : Desk) (t : Tables) (clock : ℕ) (a : Action) (out tries : List ℕ) : Type 0 where
   pub right : Right d t
-  pub judged : Judged d clock a (length out) (length tries) Done
+  pub judged : Judged d clock a (length out) (length tries) (Ok tt)

@@ -1,7 +1,7 @@
 -- "(a) the clock moves; (b) pending batches join; (c) the call's own action; (d) the queue test", on the lent rows.
 use Rattle.std.specs.Prelude.{ℕ, ◌≤◌, ◌<◌, ◌≡◌, List, length}
+use Rattle.model.specs.Answers.{Answer}
 use Rattle.model.specs.declared.Action.{Action}
-use Rattle.model.specs.declared.Answer.{Answer}
 use Rattle.model.specs.declared.Phase.{Phase}
 use Rattle.model.specs.declared.Phase.TheVariants.{Open}
 use Rattle.model.specs.Kinds.{kind_of, steps}

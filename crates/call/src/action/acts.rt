@@ -4,11 +4,12 @@ ghost use Rattle.call_message.specs.outcome.Doing.{Actable};
 ghost use Rattle.call.specs.action.Working.{acted_in, Carried};
 
 use call_message::outcome::Acted;
-use model::{Action, Answer};
+use chars::Refusal;
+use model::Action;
 use tables::Desk;
 
 // An action that writes nothing and moves no batch.
-fn quiet(answer: Answer, nq: usize, nw: usize, texts: u64) -> Acted
+fn quiet(answer: Result<(), Refusal>, nq: usize, nw: usize, texts: u64) -> Acted
     ensures { (result.answer ≡ answer) × (result.queued ≡ nq) × (result.pending ≡ nw) × (result.at ≡ 0) × (result.texts ≡ texts) }
 {
     Acted {
@@ -56,9 +57,9 @@ pub fn act(
             );
             quiet(answer, nq, nw, desk.texts)
         }
-        Action::Opening => quiet(Answer::Done, nq, nw, desk.texts),
-        Action::Tick => quiet(Answer::Done, nq, nw, desk.texts),
-        Action::Close => quiet(Answer::Done, nq, nw, desk.texts),
-        Action::ClosingBook(_) => quiet(Answer::Done, nq, nw, desk.texts),
+        Action::Opening => quiet(Ok(()), nq, nw, desk.texts),
+        Action::Tick => quiet(Ok(()), nq, nw, desk.texts),
+        Action::Close => quiet(Ok(()), nq, nw, desk.texts),
+        Action::ClosingBook(_) => quiet(Ok(()), nq, nw, desk.texts),
     }
 }

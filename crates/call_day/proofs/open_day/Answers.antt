@@ -7,8 +7,8 @@ pub returns-then-not-is_later : goal.returns-then-not-is_later
 returns-then-not-is_later c = search (rules, open_early)
 
 -- src/lib.rt:73:1
-pub returns-in-Unread : goal.returns-in-Unread
-returns-in-Unread c = search (rules, open_refused)
+pub returns-in-Err : goal.returns-in-Err
+returns-in-Err c = search (rules, open_refused)
 
 -- src/lib.rt:73:1
 pub returns-else-not-is_later : goal.returns-else-not-is_later

@@ -1,5 +1,6 @@
 -- Messages that are answered at once, and the plans carried out.
-use Prim.Native.Nat.{ℕ, ◌+◌, ◌-◌, ◌≤◌}
+use Rattle.std.specs.Prelude.{Ok, Err}
+use Prim.Native.Nat.{ℕ, ◌≤◌}
 use mathlib.Core.Path.{◌≡◌, refl, sym}
 use mathlib.Core.Bool.{true, false≢true}
 use mathlib.Core.List.{List, [], ◌∷◌, ◌++◌}
@@ -16,11 +17,10 @@ use Rattle.response_write.specs.declared.Outcome.TheVariants.{Rejected}
 use Rattle.response_write.specs.declared.Answer.TheVariants.{Recalled, Kept}
 use Rattle.book_read.specs.Range.{Each}
 use Rattle.settle.specs.Settlement.{Accounts}
-use Rattle.model.specs.declared.Answer.{Answer}
-use Rattle.model.specs.declared.Answer.TheVariants.{Done, Refused}
+use Rattle.model.specs.Answers.{Answer}
 use Rattle.model.specs.State.{at, Place, free, live, Batches, Known, State, has_bin, place_at, place_messages, place_bin}
 use Rattle.model.specs.Replies.{Reply, settlement, recall, replies_to}
-use Rattle.model.specs.Messages.{place, assembling, waiting}
+use Rattle.model.specs.Messages.{assembling, waiting}
 use Rattle.model.specs.Calls.{woken}
 use Rattle.model.specs.Rules.{is_reference}
 use Rattle.model.proofs.Remembering.{same_code_lem}
@@ -136,24 +136,24 @@ module _ (d : Desk) (codes flags : List ℕ) (t q : List ℕ) (nq : ℕ) (w : Li
     abbrev s : State
     s = state_on d codes flags b n o
 
-    pub untouched_so : (c : Plan) (f : Refusal) → c ≡ Untouched f → InRows (acted_with s r z c) m out 0 d.texts (Refused f) t q nq w nw m out 0 d.texts
+    pub untouched_so : (c : Plan) (f : Refusal) → c ≡ Untouched f → InRows (acted_with s r z c) m out 0 d.texts (Err f) t q nq w nw m out 0 d.texts
     unfolding acted_with woken
     untouched_so c f e = rw e (record { answered = refl; batches = record { ready = k.ready; is = refl }; memory = refl; replies = wrote_none out 0 d.texts })
 
     pub alone_so : (c : Plan) (j : ℕ) (a : Answer) (nq' nw' : ℕ) (out' : List ℕ) (to texts' : ℕ) → c ≡ Alone j
-        → Stays (Refused Malformed) (settlement (reference_of r) (bin_of r) (Rejected (number_of Malformed)) ∷ []) nq nw out d.texts a nq' nw' out' to texts'
+        → Stays (Err Malformed) (settlement (reference_of r) (bin_of r) (Rejected (number_of Malformed)) ∷ []) nq nw out d.texts a nq' nw' out' to texts'
         → InRows (acted_with s r z c) m out 0 d.texts a t q nq' w nw' m out' to texts'
     unfolding acted_with woken
     alone_so c j a nq' nw' out' to texts' e h = rw (e, h.queued, h.pending) (record { answered = h.answered; batches = record { ready = k.ready; is = refl }; memory = refl; replies = h.replies })
 
     pub none_so : (c : Plan) (j : ℕ) (a : Answer) (nq' nw' : ℕ) (out' : List ℕ) (to texts' : ℕ) → c ≡ RecallsNone j
-        → Stays (Refused NothingThere) (recall (reference_of r) (Kept (number_of NothingThere)) ∷ []) nq nw out d.texts a nq' nw' out' to texts'
+        → Stays (Err NothingThere) (recall (reference_of r) (Kept (number_of NothingThere)) ∷ []) nq nw out d.texts a nq' nw' out' to texts'
         → InRows (acted_with s r z c) m out 0 d.texts a t q nq' w nw' m out' to texts'
     unfolding acted_with woken
     none_so c j a nq' nw' out' to texts' e h = rw (e, h.queued, h.pending) (record { answered = h.answered; batches = record { ready = k.ready; is = refl }; memory = refl; replies = h.replies })
 
     pub rejects_so : (c : Plan) (p : ℕ) (x : Refusal) (a : Answer) (t' q' : List ℕ) (nq' : ℕ) (w' : List ℕ) (nw' : ℕ) (m' out' : List ℕ) (to texts' : ℕ) → c ≡ Rejects p x → assembling b (bin_of r) ≡ at p
-        → (a ≡ Refused x) × Ends (replies_at t p (Rejected (number_of x))) b p m out 0 d.texts t' q' nq' w' nw' m' out' to texts'
+        → (a ≡ Err x) × Ends (replies_at t p (Rejected (number_of x))) b p m out 0 d.texts t' q' nq' w' nw' m' out' to texts'
         → InRows (acted_with s r z c) m out 0 d.texts a t' q' nq' w' nw' m' out' to texts'
     unfolding acted_with woken
     rejects_so c p x a t' q' nq' w' nw' m' out' to texts' e f h =
@@ -161,7 +161,7 @@ module _ (d : Desk) (codes flags : List ℕ) (t q : List ℕ) (nq : ℕ) (w : Li
         rw e (record { answered = h.0; batches = h.1.batches; memory = h.1.memory; replies = rw g at h.1.replies })
 
     pub recalled_so : (c : Plan) (p j : ℕ) (a : Answer) (t' q' : List ℕ) (nq' : ℕ) (w' : List ℕ) (nw' : ℕ) (m' out' : List ℕ) (to texts' : ℕ) → c ≡ Recalls p j → waiting b (bin_of r) ≡ at p
-        → (a ≡ Done) × Ends ((recall (reference_of r) Recalled ∷ []) ++ replies_at t p (Rejected (number_of WasRecalled))) b p m out 0 d.texts t' q' nq' w' nw' m' out' to texts'
+        → (a ≡ Ok tt) × Ends ((recall (reference_of r) Recalled ∷ []) ++ replies_at t p (Rejected (number_of WasRecalled))) b p m out 0 d.texts t' q' nq' w' nw' m' out' to texts'
         → InRows (acted_with s r z c) m out 0 d.texts a t' q' nq' w' nw' m' out' to texts'
     unfolding acted_with woken
     recalled_so c p j a t' q' nq' w' nw' m' out' to texts' e f h =

@@ -1,5 +1,5 @@
 -- A message that comes to a batch, or begins one.
-use Prim.Native.Nat.{ℕ, suc, ◌+◌, ◌-◌, ◌≤◌, ◌<◌}
+use Prim.Native.Nat.{ℕ, suc, ◌+◌, ◌≤◌, ◌<◌}
 use mathlib.Core.Path.{◌≡◌, refl, sym, ap, subst, ◌∙◌}
 use mathlib.Core.Bool.{Bool, true, false, ◌||◌, false≢true}
 use mathlib.Core.List.{List, []}
@@ -15,7 +15,7 @@ use Rattle.request_read.specs.declared.whole.Reading.{Reading}
 use Rattle.settle.specs.Settlement.{Accounts}
 use Rattle.settle.specs.Rules.{Distinct}
 use Rattle.queue.proofs.MemoryLaws.{by_bool}
-use Rattle.model.specs.declared.Answer.{Answer}
+use Rattle.model.specs.Answers.{Answer}
 use Rattle.model.specs.State.{at, seek, Batch, Place, free, live, Batches, Known, State, is_free, place_at, with_place}
 use Rattle.model.specs.Messages.{Acted, assembling, waiting, first_batch, admit}
 use Rattle.model.specs.Rules.{RightMinute, is_reference}

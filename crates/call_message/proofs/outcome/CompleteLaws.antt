@@ -1,4 +1,5 @@
 -- Step 6 on the rows.
+use Rattle.std.specs.Prelude.{Ok, Err}
 use Prim.Native.Nat.{ℕ, ◌+◌, ◌*◌, ◌-◌, ◌≤◌}
 use mathlib.Core.Path.{◌≡◌, refl, sym, ap, ◌∙◌}
 use mathlib.Core.Bool.{Bool, true, false, not}
@@ -15,8 +16,7 @@ use Rattle.response_write.specs.declared.Outcome.TheVariants.{Rejected}
 use Rattle.book_read.specs.Range.{Each}
 use Rattle.settle.specs.Payments.{cents_of}
 use Rattle.settle.specs.Rules.{credits, debits}
-use Rattle.model.specs.declared.Answer.{Answer}
-use Rattle.model.specs.declared.Answer.TheVariants.{Done, Refused}
+use Rattle.model.specs.Answers.{Answer}
 use Rattle.model.specs.State.{Batch, Place, free, live, Batches, Known, State, payments_of, with_place}
 use Rattle.model.specs.Messages.{place, is_complete, is_even, to_tail, completed}
 use Rattle.model.specs.Calls.{woken}
@@ -74,7 +74,7 @@ module _ (t q : List ℕ) (nq : ℕ) (w : List ℕ) (nw p : ℕ) (out : List ℕ
 
   module _ (s : State) (g : Reading) (k : Known) where
     pub not_complete : (m m' : List ℕ) → (get_or t (p * 349 + 7) 0 ≡ get_or t (p * 349 + 4) 0 → ⊥) → m' ≡ set m p 0
-        → InRows (completed s g b k p x) m out 0 texts Done t q nq w nw m' out 0 texts
+        → InRows (completed s g b k p x) m out 0 texts (Ok tt) t q nq w nw m' out 0 texts
     unfolding completed
     not_complete m m' n e =
         let i : is_complete x ≡ false = ne_eqb (length x.messages) x.count (λ z. n (messages_there ∙ z ∙ sym count_there)) in
@@ -97,7 +97,7 @@ module _ (t q : List ℕ) (nq : ℕ) (w : List ℕ) (nw p : ℕ) (out : List ℕ
       even = even_is r (rw (is_row, paid) at is)
 
       pub uneven : (m : List ℕ) (a : Answer) (t' q' : List ℕ) (nq' : ℕ) (w' : List ℕ) (nw' : ℕ) (m' out' : List ℕ) (to texts' : ℕ) → not r ≡ true
-          → (a ≡ Refused Unequal) × Ends (replies_at t p (Rejected (number_of Unequal))) b p m out 0 texts t' q' nq' w' nw' m' out' to texts'
+          → (a ≡ Err Unequal) × Ends (replies_at t p (Rejected (number_of Unequal))) b p m out 0 texts t' q' nq' w' nw' m' out' to texts'
           → InRows (completed s g b k p x) m out 0 texts a t' q' nq' w' nw' m' out' to texts'
       unfolding completed
       uneven m a t' q' nq' w' nw' m' out' to texts' n h =
@@ -110,7 +110,7 @@ module _ (t q : List ℕ) (nq : ℕ) (w : List ℕ) (nw p : ℕ) (out : List ℕ
 
       pub tails : (clock : ℕ) → s.day.clock ≡ clock → (m : List ℕ) (q' : List ℕ) (nq' : ℕ) (w' : List ℕ) (nw' : ℕ) (m' : List ℕ) → not r ≡ false
           → Became (tailed (due_at t clock p) b p) t q' nq' w' nw' → m' ≡ set m p 0
-          → InRows (completed s g b k p x) m out 0 texts Done t q' nq' w' nw' m' out 0 texts
+          → InRows (completed s g b k p x) m out 0 texts (Ok tt) t q' nq' w' nw' m' out 0 texts
       unfolding completed
       tails clock f m q' nq' w' nw' m' n h e =
           let y : with_place b p (live x) ≡ b = ap (λ (ps : List Place). record { places = ps; pending = b.pending; queue = b.queue }) (same_place b.places p (live x) c.there) in

@@ -1,4 +1,5 @@
 -- A message before its batch, and in it.
+use Rattle.std.specs.Prelude.{Ok, Err}
 use Prim.Native.Nat.{ℕ, suc, ◌+◌, ◌*◌, ◌-◌, ◌≤◌, ◌<◌}
 use mathlib.Core.Path.{◌≡◌, refl, sym, ap, subst, ◌∙◌}
 use mathlib.Core.Bool.{true}
@@ -21,11 +22,10 @@ use Rattle.settle.specs.Payments.{Payment, cents_of}
 use Rattle.settle.specs.Rules.{most_cents}
 use Rattle.settle.specs.Settlement.{Accounts}
 use Rattle.queue.proofs.MemoryLaws.{by_bool}
-use Rattle.model.specs.declared.Answer.{Answer}
-use Rattle.model.specs.declared.Answer.TheVariants.{Done, Refused}
+use Rattle.model.specs.Answers.{Answer}
 use Rattle.model.specs.State.{Message, Batch, Place, free, live, Batches, Known, State, place_at, place_messages, place_bin, payments_of, with_place}
 use Rattle.model.specs.Replies.{Reply, settlement, replies_to}
-use Rattle.model.specs.Messages.{Acted, place, first_broken, message_rules, arrived, with_message, ended, completed, admit}
+use Rattle.model.specs.Messages.{Acted, first_broken, message_rules, arrived, with_message, ended, completed, admit}
 use Rattle.model.specs.Calls.{woken}
 use Rattle.model.specs.Rules.{Priced, RightMessage, is_bin}
 use Rattle.model.proofs.Admitting.{message_right, each_last}
@@ -43,7 +43,7 @@ use Rattle.call_orders.specs.Arriving.{Roomy, message_of, row_with}
 use Rattle.call_orders.proofs.HeadLaws.{word_at, rows_many}
 use Rattle.call_orders.proofs.ArriveLaws.{payments_many, Placed, placed_so}
 use Rattle.call_plan.specs.rules.Steps.{Counted, state_of}
-use Rattle.call_plan.proofs.rules.Meets.{counted, message_any}
+use Rattle.call_plan.proofs.rules.Meets.{message_any}
 use Rattle.call_plan.proofs.rules.WordLaws.{arrived_any}
 use Rattle.call_plan.proofs.rules.LiveRows.{live_word, live_batch, wide, neat_row, row_counted, lent, placed_became}
 use Rattle.call_texts.specs.Writing.{Room, Legible, batches_on, replies_at}
@@ -145,10 +145,10 @@ module _ (d : Desk) (codes flags : List ℕ) (r : Reading) (t q : List ℕ) (nq 
     judged : (c : Batches) (n : Accounts) (o : Known) → first_broken (message_rules (state_on d codes flags c n o) r stream x) ≡ a
     judged c n o = sym (on_row ∙ message_any (state_on d codes flags c n o) r stream (get_or (batch_rows t) p []) k.few_banks taking_counted)
 
-    pub fair : a ≡ Done → Fair d codes flags r t p
+    pub fair : a ≡ Ok tt → Fair d codes flags r t p
     fair e = message_right (house_state d codes flags) r stream x k.takes k.gives (judged _ _ _ ∙ e)
 
-    module _ (f : Refusal) (e : a ≡ Refused f) where
+    module _ (f : Refusal) (e : a ≡ Err f) where
       pub fault_room : (bin : Code) → bin ≡ x.bin
           → Room out 0 d.texts (replies_at t p (Rejected (number_of f)) ++ (settlement r.head.reference.code bin (Rejected (number_of f)) ∷ []))
       fault_room bin g =
@@ -163,7 +163,7 @@ module _ (d : Desk) (codes flags : List ℕ) (r : Reading) (t q : List ℕ) (nq 
           )
 
       pub rejected : (bin : Code) → bin ≡ x.bin → (m : List ℕ) (ans : Answer) (t' q' : List ℕ) (nq' : ℕ) (w' : List ℕ) (nw' : ℕ) (m' out' : List ℕ) (to texts' : ℕ)
-          → (ans ≡ Refused f) × Ends (replies_at t p (Rejected (number_of f)) ++ (settlement r.head.reference.code bin (Rejected (number_of f)) ∷ [])) b p m out 0 d.texts t' q' nq' w' nw' m' out' to texts'
+          → (ans ≡ Err f) × Ends (replies_at t p (Rejected (number_of f)) ++ (settlement r.head.reference.code bin (Rejected (number_of f)) ∷ [])) b p m out 0 d.texts t' q' nq' w' nw' m' out' to texts'
           → (c : Batches) (n : Accounts) (o z : Known)
           → InRows (admit (state_on d codes flags c n o) r stream b z p x) m out 0 d.texts ans t' q' nq' w' nw' m' out' to texts'
       unfolding admit woken replies_to
@@ -175,12 +175,12 @@ module _ (d : Desk) (codes flags : List ℕ) (r : Reading) (t q : List ℕ) (nq 
             replies = rw (replies_append x.messages (arrived (state_on d codes flags c n o) r ∷ []) x.bin (Rejected (number_of f))) (rw (at_place (Rejected (number_of f)), g) at h.1.replies);
           })
 
-    admitted : (c : Batches) (n : Accounts) (o z : Known) → a ≡ Done
+    admitted : (c : Batches) (n : Accounts) (o z : Known) → a ≡ Ok tt
         → admit (state_on d codes flags c n o) r stream b z p x ≡ completed (state_on d codes flags c n o) r b z p (with_message (state_on d codes flags c n o) r x)
     unfolding admit
     admitted c n o z e = rw (judged c n o, e)
 
-    pub accepted : a ≡ Done → (m : List ℕ) (ans : Answer) (t' q' : List ℕ) (nq' : ℕ) (w' : List ℕ) (nw' : ℕ) (m' out' : List ℕ) (to texts' : ℕ)
+    pub accepted : a ≡ Ok tt → (m : List ℕ) (ans : Answer) (t' q' : List ℕ) (nq' : ℕ) (w' : List ℕ) (nw' : ℕ) (m' out' : List ℕ) (to texts' : ℕ)
         → ((c : Batches) (n : Accounts) (o z : Known) → InRows (completed (state_on d codes flags c n o) r b z p (with_message (state_on d codes flags c n o) r x)) m out 0 d.texts ans t' q' nq' w' nw' m' out' to texts')
         → (c : Batches) (n : Accounts) (o z : Known)
         → InRows (admit (state_on d codes flags c n o) r stream b z p x) m out 0 d.texts ans t' q' nq' w' nw' m' out' to texts'

@@ -20,8 +20,7 @@ use Rattle.queue.proofs.MemoryLaws.{by_bool}
 use Rattle.book_read.specs.Accounts.{Stream}
 use Rattle.book_read.proofs.Filling.{each_length}
 use Rattle.book_write.specs.Closing.{stream_of}
-use Rattle.model.specs.declared.Answer.{Answer}
-use Rattle.model.specs.declared.Answer.TheVariants.{Done, Refused}
+use Rattle.model.specs.Answers.{Answer}
 use Rattle.model.specs.State.{at, seek, Batch, Batches, Known, State, is_free, no_entry}
 use Rattle.model.specs.Memory.{is_used, is_vacant, vacant}
 use Rattle.model.specs.Messages.{no_stream, is_broken_part, assembling, waiting, is_complete, is_even, first_broken, message_rules, on_rules, with_message, first_batch, completed, admit, message}
@@ -36,8 +35,7 @@ use Rattle.tables.proofs.RowLaws.{put}
 use Rattle.call_orders.specs.Stages.{seen}
 use Rattle.call_plan.specs.declared.plan.Plan.{Plan}
 use Rattle.call_plan.specs.declared.plan.Plan.TheVariants.{Untouched, Rejects, Alone, Comes, Begins, RecallsNone, Recalls}
-use Rattle.call_plan.specs.declared.plan.Sent.{Sent}
-use Rattle.call_plan.specs.declared.plan.Sent.TheVariants.{In, Not}
+use Rattle.std.specs.Prelude.{Result, Ok, Err}
 use Rattle.call_plan.specs.plan.Plans.{sent_on, noted_on, settlement_on, recall_on, broken_on, plan_on}
 use Rattle.call_message.specs.outcome.Acting.{noted_at, known_by, acted_with, acted_by}
 use Rattle.call_message.specs.outcome.Doing.{state_on, batch_at, InRows, Actable, Apt, bin_of, reference_of}
@@ -166,20 +164,20 @@ module _ (d : Desk) (few : d.n ≤ 8) (b : Batches) (rs bs : List ℕ) (text : L
         by_found (waiting b (bin_of r)) (λ p j. rw (e, f, j) ((j, g), h)) (λ j. rw (e, f, j) (g, h)))
         (λ f. rw (e, f) (tt, tt)))
 
-  sent_small : (sender code i : ℕ) → sent_on (streams_on d) sender code ≡ In i → i ≤ 8
+  sent_small : (sender code i : ℕ) → sent_on (streams_on d) sender code ≡ Ok i → i ≤ 8
   unfolding sent_on
   sent_small sender code i h =
       by_found (seek (λ (x : Stream). eqb x.code code) (streams_on d))
       (λ j e.
       let l = (seek_answers (λ (x : Stream). eqb x.code code) no_stream (streams_on d) j e).inside in
       by_bool (eqb sender (get_or (streams_on d) j no_stream).sender)
-      (λ f. let g : In j ≡ In i = rw (e, f) at h in let k : j ≡ i = cc in omega (arith, l, each_length (stream_of d.streams) 0 d.n))
-      (λ f. let g : Not _ ≡ In i = rw (e, f) at h in let z : ◌≡◌ {A = ℕ} 0 1 = cc in absurd (omega arith)))
-      (λ e. let g : Not _ ≡ In i = rw e at h in let z : ◌≡◌ {A = ℕ} 0 1 = cc in absurd (omega arith))
+      (λ f. let g : ◌≡◌ {A = Result ℕ Refusal} (Ok j) (Ok i) = rw (e, f) at h in let k : j ≡ i = cc in omega (arith, l, each_length (stream_of d.streams) 0 d.n))
+      (λ f. let g : ◌≡◌ {A = Result ℕ Refusal} (Err _) (Ok i) = rw (e, f) at h in let z : ◌≡◌ {A = ℕ} 0 1 = cc in absurd (omega arith)))
+      (λ e. let g : ◌≡◌ {A = Result ℕ Refusal} (Err _) (Ok i) = rw e at h in let z : ◌≡◌ {A = ℕ} 0 1 = cc in absurd (omega arith))
 
-  by_sent {ℓ} : {X : Type ℓ} (s : Sent) → ((i : ℕ) → s ≡ In i → X) → ((f : Refusal) → s ≡ Not f → X) → X
-  by_sent (In i) g h = g i refl
-  by_sent (Not f) g h = h f refl
+  by_sent {ℓ} : {X : Type ℓ} (s : Result ℕ Refusal) → ((i : ℕ) → s ≡ Ok i → X) → ((f : Refusal) → s ≡ Err f → X) → X
+  by_sent (Ok i) g h = g i refl
+  by_sent (Err f) g h = h f refl
 
   broken_good : (sender : ℕ) (k : Break) → Good b r (broken_on (streams_on d) sender r.head k b)
   unfolding broken_on
@@ -219,8 +217,8 @@ unfolding admit
 known_admitted s r i b k p x = by_rules (first_broken (message_rules s r i x))
   where
     by_rules : (a : Answer) → (on_rules s r a b k p (with_message s r x) (completed s r b k p (with_message s r x))).known ≡ k
-    by_rules Done = known_completed s r b k p (with_message s r x)
-    by_rules (Refused f) = refl
+    by_rules (Ok tt) = known_completed s r b k p (with_message s r x)
+    by_rules (Err f) = refl
 
 module _ (d : Desk) (codes flags : List ℕ) (t q : List ℕ) (nq : ℕ) (w : List ℕ) (nw : ℕ) (out : List ℕ) (able : Actable d codes flags t q nq w nw out) where
   abbrev on : Accounts → Known → State

@@ -1,12 +1,11 @@
 -- What becomes of a message, by the plan that was chosen for it.
-use Rattle.std.specs.Prelude.{ℕ, List, [], ◌∷◌, set}
+use Rattle.std.specs.Prelude.{ℕ, List, [], ◌∷◌, set, Ok, Err}
 use Rattle.chars.specs.Refusals.{number_of}
 use Rattle.chars.specs.declared.Refusal.TheVariants.{NothingThere, Recalled as WasRecalled, Malformed}
 use Rattle.codes.specs.declared.Code.{Code}
 use Rattle.request_read.specs.declared.whole.Reading.{Reading}
 use Rattle.response_write.specs.declared.Outcome.TheVariants.{Rejected}
 use Rattle.response_write.specs.declared.Answer.TheVariants.{Recalled, Kept}
-use Rattle.model.specs.declared.Answer.TheVariants.{Done, Refused}
 use Rattle.model.specs.State.{Entry, Known, State, live, on_live, place_at, place_messages, with_place}
 use Rattle.model.specs.Replies.{settlement, recall, replies_to}
 use Rattle.model.specs.Messages.{Acted, place, leaving, untouched, rejecting, today, reference, bin, ended, first_batch, admit}
@@ -32,15 +31,15 @@ known_by today r b (Recalls p q) k = with_reference_at today r q k
 
 -- what is done with the batches, with k noted
 unfoldable pub acted_with : State → Reading → Known → Plan → Acted
-acted_with s r k (Untouched f) = leaving s (Refused f) [] [] s.batches k
+acted_with s r k (Untouched f) = leaving s (Err f) [] [] s.batches k
 acted_with s r k (Rejects p f) = rejecting s f p s.batches (place_messages (place_at s.batches p)) (bin s r) k
 acted_with s r k (Alone q) =
-    leaving s (Refused Malformed) (settlement (reference s r) (bin s r) (Rejected (number_of Malformed)) ∷ []) [] s.batches k
+    leaving s (Err Malformed) (settlement (reference s r) (bin s r) (Rejected (number_of Malformed)) ∷ []) [] s.batches k
 acted_with s r k (Comes p i q) = on_live (place_at s.batches p) (untouched s Malformed) (admit s r i s.batches k p)
 acted_with s r k (Begins p i q j) = admit s r i (with_place s.batches p (live (first_batch s r))) k p (first_batch s r)
-acted_with s r k (RecallsNone q) = leaving s (Refused NothingThere) (recall (reference s r) (Kept (number_of NothingThere)) ∷ []) [] s.batches k
+acted_with s r k (RecallsNone q) = leaving s (Err NothingThere) (recall (reference s r) (Kept (number_of NothingThere)) ∷ []) [] s.batches k
 acted_with s r k (Recalls p q) =
-    leaving s Done
+    leaving s (Ok tt)
     (recall (reference s r) Recalled ∷ replies_to (place_messages (place_at s.batches p)) (bin s r) (Rejected (number_of WasRecalled)))
     (place p ∷ [])
     (ended s.batches p)

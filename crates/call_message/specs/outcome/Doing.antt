@@ -9,7 +9,7 @@ use Rattle.settle.specs.Payments.{cents_of}
 use Rattle.settle.specs.Rules.{most_cents}
 use Rattle.settle.specs.Settlement.{Accounts, accounts}
 use Rattle.book_read.specs.Range.{Each}
-use Rattle.model.specs.declared.Answer.{Answer}
+use Rattle.model.specs.Answers.{Answer}
 use Rattle.model.specs.State.{at, seek, free, live, Batches, Known, State, is_free, place_at, payments_of, no_batches}
 use Rattle.model.specs.Replies.{Reply}
 use Rattle.model.specs.Messages.{Acted, ended, with_message, assembling, waiting}

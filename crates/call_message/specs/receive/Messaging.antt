@@ -1,6 +1,6 @@
 -- What a message's action leaves in the rows and in the remembered entries.
 use Rattle.std.specs.Prelude.{ℕ, ◌<◌, ◌≡◌, List}
-use Rattle.model.specs.declared.Answer.{Answer}
+use Rattle.model.specs.Answers.{Answer}
 use Rattle.model.specs.State.{Known}
 use Rattle.model.specs.Messages.{Acted}
 use Rattle.tables.specs.Rows.{entries_in}

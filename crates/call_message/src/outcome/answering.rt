@@ -1,10 +1,9 @@
 // Messages that end at once: those that are refused and end a batch, those that are refused alone, recalls.
-ghost use Rattle.std.specs.Prelude.{◌≡◌, ◌∷◌, [], ◌++◌, ℕ, ◌≤◌, ◌<◌, length};
+ghost use Rattle.std.specs.Prelude.{◌≡◌, ◌∷◌, [], ◌++◌, ℕ, ◌≤◌, ◌<◌, length, Ok, Err};
 ghost use Rattle.chars.specs.Refusals.{number_of};
 ghost use Rattle.chars.specs.declared.Refusal.TheVariants.{NothingThere, Recalled as WasRecalled, Malformed};
 ghost use Rattle.response_write.specs.declared.Outcome.TheVariants.{Rejected};
 ghost use Rattle.response_write.specs.declared.Answer.TheVariants.{Recalled, Kept};
-ghost use Rattle.model.specs.declared.Answer.TheVariants.{Done, Refused};
 ghost use Rattle.model.specs.Replies.{settlement, recall};
 ghost use Rattle.call_orders.specs.Stages.{seen, Ready};
 ghost use Rattle.call_texts.specs.Writing.{Wrote, Room, Legible, replies_at};
@@ -12,7 +11,6 @@ ghost use Rattle.call_message.specs.outcome.Doing.{Ends, Stays};
 
 use crate::outcome::{Acted, ending};
 use chars::Refusal;
-use model::Answer;
 use request_read::whole::Head;
 use response_write::Answer as Told;
 
@@ -31,11 +29,11 @@ pub fn reject(
 ) -> Acted
     requires ready { Ready batches.old queue.old nq pending.old nw × Legible batches.old × (place < 32) }
     requires room { Room out.old 0 texts (replies_at batches.old place (Rejected (number_of refusal))) }
-    ensures { (result.answer ≡ Refused refusal) × Ends (replies_at batches.old place (Rejected (number_of refusal))) (seen batches.old queue.old nq pending.old nw) place memory.old out.old 0 texts batches.new queue.new result.queued pending.new result.pending memory.new out.new result.at result.texts }
+    ensures { (result.answer ≡ Err refusal) × Ends (replies_at batches.old place (Rejected (number_of refusal))) (seen batches.old queue.old nq pending.old nw) place memory.old out.old 0 texts batches.new queue.new result.queued pending.new result.pending memory.new out.new result.at result.texts }
 {
     ending::end_with(
         refusal,
-        Answer::Refused(refusal),
+        Err(refusal),
         batches,
         queue,
         nq,
@@ -52,16 +50,13 @@ pub fn reject(
 // "a remembered BIN that is not being assembled 87, this message alone"
 pub fn refuse_alone(head: Head, nq: usize, nw: usize, texts: u64, out: &mut [u8]) -> Acted
     requires { Room out.old 0 texts (settlement head.reference.code head.address.bin.code (Rejected (number_of Malformed)) ∷ []) }
-    ensures { Stays (Refused Malformed) (settlement head.reference.code head.address.bin.code (Rejected (number_of Malformed)) ∷ []) nq nw out.old texts result.answer result.queued result.pending out.new result.at result.texts }
+    ensures { Stays (Err Malformed) (settlement head.reference.code head.address.bin.code (Rejected (number_of Malformed)) ∷ []) nq nw out.old texts result.answer result.queued result.pending out.new result.at result.texts }
 {
-    let by = head.reference;
-    let address = head.address;
-    let named = address.bin;
-    let reference = by.code;
-    let bin = named.code;
+    let reference = head.reference.code;
+    let bin = head.address.bin.code;
     let told = call_texts::answer_alone(reference, bin, Refusal::Malformed.number(), texts, out, 0);
     Acted {
-        answer: Answer::Refused(Refusal::Malformed),
+        answer: Err(Refusal::Malformed),
         queued: nq,
         pending: nw,
         at: told.at,
@@ -72,10 +67,9 @@ pub fn refuse_alone(head: Head, nq: usize, nw: usize, texts: u64, out: &mut [u8]
 // "else its 134 carries 02"
 pub fn recall_none(head: Head, nq: usize, nw: usize, texts: u64, out: &mut [u8]) -> Acted
     requires { Room out.old 0 texts (recall head.reference.code (Kept (number_of NothingThere)) ∷ []) }
-    ensures { Stays (Refused NothingThere) (recall head.reference.code (Kept (number_of NothingThere)) ∷ []) nq nw out.old texts result.answer result.queued result.pending out.new result.at result.texts }
+    ensures { Stays (Err NothingThere) (recall head.reference.code (Kept (number_of NothingThere)) ∷ []) nq nw out.old texts result.answer result.queued result.pending out.new result.at result.texts }
 {
-    let by = head.reference;
-    let reference = by.code;
+    let reference = head.reference.code;
     let told = call_texts::answer_recall(
         reference,
         Told::Kept(Refusal::NothingThere.number()),
@@ -84,7 +78,7 @@ pub fn recall_none(head: Head, nq: usize, nw: usize, texts: u64, out: &mut [u8])
         0,
     );
     Acted {
-        answer: Answer::Refused(Refusal::NothingThere),
+        answer: Err(Refusal::NothingThere),
         queued: nq,
         pending: nw,
         at: told.at,
@@ -107,14 +101,13 @@ pub fn recall(
 ) -> Acted
     requires ready { Ready batches.old queue.old nq pending.old nw × Legible batches.old × (place < 32) }
     requires room { Room out.old 0 texts ((recall head.reference.code Recalled ∷ []) ++ replies_at batches.old place (Rejected (number_of WasRecalled))) }
-    ensures { (result.answer ≡ Done) × Ends ((recall head.reference.code Recalled ∷ []) ++ replies_at batches.old place (Rejected (number_of WasRecalled))) (seen batches.old queue.old nq pending.old nw) place memory.old out.old 0 texts batches.new queue.new result.queued pending.new result.pending memory.new out.new result.at result.texts }
+    ensures { (result.answer ≡ Ok tt) × Ends ((recall head.reference.code Recalled ∷ []) ++ replies_at batches.old place (Rejected (number_of WasRecalled))) (seen batches.old queue.old nq pending.old nw) place memory.old out.old 0 texts batches.new queue.new result.queued pending.new result.pending memory.new out.new result.at result.texts }
 {
-    let by = head.reference;
-    let reference = by.code;
+    let reference = head.reference.code;
     let told = call_texts::answer_recall(reference, Told::Recalled, texts, out, 0);
     ending::end_with(
         Refusal::Recalled,
-        Answer::Done,
+        Ok(()),
         batches,
         queue,
         nq,

@@ -8,7 +8,6 @@ ghost use Rattle.call_message.specs.outcome.Doing.{InRows, Completable, batch_at
 
 use crate::outcome::{Acted, ending};
 use chars::Refusal;
-use model::Answer;
 use settle::Batch;
 
 // A batch that has just taken a message.
@@ -32,7 +31,7 @@ pub fn complete(
     if batches[a + Batch::MESSAGES_THERE] != batches[a + Batch::COUNT] {
         queue::wake_batch(memory, place);
         return Acted {
-            answer: Answer::Done,
+            answer: Ok(()),
             queued: nq,
             pending: nw,
             at: 0,
@@ -42,7 +41,7 @@ pub fn complete(
     if !tables_rules::payments::money::even(&batches[a..e]) {
         return ending::end_with(
             Refusal::Unequal,
-            Answer::Refused(Refusal::Unequal),
+            Err(Refusal::Unequal),
             batches,
             queue,
             nq,
@@ -58,7 +57,7 @@ pub fn complete(
     let tail = call_orders::to_tail(batches, queue, nq, pending, nw, place, clock);
     queue::wake_batch(memory, place);
     Acted {
-        answer: Answer::Done,
+        answer: Ok(()),
         queued: tail.queued,
         pending: tail.pending,
         at: 0,

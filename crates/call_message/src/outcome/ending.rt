@@ -1,8 +1,7 @@
 // A batch is ended: its messages are answered, its place is zeroed, it leaves its order and is no more remembered as held.
-ghost use Rattle.std.specs.Prelude.{◌≡◌, ◌∷◌, [], ◌++◌, ℕ, ◌≤◌, ◌<◌, length};
+ghost use Rattle.std.specs.Prelude.{◌≡◌, ◌∷◌, [], ◌++◌, ℕ, ◌≤◌, ◌<◌, length, Err};
 ghost use Rattle.chars.specs.Refusals.{number_of};
 ghost use Rattle.response_write.specs.declared.Outcome.TheVariants.{Rejected};
-ghost use Rattle.model.specs.declared.Answer.TheVariants.{Refused};
 ghost use Rattle.model.specs.Replies.{settlement};
 ghost use Rattle.call_orders.specs.Stages.{seen, Ready};
 ghost use Rattle.call_texts.specs.Writing.{Room, Legible, replies_at};
@@ -11,13 +10,12 @@ ghost use Rattle.call_message.specs.outcome.Doing.{Ends};
 use crate::outcome::Acted;
 use chars::Refusal;
 use codes::Code;
-use model::Answer;
 use response_write::Outcome;
 
 // With a refusal; what the action then answers is told apart, since a recall is done.
 pub fn end_with(
     refusal: Refusal,
-    answer: Answer,
+    answer: Result<(), Refusal>,
     batches: &mut [u64],
     queue: &mut [u64],
     nq: usize,
@@ -63,7 +61,7 @@ pub fn end_with_message(
 ) -> Acted
     requires ready { Ready batches.old queue.old nq pending.old nw × Legible batches.old × (place < 32) }
     requires room { Room out.old 0 texts (replies_at batches.old place (Rejected (number_of refusal)) ++ (settlement reference bin (Rejected (number_of refusal)) ∷ [])) }
-    ensures { (result.answer ≡ Refused refusal) × Ends (replies_at batches.old place (Rejected (number_of refusal)) ++ (settlement reference bin (Rejected (number_of refusal)) ∷ [])) (seen batches.old queue.old nq pending.old nw) place memory.old out.old 0 texts batches.new queue.new result.queued pending.new result.pending memory.new out.new result.at result.texts }
+    ensures { (result.answer ≡ Err refusal) × Ends (replies_at batches.old place (Rejected (number_of refusal)) ++ (settlement reference bin (Rejected (number_of refusal)) ∷ [])) (seen batches.old queue.old nq pending.old nw) place memory.old out.old 0 texts batches.new queue.new result.queued pending.new result.pending memory.new out.new result.at result.texts }
 {
     let number = refusal.number();
     let first = call_texts::answer_batch(batches, place, Outcome::Rejected(number), texts, out, 0);
@@ -71,7 +69,7 @@ pub fn end_with_message(
     let left = call_orders::end_batch(batches, queue, nq, pending, nw, place);
     queue::wake_batch(memory, place);
     Acted {
-        answer: Answer::Refused(refusal),
+        answer: Err(refusal),
         queued: left.queued,
         pending: left.pending,
         at: told.at,

@@ -10,7 +10,6 @@ ghost use Rattle.call_message.specs.outcome.Doing.{state_on, InRows, Beginnable,
 
 use crate::outcome::{Acted, completing, ending};
 use codes::Code;
-use model::Answer;
 use request_read::terms::Activation;
 use request_read::whole::Reading;
 use settle::Batch;
@@ -37,11 +36,8 @@ fn take_in(
 {
     let mut words = [0u64; 30];
     call_plan::rules::words::put_message(&mut words, codes, desk.banks, r);
-    let terms = r.terms;
-    let head = r.head;
-    let by = head.reference;
-    let reference = by.code;
-    call_orders::arriving::arrive_at(batches, place, reference, terms.number, &words, r.n);
+    let reference = r.head.reference.code;
+    call_orders::arriving::arrive_at(batches, place, reference, r.terms.number, &words, r.n);
     completing::complete(
         desk.clock, batches, queue, nq, pending, nw, memory, place, desk.texts, out,
     )
@@ -78,19 +74,17 @@ pub fn admit(
         r,
     );
     match fault {
-        Answer::Refused(f) => {
+        Err(f) => {
             let bin = Code {
                 high: batches[a + 2],
                 low: batches[a + 3],
             };
-            let head = r.head;
-            let by = head.reference;
-            let reference = by.code;
+            let reference = r.head.reference.code;
             ending::end_with_message(
                 f, reference, bin, batches, queue, nq, pending, nw, memory, place, desk.texts, out,
             )
         }
-        Answer::Done => take_in(
+        Ok(()) => take_in(
             desk, codes, flags, r, batches, queue, nq, pending, nw, memory, place, out,
         ),
     }
@@ -126,14 +120,9 @@ pub fn begin(
     requires { Beginnable desk codes.now flags.now r batches.old queue.old nq pending.old nw place out.old × (stream ≤ 8) }
     ensures { (c : Batches) (n : Accounts) (o k : Known) → InRows (admit (state_on desk codes.now flags.now c n o) r stream (with_place (seen batches.old queue.old nq pending.old nw) place (live (first_batch (state_on desk codes.now flags.now c n o) r))) k place (first_batch (state_on desk codes.now flags.now c n o) r)) memory.old out.old 0 desk.texts result.answer batches.new queue.new result.queued pending.new result.pending memory.new out.new result.at result.texts }
 {
-    let head = r.head;
-    let address = head.address;
-    let named = address.bin;
-    let bin = named.code;
-    let terms = r.terms;
-    let activation = terms.activation;
-    let word = activation_word(activation);
-    call_orders::arriving::begin_at(batches, place, bin, terms.count, word);
+    let bin = r.head.address.bin.code;
+    let word = activation_word(r.terms.activation);
+    call_orders::arriving::begin_at(batches, place, bin, r.terms.count, word);
     admit(
         desk, codes, flags, stream, r, batches, queue, nq, pending, nw, memory, place, out,
     )

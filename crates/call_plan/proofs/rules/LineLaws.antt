@@ -1,7 +1,7 @@
 -- One payment, and the payments of a message.
 use Prim.Native.Nat.{ℕ, zero, suc, ◌+◌, ◌-◌, ◌*◌, ◌≤◌, ◌<◌}
 use mathlib.Core.Path.{◌≡◌, refl, sym, ap, subst, ◌∙◌}
-use mathlib.Core.Bool.{Bool, true, false, cond}
+use mathlib.Core.Bool.{cond}
 use mathlib.Core.List.{List, [], ◌∷◌}
 use native.Mathlib.Omega.{arith}
 use native.Mathlib.Numerals.{add-one}
@@ -11,59 +11,37 @@ use lib.Seq.{length-take-le, drop-cons, get_or-take}
 use Rattle.chars.specs.declared.Refusal.{Refusal}
 use Rattle.chars.specs.declared.Refusal.TheVariants.{UnknownBank, SuspendedBank, Malformed}
 use Rattle.request_read.specs.declared.payments.Payment.{Payment as Line}
-use Rattle.model.specs.declared.Answer.{Answer}
-use Rattle.model.specs.declared.Answer.TheVariants.{Done, Refused}
+use Rattle.model.specs.Answers.{Answer}
 use Rattle.model.specs.State.{Found, at, nowhere, on_found}
 use Rattle.model.specs.Messages.{bank_place, is_suspended, is_member}
 use Rattle.model.proofs.Seeking.{bank_below}
-use Rattle.tables.specs.declared.Sought.{Sought}
-use Rattle.tables.specs.declared.Sought.TheVariants.{Here, Nowhere}
 use Rattle.tables.specs.Seeking.{found_by}
-use Rattle.call_plan.specs.declared.rules.Standing.{Standing}
-use Rattle.call_plan.specs.declared.rules.Standing.TheVariants.{Good, Bad}
+use Rattle.std.specs.Option.{ok_or}
+use Rattle.std.specs.Prelude.{Result, Ok, Err, Option, Some}
+use Rattle.call_plan.proofs.rules.Asked.{some_of}
 use Rattle.call_plan.specs.rules.Steps.{banks_house, standing_of, line_on, taken_on, lines_on, marked}
 use Rattle.queue.proofs.MemoryLaws.{by_bool}
 
--- ---- the first three rules
+-- ---- a bank that is there
 
-module _ (banks : ℕ) (codes flags : List ℕ) (stream code : ℕ) (r : Sought) (is : found_by r ≡ bank_place (banks_house banks codes []) code) where
-  pub standing_none : r ≡ Nowhere → Bad UnknownBank ≡ standing_of banks codes flags stream code
-  unfolding standing_of
-  standing_none e = rw (sym is, e)
-
-  module _ (p : ℕ) (e : r ≡ Here p) where
-    there : bank_place (banks_house banks codes []) code ≡ at p
-    there = sym is ∙ rw e
-
-    pub standing_below : banks ≤ length flags → p < length flags
-    standing_below k = let h : p < banks = bank_below (banks_house banks codes []) code p there in omega arith
-
-    module _ (b : Bool) (s : b ≡ is_suspended (banks_house 0 [] flags) p) where
-      pub standing_suspended : b ≡ true → Bad SuspendedBank ≡ standing_of banks codes flags stream code
-      unfolding standing_of
-      standing_suspended f = rw (there, sym s, f)
-
-      module _ (f : b ≡ false) (d : Bool) (m : d ≡ is_member (banks_house 0 [] flags) stream p) where
-        pub standing_good : d ≡ true → Good p ≡ standing_of banks codes flags stream code
-        unfolding standing_of
-        standing_good g = rw (there, sym s, f, sym m, g)
-
-        pub standing_outside : d ≡ false → Bad UnknownBank ≡ standing_of banks codes flags stream code
-        unfolding standing_of
-        standing_outside g = rw (there, sym s, f, sym m, g)
+pub bank_inside : (banks : ℕ) (codes : List ℕ) (code : ℕ) (s : Option ℕ) (f : Refusal) (p : ℕ) {r : Result ℕ Refusal} → found_by s ≡ bank_place (banks_house banks codes []) code
+    → r ≡ ok_or s f → r ≡ Ok p → p < banks
+bank_inside banks codes code s f p is e g =
+    let t : s ≡ Some p = some_of s f e g in
+    bank_below (banks_house banks codes []) code p (sym is ∙ rw t)
 
 -- ---- the fourth
 
-abbrev Below : ℕ → Standing → Type 0
-Below banks (Good q) = q < banks
-Below banks (Bad f) = Unit {0}
+abbrev Below : ℕ → Result ℕ Refusal → Type 0
+Below banks (Ok q) = q < banks
+Below banks (Err f) = Unit {0}
 
 standing_inside : (banks : ℕ) (codes flags : List ℕ) (stream code : ℕ) → Below banks (standing_of banks codes flags stream code)
 unfolding standing_of
 standing_inside banks codes flags stream code = go (bank_place (banks_house banks codes []) code) refl
   where
     go : (f : Found) → bank_place (banks_house banks codes []) code ≡ f
-        → Below banks (on_found f (Bad UnknownBank) (λ q. cond (is_suspended (banks_house 0 [] flags) q) (Bad SuspendedBank) (cond (is_member (banks_house 0 [] flags) stream q) (Good q) (Bad UnknownBank))))
+        → Below banks (on_found f (Err UnknownBank) (λ q. cond (is_suspended (banks_house 0 [] flags) q) (Err SuspendedBank) (cond (is_member (banks_house 0 [] flags) stream q) (Ok q) (Err UnknownBank))))
     go nowhere f = tt
     go (at q) f =
         by_bool (is_suspended (banks_house 0 [] flags) q)
@@ -72,27 +50,21 @@ standing_inside banks codes flags stream code = go (bank_place (banks_house bank
         (λ u. rw (t, u) (bank_below (banks_house banks codes []) code q f))
         (λ u. rw (t, u) tt))
 
-pub good_below : (banks : ℕ) (codes flags : List ℕ) (stream code : ℕ) (s : Standing) (p : ℕ) → s ≡ standing_of banks codes flags stream code → s ≡ Good p → p < banks
-good_below banks codes flags stream code s p is e = subst (λ (x : Standing). Below banks x) (sym is ∙ e) (standing_inside banks codes flags stream code)
+pub good_below : (banks : ℕ) (codes flags : List ℕ) (stream code : ℕ) (s : Result ℕ Refusal) (p : ℕ) → s ≡ standing_of banks codes flags stream code → s ≡ Ok p → p < banks
+good_below banks codes flags stream code s p is e = subst (λ (x : Result ℕ Refusal). Below banks x) (sym is ∙ e) (standing_inside banks codes flags stream code)
 
-module _ (banks : ℕ) (codes flags : List ℕ) (stream code : ℕ) (s : Standing) (is : s ≡ standing_of banks codes flags stream code) where
-  pub taken_below : (m : List ℕ) (p : ℕ) → s ≡ Good p → banks ≤ length m → p < length m
+module _ (banks : ℕ) (codes flags : List ℕ) (stream code : ℕ) (s : Result ℕ Refusal) (is : s ≡ standing_of banks codes flags stream code) where
+  pub taken_below : (m : List ℕ) (p : ℕ) → s ≡ Ok p → banks ≤ length m → p < length m
   taken_below m p e k = let h : p < banks = good_below banks codes flags stream code s p is e in omega arith
 
-  pub bad_answer : (m : List ℕ) (f : Refusal) → s ≡ Bad f → Refused f ≡ line_on (standing_of banks codes flags stream code) m
-  bad_answer m f e = rw (sym is, e)
-
-  pub bad_marks : (m : List ℕ) (f : Refusal) → s ≡ Bad f → m ≡ taken_on (standing_of banks codes flags stream code) m
-  bad_marks m f e = rw (sym is, e)
-
-  module _ (m : List ℕ) (p : ℕ) (e : s ≡ Good p) where
-    pub taken_answer : (get_or m p 0 ≡ 0 → ⊥) → Refused Malformed ≡ line_on (standing_of banks codes flags stream code) m
+  module _ (m : List ℕ) (p : ℕ) (e : s ≡ Ok p) where
+    pub taken_answer : (get_or m p 0 ≡ 0 → ⊥) → Err Malformed ≡ line_on (standing_of banks codes flags stream code) m
     taken_answer h = rw (sym is, e, ne_eqb (get_or m p 0) 0 h)
 
     pub taken_marks : (get_or m p 0 ≡ 0 → ⊥) → m ≡ taken_on (standing_of banks codes flags stream code) m
     taken_marks h = rw (sym is, e, ne_eqb (get_or m p 0) 0 h)
 
-    pub done_answer : get_or m p 0 ≡ 0 → Done ≡ line_on (standing_of banks codes flags stream code) m
+    pub done_answer : get_or m p 0 ≡ 0 → (Ok tt) ≡ line_on (standing_of banks codes flags stream code) m
     done_answer h = rw (sym is, e, eq-eqb (get_or m p 0) 0 h)
 
     pub done_marks : get_or m p 0 ≡ 0 → set m p 1 ≡ taken_on (standing_of banks codes flags stream code) m
@@ -137,7 +109,7 @@ line_cut ls n i d h k e =
     rw (add-one i) (drop-cons (take n ls) i d (omega arith) ∙ rw (get_or-take n ls i d h))
 
 module _ (banks : ℕ) (codes flags : List ℕ) (stream : ℕ) (ls : List Line) (n i : ℕ) (m : List ℕ) {x : Answer} (inv : x ≡ lines_on banks codes flags stream m (drop i (take n ls))) where
-  pub lines_end : n ≤ i → n ≤ 10 → length ls ≡ 10 → Done ≡ x
+  pub lines_end : n ≤ i → n ≤ 10 → length ls ≡ 10 → (Ok tt) ≡ x
   unfolding lines_on
   lines_end h k e =
       let w : n ≤ length ls = omega arith in
@@ -146,11 +118,11 @@ module _ (banks : ℕ) (codes flags : List ℕ) (stream : ℕ) (ls : List Line) 
       sym (inv ∙ rw d)
 
   module _ (h : i < n) (k : n ≤ 10) (e : length ls ≡ 10) (d : Line) (a : Answer) (is : a ≡ line_on (standing_of banks codes flags stream (get_or ls i d).bank.number) m) where
-    pub lines_here : (f : Refusal) → a ≡ Refused f → Refused f ≡ x
+    pub lines_here : (f : Refusal) → a ≡ Err f → Err f ≡ x
     unfolding lines_on
     lines_here f g = sym (inv ∙ rw (line_cut ls n i d h k e, sym is, g))
 
-    pub lines_on_lem : (m' : List ℕ) → a ≡ Done → m' ≡ taken_on (standing_of banks codes flags stream (get_or ls i d).bank.number) m
+    pub lines_on_lem : (m' : List ℕ) → a ≡ Ok tt → m' ≡ taken_on (standing_of banks codes flags stream (get_or ls i d).bank.number) m
         → x ≡ lines_on banks codes flags stream m' (drop (i + 1) (take n ls))
     unfolding lines_on
     lines_on_lem m' g w = inv ∙ rw (line_cut ls n i d h k e, sym is, g, w)

@@ -1,4 +1,5 @@
 -- The tests over rows are the model's rules.
+use Rattle.std.specs.Prelude.{Ok, Err}
 use Prim.Native.Nat.{ℕ, zero, suc, ◌+◌, ◌*◌, ◌≤◌, ◌<◌}
 use mathlib.Core.Path.{◌≡◌, refl, sym, ap, ◌∙◌}
 use mathlib.Core.Bool.{Bool, true, false, not, cond, ◌||◌}
@@ -17,8 +18,7 @@ use Rattle.request_read.specs.declared.payments.Payment.{Payment as Line}
 use Rattle.request_read.specs.declared.whole.Reading.{Reading}
 use Rattle.queue.proofs.MemoryLaws.{by_bool}
 use Rattle.settle.specs.Payments.{Payment, payment, payment_at, payments_from, bank_of}
-use Rattle.model.specs.declared.Answer.{Answer}
-use Rattle.model.specs.declared.Answer.TheVariants.{Done, Refused}
+use Rattle.model.specs.Answers.{Answer}
 use Rattle.model.specs.State.{Found, at, nowhere, House, State, payments_of}
 use Rattle.model.specs.Messages.{first_broken, bank_place, is_suspended, is_member, line_rules, message_rules, same_activation, has_number, banks_in}
 use Rattle.model.proofs.Seeking.{bank_below}
@@ -121,10 +121,10 @@ module _ (s : State) (r : Reading) where
 -- ---- the whole
 
 abbrev five : (c a n p f : Bool) → Answer → Answer
-five c a n p f l = cond c (cond a (cond (not n) (cond p (cond f l (Refused FutureDate)) (Refused PastDate)) (Refused Malformed)) (Refused Malformed)) (Refused Malformed)
+five c a n p f l = cond c (cond a (cond (not n) (cond p (cond f l (Err FutureDate)) (Err PastDate)) (Err Malformed)) (Err Malformed)) (Err Malformed)
 
 five_done : (c a n p f : Bool) (l : Answer)
-    → on_done (cond c (cond a (cond n (Refused Malformed) (cond p (cond f Done (Refused FutureDate)) (Refused PastDate))) (Refused Malformed)) (Refused Malformed)) l ≡ five c a n p f l
+    → on_done (cond c (cond a (cond n (Err Malformed) (cond p (cond f (Ok tt) (Err FutureDate)) (Err PastDate))) (Err Malformed)) (Err Malformed)) l ≡ five c a n p f l
 five_done false a n p f l = refl
 five_done true false n p f l = refl
 five_done true true true p f l = refl
@@ -163,13 +163,13 @@ module _ (s : State) (r : Reading) (stream : ℕ) (row : List ℕ) (few : s.hous
 -- ---- in the terms of the code
 
 module _ (date banks : ℕ) (codes flags : List ℕ) (stream : ℕ) (row : List ℕ) (r : Reading) (few : banks ≤ 64) (counted : Counted row) (h : Answer) (is : h ≡ head_on date row r.terms) where
-  pub message_stops : (f : Refusal) → h ≡ Refused f → Refused f ≡ first_broken (message_rules (state_of date banks codes flags) r stream (batch_in row))
+  pub message_stops : (f : Refusal) → h ≡ Err f → Err f ≡ first_broken (message_rules (state_of date banks codes flags) r stream (batch_in row))
   unfolding message_on
   message_stops f e =
-      let g : message_on date banks codes flags stream row r ≡ Refused f = rw (sym is, e) in
+      let g : message_on date banks codes flags stream row r ≡ Err f = rw (sym is, e) in
       sym g ∙ message_meets (state_of date banks codes flags) r stream row few counted
 
-  pub message_goes : (m : List ℕ) (a : Answer) → h ≡ Done → m ≡ marked row 49 (get_or row 8 0) (replicate 64 0)
+  pub message_goes : (m : List ℕ) (a : Answer) → h ≡ Ok tt → m ≡ marked row 49 (get_or row 8 0) (replicate 64 0)
       → a ≡ lines_on banks codes flags stream m (take r.n r.payments)
       → a ≡ first_broken (message_rules (state_of date banks codes flags) r stream (batch_in row))
   unfolding message_on

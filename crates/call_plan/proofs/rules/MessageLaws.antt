@@ -1,4 +1,5 @@
 -- What a message says of itself, before its payments.
+use Rattle.std.specs.Prelude.{Ok, Err}
 use Prim.Native.Nat.{ℕ, zero, suc, ◌+◌, ◌-◌, ◌*◌, ◌≤◌, ◌<◌}
 use mathlib.Core.Path.{◌≡◌, refl, sym, ◌∙◌}
 use mathlib.Core.Bool.{Bool, true, false, not}
@@ -11,7 +12,6 @@ use Rattle.chars.specs.declared.Refusal.TheVariants.{PastDate, FutureDate, Malfo
 use Rattle.request_read.specs.declared.terms.Activation.{Activation}
 use Rattle.request_read.specs.declared.terms.Activation.TheVariants.{AtOnce, Minute}
 use Rattle.request_read.specs.declared.terms.Terms.{Terms}
-use Rattle.model.specs.declared.Answer.TheVariants.{Done, Refused}
 use Rattle.call_plan.specs.rules.Steps.{same_word, numbered, head_on}
 
 -- ---- the activation
@@ -55,29 +55,25 @@ module _ (row : List ℕ) (k n i : ℕ) {x : Bool} (inv : x ≡ numbered_from ro
 -- ---- in their order
 
 module _ (date : ℕ) (row : List ℕ) (t : Terms) where
-  pub head_count : (t.count ≡ get_or row 4 0 → ⊥) → Refused Malformed ≡ head_on date row t
-  unfolding head_on
-  head_count h = rw (ne_eqb t.count (get_or row 4 0) h)
-
   module _ (c : t.count ≡ get_or row 4 0) (a : Bool) (p : a ≡ same_word t.activation (get_or row 5 0)) where
-    pub head_activation : not a ≡ true → Refused Malformed ≡ head_on date row t
+    pub head_activation : not a ≡ true → Err Malformed ≡ head_on date row t
     unfolding head_on
     head_activation h = rw (eq-eqb t.count (get_or row 4 0) c, sym p, not-true a h)
 
     module _ (g : not a ≡ false) (b : Bool) (bs : b ≡ numbered row t.number 0 (get_or row 7 0)) where
-      pub head_number : b ≡ true → Refused Malformed ≡ head_on date row t
+      pub head_number : b ≡ true → Err Malformed ≡ head_on date row t
       unfolding head_on
       head_number h = rw (eq-eqb t.count (get_or row 4 0) c, sym p, not-false a g, sym bs, h)
 
       module _ (f : b ≡ false) where
-        pub head_past : t.date.number < date → Refused PastDate ≡ head_on date row t
+        pub head_past : t.date.number < date → Err PastDate ≡ head_on date row t
         unfolding head_on
         head_past h = rw (eq-eqb t.count (get_or row 4 0) c, sym p, not-false a g, sym bs, f, lt-leb date t.date.number h)
 
-        pub head_future : date ≤ t.date.number → date < t.date.number → Refused FutureDate ≡ head_on date row t
+        pub head_future : date ≤ t.date.number → date < t.date.number → Err FutureDate ≡ head_on date row t
         unfolding head_on
         head_future l h = rw (eq-eqb t.count (get_or row 4 0) c, sym p, not-false a g, sym bs, f, le-leb date t.date.number l, lt-leb t.date.number date h)
 
-        pub head_done : date ≤ t.date.number → t.date.number ≤ date → Done ≡ head_on date row t
+        pub head_done : date ≤ t.date.number → t.date.number ≤ date → (Ok tt) ≡ head_on date row t
         unfolding head_on
         head_done l h = rw (eq-eqb t.count (get_or row 4 0) c, sym p, not-false a g, sym bs, f, le-leb date t.date.number l, le-leb t.date.number date h)

@@ -1,12 +1,11 @@
 -- Places and flags.
 use Prim.Native.Nat.{ℕ, suc, ◌+◌, ◌-◌, ◌*◌, ◌/◌, ◌%◌, ◌^◌, ◌≤◌, ◌<◌}
 use mathlib.Core.Path.{◌≡◌, refl, sym, ◌∙◌}
-use mathlib.Core.Bool.{Bool, false}
+use mathlib.Core.Bool.{Bool}
 use mathlib.Core.List.{List, [], ◌∷◌}
 use native.Mathlib.Omega.{arith}
 use borrow.Author.Tests.{eq-eqb, ne_eqb}
 use lib.Dec.{eqb}
-use lib.Pow.{pow_pos}
 use lib.ListN.{get_or, take, drop}
 use Rattle.book_read.specs.Accounts.{Stream}
 use Rattle.book_read.specs.Book.{each}
@@ -50,6 +49,3 @@ module _ (t : List ℕ) (n i code : ℕ) {x : Found} (inv : x ≡ streams_from c
 
 pub member_bit : (flags : List ℕ) (place stream b : ℕ) → b ≡ 2 ^ stream → eqb (get_or flags place 0 / 2 / b % 2) 1 ≡ is_member (banks_house 0 [] flags) stream place
 member_bit flags place stream b e = rw e
-
-pub member_zero : (flags : List ℕ) (place stream b : ℕ) → b ≡ 2 ^ stream → b ≡ 0 → false ≡ is_member (banks_house 0 [] flags) stream place
-member_zero flags place stream b e z = absurd (omega (arith, pow_pos stream, e, z))

@@ -10,19 +10,9 @@ use Rattle.request_read.specs.declared.whole.Reading.{Reading}
 use Rattle.settle.specs.Payments.{Payment, payment_at, payments_from}
 use Rattle.model.specs.State.{State}
 use Rattle.model.specs.Messages.{bank_place, line_payment, line_payments, arrived}
-use Rattle.tables.specs.declared.Sought.{Sought}
-use Rattle.tables.specs.declared.Sought.TheVariants.{Here, Nowhere}
-use Rattle.tables.specs.Seeking.{found_by}
 use Rattle.call_orders.specs.Arriving.{message_of}
 use Rattle.call_plan.specs.rules.Steps.{banks_house, place_or, line_words, state_of}
 use Rattle.call_plan.proofs.rules.LineLaws.{line_cut}
-
-module _ (banks : ℕ) (codes : List ℕ) (code : ℕ) (r : Sought) (is : found_by r ≡ bank_place (banks_house banks codes []) code) where
-  pub place_here : (p : ℕ) → r ≡ Here p → p ≡ place_or banks codes code
-  place_here p e = rw (sym is, e)
-
-  pub place_none : r ≡ Nowhere → 0 ≡ place_or banks codes code
-  place_none e = rw (sym is, e)
 
 pub put_triple : (banks : ℕ) (codes : List ℕ) (code : ℕ) (w : List ℕ) (a k x y : ℕ) → k ≡ place_or banks codes code
     → set (set (set w a k) (a + 1) x) (a + 2) y ≡ set (set (set w a (place_or banks codes code)) (a + 1) x) (a + 2) y

@@ -1,5 +1,5 @@
 -- What is to be done with a message, by steps 1 to 5: each choice over just what it looks at.
-use Rattle.std.specs.Prelude.{ℕ, ◌≤◌, ◌≡◌, Bool, true, false, cond, List, eqb, length, get_or}
+use Rattle.std.specs.Prelude.{ℕ, ◌≤◌, ◌≡◌, Bool, true, false, cond, List, eqb, length, get_or, Result, Ok, Err}
 use Rattle.chars.specs.declared.Refusal.{Refusal}
 use Rattle.chars.specs.declared.Refusal.TheVariants.{NoRoom, WrongSender, UsedReference, Malformed}
 use Rattle.codes.specs.declared.Code.{Code}
@@ -13,14 +13,12 @@ use Rattle.model.specs.Memory.{is_used, vacant}
 use Rattle.model.specs.Messages.{no_stream, is_broken_part, assembling, waiting}
 use Rattle.call_plan.specs.declared.plan.Plan.{Plan}
 use Rattle.call_plan.specs.declared.plan.Plan.TheVariants.{Untouched, Rejects, Alone, Comes, Begins, RecallsNone, Recalls}
-use Rattle.call_plan.specs.declared.plan.Sent.{Sent}
-use Rattle.call_plan.specs.declared.plan.Sent.TheVariants.{In, Not}
 
 -- "Stream not in the book 87; sender not that stream's administrator 73."
-unfoldable pub sent_on : List Stream → (sender code : ℕ) → Sent
+unfoldable pub sent_on : List Stream → (sender code : ℕ) → Result ℕ Refusal
 sent_on streams sender code =
-    on_found (seek (λ x. eqb x.code code) streams) (Not Malformed) (λ i.
-    cond (eqb sender (get_or streams i no_stream).sender) (In i) (Not WrongSender))
+    on_found (seek (λ x. eqb x.code code) streams) (Err Malformed) (λ i.
+    cond (eqb sender (get_or streams i no_stream).sender) (Ok i) (Err WrongSender))
 
 -- a 131 that is refused and not noted: a batch that its BIN is assembling is rejected with the same number
 abbrev pub rejects_on : Found → Refusal → Plan
@@ -53,9 +51,9 @@ recall_on today b references reference bin =
     (Untouched UsedReference)
     (on_found (vacant today references) (Untouched NoRoom) (λ q. on_found (waiting b bin) (RecallsNone q) (λ p. Recalls p q)))
 
-abbrev pub is_in : Sent → Bool
-is_in (In i) = true
-is_in (Not f) = false
+abbrev pub is_in : Result ℕ Refusal → Bool
+is_in (Ok i) = true
+is_in (Err f) = false
 
 -- "where step 1 fails in a 131 after 22A and 119 were read well, the stream is known, the sender is its administrator and that BIN is being assembled, the
 -- batch ends with the same code"
@@ -65,9 +63,9 @@ broken_on streams sender h k b =
     (cond (is_in (sent_on streams sender h.address.stream.number)) (rejects_on (assembling b h.address.bin.code) k.refusal) (Untouched k.refusal))
     (Untouched k.refusal)
 
-abbrev pub on_sent : Sent → (ℕ → Plan) → Plan
-on_sent (In i) k = k i
-on_sent (Not f) k = Untouched f
+abbrev pub on_sent : Result ℕ Refusal → (ℕ → Plan) → Plan
+on_sent (Ok i) k = k i
+on_sent (Err f) k = Untouched f
 
 abbrev pub plan_on : (today : ℕ) → List Stream → (sender : ℕ) → Outcome → Head → Batches → (references bins : List Entry) → Plan
 plan_on today streams sender Settlement h b rs bs =

@@ -1,5 +1,7 @@
 -- The tests of a message, over the rows in which they find the house and the banks that are taken.
 use Rattle.std.specs.Prelude.{ℕ, zero, suc, ◌+◌, ◌*◌, ◌≤◌, ◌≡◌, Bool, true, false, ◌||◌, cond, List, [], ◌∷◌, eqb, leb, length, get_or, set, take, replicate}
+use Rattle.std.specs.Prelude.{Result, Ok, Err}
+use Rattle.chars.specs.declared.Refusal.{Refusal}
 use Rattle.chars.specs.declared.Refusal.TheVariants.{UnknownBank, SuspendedBank, PastDate, FutureDate, Malformed}
 use Rattle.request_read.specs.declared.terms.Activation.{Activation}
 use Rattle.request_read.specs.declared.terms.Activation.TheVariants.{AtOnce, Minute}
@@ -10,14 +12,11 @@ use Rattle.book_read.specs.Book.{each}
 use Rattle.book_write.specs.Closing.{stream_of}
 use Rattle.settle.specs.Payments.{payments_from}
 use Rattle.settle.specs.Settlement.{accounts}
+use Rattle.model.specs.Answers.{Answer}
 use Rattle.model.specs.declared.Phase.TheVariants.{Fresh}
-use Rattle.model.specs.declared.Answer.{Answer}
-use Rattle.model.specs.declared.Answer.TheVariants.{Done, Refused}
 use Rattle.model.specs.State.{on_found, House, Batch, State, payments_of}
 use Rattle.model.specs.Messages.{bank_place, is_suspended, is_member}
 use Rattle.tables.specs.Rows.{word, batch_in, batch_rows}
-use Rattle.call_plan.specs.declared.rules.Standing.{Standing}
-use Rattle.call_plan.specs.declared.rules.Standing.TheVariants.{Good, Bad}
 
 -- the banks of a house, and its streams
 abbrev pub banks_house : (banks : ℕ) (codes flags : List ℕ) → House
@@ -29,30 +28,30 @@ streams_house streams n = record { streams = each (stream_of streams) 0 n; banks
 -- ---- one payment
 
 -- a bank that is there, active and in the stream
-unfoldable pub standing_of : (banks : ℕ) (codes flags : List ℕ) (stream code : ℕ) → Standing
+unfoldable pub standing_of : (banks : ℕ) (codes flags : List ℕ) (stream code : ℕ) → Result ℕ Refusal
 standing_of banks codes flags stream code =
-    on_found (bank_place (banks_house banks codes []) code) (Bad UnknownBank) (λ p.
+    on_found (bank_place (banks_house banks codes []) code) (Err UnknownBank) (λ p.
     cond (is_suspended (banks_house 0 [] flags) p)
-    (Bad SuspendedBank)
-    (cond (is_member (banks_house 0 [] flags) stream p) (Good p) (Bad UnknownBank)))
+    (Err SuspendedBank)
+    (cond (is_member (banks_house 0 [] flags) stream p) (Ok p) (Err UnknownBank)))
 
 -- of the places that are taken the marks are not 0
-abbrev pub line_on : Standing → (marks : List ℕ) → Answer
-line_on (Bad f) m = Refused f
-line_on (Good p) m = cond (eqb (get_or m p 0) 0) Done (Refused Malformed)
+abbrev pub line_on : Result ℕ Refusal → (marks : List ℕ) → Answer
+line_on (Err f) m = Err f
+line_on (Ok p) m = cond (eqb (get_or m p 0) 0) (Ok tt) (Err Malformed)
 
-abbrev pub taken_on : Standing → (marks : List ℕ) → List ℕ
-taken_on (Bad f) m = m
-taken_on (Good p) m = cond (eqb (get_or m p 0) 0) (set m p 1) m
+abbrev pub taken_on : Result ℕ Refusal → (marks : List ℕ) → List ℕ
+taken_on (Err f) m = m
+taken_on (Ok p) m = cond (eqb (get_or m p 0) 0) (set m p 1) m
 
 -- ---- the payments of a message, in order
 
 abbrev pub on_done : Answer → Answer → Answer
-on_done Done a = a
-on_done (Refused f) a = Refused f
+on_done (Ok tt) a = a
+on_done (Err f) a = Err f
 
 unfoldable pub lines_on : (banks : ℕ) (codes flags : List ℕ) (stream : ℕ) (marks : List ℕ) → List Line → Answer
-lines_on banks codes flags stream m [] = Done
+lines_on banks codes flags stream m [] = Ok tt
 lines_on banks codes flags stream m (l ∷ ls) =
     let s = standing_of banks codes flags stream l.bank.number in
     on_done (line_on s m) (lines_on banks codes flags stream (taken_on s m) ls)
@@ -81,10 +80,10 @@ head_on date row t =
     cond (eqb t.count (word row 4))
     (cond (same_word t.activation (word row 5))
     (cond (numbered row t.number 0 (word row 7))
-    (Refused Malformed)
-    (cond (leb date t.date.number) (cond (leb t.date.number date) Done (Refused FutureDate)) (Refused PastDate)))
-    (Refused Malformed))
-    (Refused Malformed)
+    (Err Malformed)
+    (cond (leb date t.date.number) (cond (leb t.date.number date) (Ok tt) (Err FutureDate)) (Err PastDate)))
+    (Err Malformed))
+    (Err Malformed)
 
 -- ---- the whole
 

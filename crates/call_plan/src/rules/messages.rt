@@ -4,9 +4,9 @@ ghost use Rattle.model.specs.Messages.{first_broken, message_rules};
 ghost use Rattle.tables.specs.Rows.{word, batch_in};
 ghost use Rattle.call_plan.specs.rules.Steps.{same_word, numbered, head_on, Counted, state_of};
 
+use crate::rules::banks::Banks;
 use crate::rules::lines;
 use chars::Refusal;
-use model::Answer;
 use request_read::terms::{Activation, Terms};
 use request_read::whole::Reading;
 
@@ -16,12 +16,7 @@ fn same_activation(a: Activation, word: u64) -> bool
 {
     match a {
         Activation::AtOnce => word == 0,
-        Activation::Minute(m) => {
-            if word == 0 {
-                return false;
-            }
-            m == word - 1
-        }
+        Activation::Minute(m) => word != 0 && m == word - 1,
     }
 }
 
@@ -30,41 +25,39 @@ fn has_number(row: &[u64], number: u64) -> bool
     ensures { result ≡ numbered row.now number 0 (word row.now 7) }
 {
     let n = row[7] as usize;
-    let mut i = 0;
-    while i < n {
+    for i in 0..n {
         if row[11 + 4 * i] == number {
             return true;
         }
-        i += 1;
     }
     false
 }
 
-fn head_fault(date: u64, row: &[u64], terms: Terms) -> Answer
+#[tactic(auto, unfolding(crate::specs::rules::Steps::head_on))]
+fn head_fault(date: u64, row: &[u64], terms: Terms) -> Result<(), Refusal>
     requires { (length row.now ≡ 349) × (word row.now 7 ≤ 10) }
     ensures { result ≡ head_on date row.now terms }
 {
     if terms.count != row[4] {
-        return Answer::Refused(Refusal::Malformed);
+        return Err(Refusal::Malformed);
     }
-    let activation = terms.activation;
-    if !same_activation(activation, row[5]) {
-        return Answer::Refused(Refusal::Malformed);
+    if !same_activation(terms.activation, row[5]) {
+        return Err(Refusal::Malformed);
     }
     if has_number(row, terms.number) {
-        return Answer::Refused(Refusal::Malformed);
+        return Err(Refusal::Malformed);
     }
-    let day = terms.date;
-    if day.number < date {
-        return Answer::Refused(Refusal::PastDate);
+    if terms.date.number < date {
+        return Err(Refusal::PastDate);
     }
-    if date < day.number {
-        return Answer::Refused(Refusal::FutureDate);
+    if date < terms.date.number {
+        return Err(Refusal::FutureDate);
     }
-    Answer::Done
+    Ok(())
 }
 
 // The row is the batch's, and the stream is the place of the message's.
+#[tactic(auto, using(crate::proofs::rules::Meets::message_goes))]
 pub fn message_fault(
     date: u64,
     codes: &[u64],
@@ -73,21 +66,20 @@ pub fn message_fault(
     stream: usize,
     row: &[u64],
     r: Reading,
-) -> Answer
+) -> Result<(), Refusal>
     requires banks_in_bounds { (banks ≤ length codes.now) × (banks ≤ length flags.now) × (stream ≤ 8) }
     requires banks_bound { (banks ≤ 64) × (r.n ≤ 10) × Counted row.now }
     ensures { result ≡ first_broken (message_rules (state_of date banks codes.now flags.now) r stream (batch_in row.now)) }
 {
-    let terms = r.terms;
-    let head = head_fault(date, row, terms);
-    match head {
-        Answer::Refused(f) => {
-            return Answer::Refused(f);
-        }
-        Answer::Done => {}
-    }
+    head_fault(date, row, r.terms)?;
     let payments = r.payments;
     let mut taken = [0u64; 64];
     lines::mark_row(row, &mut taken);
-    lines::lines_fault(codes, banks, flags, stream, &mut taken, payments, r.n)
+    let house = Banks {
+        codes,
+        flags,
+        count: banks,
+        stream,
+    };
+    lines::lines_fault(&house, &mut taken, payments, r.n)
 }

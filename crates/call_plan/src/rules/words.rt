@@ -8,42 +8,31 @@ ghost use Rattle.call_plan.specs.rules.Steps.{place_or, line_words, state_of};
 use crate::rules::places;
 use request_read::payments::Payment;
 use request_read::whole::Reading;
-use tables::Sought;
 
 // 0 where there is no such bank.
 fn place_or(codes: &[u64], banks: usize, code: u64) -> u64
     requires { banks ≤ length codes.now }
     ensures { result ≡ place_or banks codes.now code }
 {
-    let found = places::bank_place(codes, banks, code);
-    match found {
-        Sought::Here(p) => p as u64,
-        Sought::Nowhere => 0,
-    }
+    places::bank_place(codes, banks, code).unwrap_or(0) as u64
 }
 
 fn put_line(words: &mut [u64], at: usize, codes: &[u64], banks: usize, line: Payment)
     requires { (at + 3 ≤ length words.old) × (banks ≤ length codes.now) }
     ensures { words.new ≡ set (set (set words.old at (place_or banks codes.now line.bank.number)) (at + 1) line.amount.number) (at + 2) line.letters.number }
 {
-    let bank = line.bank;
-    let amount = line.amount;
-    let letters = line.letters;
-    let place = place_or(codes, banks, bank.number);
-    words[at] = place;
-    words[at + 1] = amount.number;
-    words[at + 2] = letters.number;
+    words[at] = place_or(codes, banks, line.bank.number);
+    words[at + 1] = line.amount.number;
+    words[at + 2] = line.letters.number;
 }
 
 fn put_lines(words: &mut [u64], codes: &[u64], banks: usize, lines: [Payment; 10], n: usize)
     requires { (3 * n ≤ length words.old) × (banks ≤ length codes.now) × (n ≤ 10) }
     ensures { (words.new ≡ sets words.old 0 (line_words banks codes.now (take n lines))) × (length (take n lines) ≡ n) }
 {
-    let mut i = 0;
-    while i < n {
+    for i in 0..n {
         let line = lines[i];
         put_line(words, 3 * i, codes, banks, line);
-        i += 1;
     }
 }
 

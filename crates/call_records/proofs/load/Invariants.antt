@@ -14,6 +14,3 @@ invariant-loop-i l = record {
   sublimits : take l.i l.sublimits ≡ take l.i (map (λ (a : Account). a.sublimit) l.row);
   sheet : take l.i l.sheet ≡ take l.i (map (λ (a : Account). a.waiting) l.row);
 }
-
-abbrev pub decreases-loop-i : goal.decreases-loop-i
-decreases-loop-i l = 64 - l.i

@@ -4,6 +4,3 @@ use Rattle.call_records.proofs.save.Given as goal
 
 abbrev pub invariant-loop-i : goal.invariant-loop-i
 invariant-loop-i l = Saved l.row l.codes l.flags l.balances l.sublimits l.sheet l.i
-
-abbrev pub decreases-loop-i : goal.decreases-loop-i
-decreases-loop-i l = 64 - l.i

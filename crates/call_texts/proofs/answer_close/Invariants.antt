@@ -1,4 +1,3 @@
-use Prim.Native.Nat.{◌-◌, ◌≤◌}
 use mathlib.Core.Path.{◌≡◌}
 use lib.ListN.{length}
 use Rattle.call_texts.proofs.Loops.{Closing}
@@ -6,7 +5,4 @@ use Rattle.call_texts.proofs.answer_close.Given as goal
 
 abbrev pub invariant-loop-i : goal.invariant-loop-i
 invariant-loop-i l =
-    (l.i ≤ 512) × (length l.out ≡ length l.initial.out) × Closing l.batches l.today l.bins l.initial.out l.at l.texts l.out l.reached.at l.reached.texts l.i
-
-abbrev pub decreases-loop-i : goal.decreases-loop-i
-decreases-loop-i l = 512 - l.i
+    (length l.out ≡ length l.initial.out) × Closing l.batches l.today l.bins l.initial.out l.at l.texts l.out l.reached.at l.reached.texts l.i

@@ -1,4 +1,3 @@
-use Prim.Native.Nat.{◌-◌, ◌≤◌}
 use mathlib.Core.Path.{◌≡◌}
 use lib.ListN.{length}
 use Rattle.call_texts.proofs.Loops.{Settling}
@@ -6,7 +5,4 @@ use Rattle.call_texts.proofs.answer_settled.Given as goal
 
 abbrev pub invariant-loop-i : goal.invariant-loop-i
 invariant-loop-i l =
-    (l.i ≤ l.n) × (length l.out ≡ length l.initial.out) × Settling l.batches l.date l.clock l.tries l.n l.initial.out l.at l.texts l.out l.reached.at l.reached.texts l.i
-
-abbrev pub decreases-loop-i : goal.decreases-loop-i
-decreases-loop-i l = l.n - l.i
+    (length l.out ≡ length l.initial.out) × Settling l.batches l.date l.clock l.tries l.n l.initial.out l.at l.texts l.out l.reached.at l.reached.texts l.i

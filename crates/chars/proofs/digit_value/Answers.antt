@@ -1,16 +1,16 @@
-use native.Mathlib.Omega.{arith}
+use mathlib.Core.Path.{◌≡◌, sym, ◌∙◌}
+use mathlib.Core.Bool.{true, false}
 use Rattle.chars.specs.Chars.{is_digit, digit_value}
-use Rattle.chars.proofs.Laws.{in_range, below_range, above_range}
 use Rattle.chars.proofs.digit_value.Goals as goal
 
-pub returns-in-48-to-57 : goal.returns-in-48-to-57
+pub returns-then-is_ascii_digit-clause-value : goal.returns-then-is_ascii_digit-clause-value
 unfolding digit_value is_digit
-returns-in-48-to-57 c = record { value = simp (in_range 48 57 c.args.b (omega arith) (omega arith)); small = omega arith }
+returns-then-is_ascii_digit-clause-value c =
+    let e : is_digit c.args.b ≡ true = sym c.is_ascii_digit.ensures.value ∙ c.if-is_ascii_digit.true in
+    c.from.ensures ∙ rw e
 
-pub returns-in_default : goal.returns-in_default
+pub returns-else-is_ascii_digit-clause-value : goal.returns-else-is_ascii_digit-clause-value
 unfolding digit_value is_digit
-returns-in_default c = record { value = simp (below_range 48 57 c.args.b (omega arith)); small = omega arith }
-
-pub returns-in_default-2 : goal.returns-in_default-2
-unfolding digit_value is_digit
-returns-in_default-2 c = record { value = simp (above_range 48 57 c.args.b (omega arith)); small = omega arith }
+returns-else-is_ascii_digit-clause-value c =
+    let e : is_digit c.args.b ≡ false = sym c.is_ascii_digit.ensures.value ∙ c.if-is_ascii_digit.false in
+    rw e

@@ -1,26 +1,20 @@
-use Rattle.std.proofs.Common.{zero-add, arith}
-use Rattle.checksum.proofs.Laws.{going_on, going_done, sum_short}
+use Rattle.std.proofs.Common.{◌≡◌, ◌+◌, ◌-◌, ◌*◌, arith, refl}
+use Rattle.checksum.proofs.Laws.{going_start, going_on, going_done, sum_short}
 use Rattle.checksum.proofs.block_sum.Goals as goal
 
 pub returns-then-s : goal.returns-then-s
-returns-then-s c = sum_short _ _ (omega arith)
+returns-then-s c = sum_short c.args.s.now c.args.at (omega arith)
 
-pub returns-then-s-at : goal.returns-then-s-at
-returns-then-s-at c = sum_short _ _ (omega arith)
+pub loop-i-init : goal.loop-i-init
+loop-i-init c = (going_start c.args.s.now c.args.at (omega arith), omega arith)
 
-pub loop-left-init : goal.loop-left-init
-loop-left-init c = (record { inside = omega arith; fits = omega arith; same = simp zero-add }, omega arith)
-
-pub word-requires : goal.word-requires
-word-requires c = omega (arith, c.loop-left.invariant.0.inside)
-
-pub overflow_add-j : goal.overflow_add-j
-overflow_add-j c = omega (arith, c.loop-left.invariant.0.inside)
-
-pub loop-left-preserved : goal.loop-left-preserved
-loop-left-preserved c =
-    let l = c.loop-left in
-    (going_on l.invariant.0 (omega arith) c.word.ensures c.wrapping_add_u32-sum.ensures.value, l.invariant.1)
+pub loop-i-preserved : goal.loop-i-preserved
+loop-i-preserved c =
+    let l = c.loop-i in
+    let a = c.args in
+    let z : 127 - (l.i + 1) ≡ 127 - l.i - 1 = omega arith in
+    let y : a.at + 4 * (l.i + 1) ≡ a.at + 4 * l.i + 4 = omega arith in
+    (rw (z, y) (going_on l.invariant.0 (omega arith) c.word-sum.ensures refl), l.invariant.1)
 
 pub returns : goal.returns
-returns c = going_done c.loop-left.invariant.0 (omega arith) c.loop-left.invariant.1
+returns c = going_done c.loop-i.invariant.0 (omega arith) c.loop-i.invariant.1

@@ -1,17 +1,16 @@
 use Rattle.cli_book.proofs.Laws.{owing_start, owing_short, owing_on, owing_done}
-use Prim.Native.Nat.{◌-◌}
 use native.Mathlib.Omega.{arith}
 use borrow.Author.Rules.{rules}
 use Rattle.cli_book.proofs.is_sum.Goals as goal
 
-pub loop-i-init : goal.loop-i-init
-loop-i-init c = owing_start _ _
+pub loop-balance-init : goal.loop-balance-init
+loop-balance-init c = owing_start _ _
 
-pub returns-then-rest-balances : goal.returns-then-rest-balances
-returns-then-rest-balances c = owing_short c.loop-i.invariant (search rules) (omega arith) c.if-rest-balances.true
+pub returns-then-rest-balance : goal.returns-then-rest-balance
+returns-then-rest-balance c = owing_short c.loop-balance.invariant (search rules) (omega arith) c.if-rest-balance.true
 
-pub loop-i-preserved : goal.loop-i-preserved
-loop-i-preserved c = owing_on c.loop-i.invariant (search rules) (omega arith) c.if-rest-balances.false
+pub loop-balance-preserved : goal.loop-balance-preserved
+loop-balance-preserved c = owing_on c.loop-balance.invariant (search rules) (omega arith) c.if-rest-balance.false
 
 pub returns : goal.returns
-returns c = owing_done c.loop-i.invariant (search rules) (omega arith)
+returns c = owing_done c.loop-balance.invariant (search rules) (omega arith)

@@ -1,7 +1,6 @@
 use Rattle.cli_book.proofs.Laws.{gathering_fits, gathering_on, gathering_done}
 use Rattle.cli_book.specs.Account.{bits_at}
 use mathlib.Core.Path.{refl}
-use Prim.Native.Nat.{◌-◌}
 use native.Mathlib.Omega.{arith}
 use Rattle.cli_book.proofs.read_bits.Goals as goal
 

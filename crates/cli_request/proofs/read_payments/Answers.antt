@@ -1,5 +1,4 @@
 use native.Mathlib.Omega.{arith}
-use Prim.Native.Nat.{◌-◌}
 use mathlib.Core.Path.{refl}
 use Rattle.cli_request.specs.Account.{payments_at}
 use Rattle.cli_request.proofs.Laws.{going_end, going_cut, going_on, full_end, full_cut, full_more}
@@ -12,8 +11,8 @@ loop-n-init c = record { room = omega arith; size = refl; same = refl }
 pub returns-then-s-here : goal.returns-then-s-here
 returns-then-s-here c = search going_end
 
-pub returns-in-Unpaid : goal.returns-in-Unpaid
-returns-in-Unpaid c = search going_cut
+pub returns-in-None : goal.returns-in-None
+returns-in-None c = search going_cut
 
 pub loop-n-preserved : goal.loop-n-preserved
 loop-n-preserved c = search going_on
@@ -21,8 +20,8 @@ loop-n-preserved c = search going_on
 pub returns-then-s-here-2 : goal.returns-then-s-here-2
 returns-then-s-here-2 c = search full_end
 
-pub returns-in_default : goal.returns-in_default
-returns-in_default c = search full_cut
+pub returns-in-None-read_payment : goal.returns-in-None-read_payment
+returns-in-None-read_payment c = search full_cut
 
-pub returns : goal.returns
-returns c = search full_more
+pub returns-in-Some-read_payment : goal.returns-in-Some-read_payment
+returns-in-Some-read_payment c = search full_more

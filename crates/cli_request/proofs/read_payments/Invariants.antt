@@ -1,9 +1,5 @@
-use Prim.Native.Nat.{◌-◌}
 use Rattle.cli_request.proofs.Laws.{Going}
 use Rattle.cli_request.proofs.read_payments.Given as goal
 
 abbrev pub invariant-loop-n : goal.invariant-loop-n
 invariant-loop-n l = Going l.s l.at l.payments l.n l.here
-
-abbrev pub decreases-loop-n : goal.decreases-loop-n
-decreases-loop-n l = 10 - l.n

@@ -6,10 +6,10 @@ pub returns-in_default : goal.returns-in_default
 returns-in_default c = search digits_never
 
 pub overflow_mul-result : goal.overflow_mul-result
-overflow_mul-result c = omega (arith, clock_is _ c.new.ensures c.in-At.is)
+overflow_mul-result c = omega (arith, clock_is _ c.new.ensures c.in-Some.is)
 
 pub overflow_add-result-2 : goal.overflow_add-result-2
-overflow_add-result-2 c = omega (arith, clock_is _ c.new.ensures c.in-At.is)
+overflow_add-result-2 c = omega (arith, clock_is _ c.new.ensures c.in-Some.is)
 
 pub returns : goal.returns
 returns c = search digits_at_lem

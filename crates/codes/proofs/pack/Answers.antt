@@ -21,7 +21,7 @@ pub loop-i-preserved : goal.loop-i-preserved
 loop-i-preserved c =
     let l = c.loop-i in
     let a = c.args in
-    packing_on l.invariant (omega arith) (c.wide.ensures.value ∙ c.byte.ensures ∙ sym (get_or-drop a.from (take a.n (drop a.at a.s.now)) l.i 0)) c.wide.ensures.small
+    packing_on l.invariant (omega arith) (c.from.ensures ∙ c.byte.ensures ∙ sym (get_or-drop a.from (take a.n (drop a.at a.s.now)) l.i 0)) (omega arith)
 
 pub returns : goal.returns
 returns c = record { value = (packing_done c.loop-i.invariant (omega arith)).0; small = (packing_done c.loop-i.invariant (omega arith)).1 }

@@ -1,10 +1,9 @@
-use borrow.Author.Rules.{rules}
-use lib.ListN.{length-set}
+use native.Mathlib.Omega.{arith}
 use Rattle.queue.proofs.MemoryLaws.{map_turn, map_done}
 use Rattle.queue.proofs.wake_bank.Goals as goal
 
-pub loop-i-preserved : goal.loop-i-preserved
-loop-i-preserved c = (simp length-set (search rules), simp length-set (search rules), search (rules, map_turn))
+pub loop-held-preserved : goal.loop-held-preserved
+loop-held-preserved c = map_turn _ _ _ _ c.loop-held.invariant _ (omega arith) c.woken.ensures
 
 pub returns : goal.returns
-returns c = search (rules, map_done)
+returns c = map_done _ _ _ _ c.loop-held.invariant (omega arith) (omega arith)

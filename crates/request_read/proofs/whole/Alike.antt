@@ -1,4 +1,5 @@
 -- How far a request is read, and that two texts which begin alike are read alike.
+use Rattle.std.specs.Prelude.{Result, Ok, Err}
 use Prim.Native.Nat.{ℕ, ◌+◌, ◌≤◌}
 use mathlib.Core.Path.{◌≡◌, refl, ap, sym, subst, ◌∙◌}
 use mathlib.Core.List.{List, [], ◌∷◌}
@@ -18,27 +19,19 @@ use Rattle.text_values.proofs.Alike.{code_of_alike, word_ends}
 use Rattle.text_fields.specs.Fields.{absent, broken, on_good, field_at}
 use Rattle.text_fields.specs.declared.Break.{Break}
 use Rattle.text_fields.specs.declared.Item.{Item}
-use Rattle.text_fields.specs.declared.Field.{Field}
-use Rattle.text_fields.specs.declared.Field.TheVariants.{Good, Bad}
 use Rattle.text_fields.specs.declared.Kind.{Kind}
 use Rattle.text_fields.specs.declared.Kind.TheVariants.{Empty, Reference, Numeral, Word, Bin, Count}
 use Rattle.text_fields.proofs.Alike.{Reaches, Or, In, Fine, PartIn, field_in, field_near, part_in}
 use Rattle.request_read.specs.terms.Terms.{on_whole, terms_at}
 use Rattle.request_read.specs.declared.terms.Terms.{Terms}
-use Rattle.request_read.specs.declared.terms.Stated.{Stated}
-use Rattle.request_read.specs.declared.terms.Stated.TheVariants.{Whole, Partial}
 use Rattle.request_read.proofs.terms.Alike.{stated_stop, terms_in, terms_alike}
 use Rattle.request_read.specs.payments.Payments.{payments_at}
 use Rattle.request_read.specs.declared.payments.Payments.{Payments}
-use Rattle.request_read.specs.declared.payments.Ending.{Ending}
-use Rattle.request_read.specs.declared.payments.Ending.TheVariants.{Done, Cut}
 use Rattle.request_read.proofs.payments.Alike.{end_stop, list_stop, payments_in_lem, payments_alike}
 use Rattle.request_read.specs.whole.Request.{named_at, address, nowhere, to_stream, head, bare, refusal, unread, settlement, address_at, on_to, on_done, ending, settlement_at, recall_at, message_at, request_at}
 use Rattle.request_read.specs.declared.whole.Named.{Named}
 use Rattle.request_read.specs.declared.whole.Reached.TheVariants.{Bin as Both}
 use Rattle.request_read.specs.declared.whole.Address.{Address}
-use Rattle.request_read.specs.declared.whole.Addressed.{Addressed}
-use Rattle.request_read.specs.declared.whole.Addressed.TheVariants.{To, Lost}
 use Rattle.request_read.specs.declared.whole.Head.{Head}
 use Rattle.request_read.specs.declared.whole.Outcome.{Outcome}
 use Rattle.request_read.specs.declared.whole.Outcome.TheVariants.{Settlement, Recall, Refused}
@@ -69,54 +62,54 @@ ending_alike {n} {s} {t} e at h r = go (ltb at n) refl
     go false q = inr (omega (arith, ltb-false at n q))
 
 -- 77E, 22A and 119
-abbrev address_stop : Addressed → ℕ
-address_stop (To a c) = c.at
-address_stop (Lost b a) = b.at
+abbrev address_stop : Result (Address × Cursor) (Break × Address) → ℕ
+address_stop (Ok (a, c)) = c.at
+address_stop (Err (b, a)) = b.at
 
-abbrev AddressIn : ℕ → ℕ → Addressed → Type 0
-AddressIn at w (To a c) = Reaches at w c.at × (c.at ≡ a.bin.part.end + 2)
-AddressIn at w (Lost b a) = Reaches at w b.at
+abbrev AddressIn : ℕ → ℕ → Result (Address × Cursor) (Break × Address) → Type 0
+AddressIn at w (Ok (a, c)) = Reaches at w c.at × (c.at ≡ a.bin.part.end + 2)
+AddressIn at w (Err (b, a)) = Reaches at w b.at
 
 named_part : (s : List ℕ) (p : Part) → (named_at s p).part ≡ p
 unfolding named_at
 named_part s p = refl
 
 module _ (s : List ℕ) (at : ℕ) (tag : List ℕ) (k : Kind) (h : length tag ≤ 5) (f : Fine at k) where
-  good_at : (i : Item) (c : Cursor) → field_at s at tag k ≡ Good i c → In at (Good i c)
+  good_at : (i : Item) (c : Cursor) → field_at s at tag k ≡ Ok (i, c) → In at (Ok (i, c))
   good_at i c q = subst (In at) q (field_in s at tag k h f)
 
-  bad_at : (b : Break) → field_at s at tag k ≡ Bad b → b.at ≡ at
+  bad_at : (b : Break) → field_at s at tag k ≡ Err b → b.at ≡ at
   bad_at b q = subst (In at) q (field_in s at tag k h f)
 
-by_good : {A : Type 0} (P : A → Type 0) (x : Field) {d : Break → A} {k : Item → Cursor → A} → ((b : Break) → x ≡ Bad b → P (d b)) → ((i : Item) (c : Cursor) → x ≡ Good i c → P (k i c)) → P (on_good x d k)
-by_good P (Good i c) p q = q i c refl
-by_good P (Bad b) p q = p b refl
+by_good : {A : Type 0} (P : A → Type 0) (x : Result (Item × Cursor) Break) {d : Break → A} {k : Item → Cursor → A} → ((b : Break) → x ≡ Err b → P (d b)) → ((i : Item) (c : Cursor) → x ≡ Ok (i, c) → P (k i c)) → P (on_good x d k)
+by_good P (Ok (i, c)) p q = q i c refl
+by_good P (Err b) p q = p b refl
 
-alike_good : {A : Type 0} (p : A → ℕ) (n at : ℕ) (x y : Field) (d : Break → A) (k k' : Item → Cursor → A) → Or n x y at → at ≤ p (on_good x d k) → ((i : Item) (c : Cursor) → x ≡ Good i c → Or n (k i c) (k' i c) (p (k i c))) → Or n (on_good x d k) (on_good y d k') (p (on_good x d k))
+alike_good : {A : Type 0} (p : A → ℕ) (n at : ℕ) (x y : Result (Item × Cursor) Break) (d : Break → A) (k k' : Item → Cursor → A) → Or n x y at → at ≤ p (on_good x d k) → ((i : Item) (c : Cursor) → x ≡ Ok (i, c) → Or n (k i c) (k' i c) (p (k i c))) → Or n (on_good x d k) (on_good y d k') (p (on_good x d k))
 alike_good p n at x y d k k' (inr q) h f = inr (omega (arith, q, h))
-alike_good p n at (Bad b) y d k k' (inl q) h f = inl (rw (← q))
-alike_good p n at (Good i c) y d k k' (inl q) h f = rw (← q) (f i c refl)
+alike_good p n at (Err b) y d k k' (inl q) h f = inl (rw (← q))
+alike_good p n at (Ok (i, c)) y d k k' (inl q) h f = rw (← q) (f i c refl)
 
-stream_fine : (s : List ℕ) (at : ℕ) (i : Item) (c : Cursor) → field_at s at (bytes ":22A:") (Word 4) ≡ Good i c → Fine c.at (Bin i.part)
+stream_fine : (s : List ℕ) (at : ℕ) (i : Item) (c : Cursor) → field_at s at (bytes ":22A:") (Word 4) ≡ Ok (i, c) → Fine c.at (Bin i.part)
 stream_fine s at i c q =
     let g = good_at s at (bytes ":22A:") (Word 4) (omega arith) (omega arith) i c q in
     let w : i.part.end ≤ i.part.start + 4 = subst (PartIn 4) q (part_in s at (bytes ":22A:") (Word 4) 4 (λ a. word_ends s a 4)) in
     (omega (arith, g.2), omega (arith, w))
 
-abbrev third : List ℕ → Item → Cursor → Addressed
-third s stream d = on_good (field_at s d.at (bytes ":119:") (Bin stream.part)) (λ b. Lost b (to_stream stream)) (λ bin e. To (address Both stream (named_at s bin.part)) e)
+abbrev third : List ℕ → Item → Cursor → Result (Address × Cursor) (Break × Address)
+third s stream d = on_good (field_at s d.at (bytes ":119:") (Bin stream.part)) (λ b. Err (b, to_stream stream)) (λ bin e. Ok (address Both stream (named_at s bin.part), e))
 
-abbrev second : List ℕ → Cursor → Addressed
-second s c = on_good (field_at s c.at (bytes ":22A:") (Word 4)) (λ b. Lost b nowhere) (third s)
+abbrev second : List ℕ → Cursor → Result (Address × Cursor) (Break × Address)
+second s c = on_good (field_at s c.at (bytes ":22A:") (Word 4)) (λ b. Err (b, nowhere)) (third s)
 
 third_in : (s : List ℕ) (stream : Item) (d : Cursor) → Fine d.at (Bin stream.part) → AddressIn d.at 28 (third s stream d)
 third_in s stream d f = by_good (AddressIn d.at 28) (field_at s d.at (bytes ":119:") (Bin stream.part))
     (λ b q. let g = bad_at s d.at (bytes ":119:") (Bin stream.part) (omega arith) f b q in (omega (arith, g), omega (arith, g)))
     (λ bin e q. let g = good_at s d.at (bytes ":119:") (Bin stream.part) (omega arith) f bin e q in ((g.0, g.1), g.2 ∙ ap (λ (p : Part). p.end + 2) (sym (named_part s bin.part))))
 
-widen_in : (at w a m : ℕ) (x : Addressed) → at ≤ a → a + m ≤ at + w → AddressIn a m x → AddressIn at w x
-widen_in at w a m (To x c) h k i = ((omega (arith, i.0.0), omega (arith, i.0.1)), i.1)
-widen_in at w a m (Lost b x) h k i = (omega (arith, i.0), omega (arith, i.1))
+widen_in : (at w a m : ℕ) (x : Result (Address × Cursor) (Break × Address)) → at ≤ a → a + m ≤ at + w → AddressIn a m x → AddressIn at w x
+widen_in at w a m (Ok (x, c)) h k i = ((omega (arith, i.0.0), omega (arith, i.0.1)), i.1)
+widen_in at w a m (Err (b, x)) h k i = (omega (arith, i.0), omega (arith, i.1))
 
 second_in_lem : (s : List ℕ) (c : Cursor) → AddressIn c.at 56 (second s c)
 second_in_lem s c = by_good (AddressIn c.at 56) (field_at s c.at (bytes ":22A:") (Word 4))
@@ -131,19 +124,19 @@ address_in s at = by_good (AddressIn at 84) (field_at s at (bytes ":77E:") Empty
     (λ i c q. let g = good_at s at (bytes ":77E:") Empty (omega arith) tt i c q in
     widen_in at 84 c.at 56 (second s c) g.0 (omega (arith, g.1)) (second_in_lem s c))
 
-address_reach : (at w : ℕ) (x : Addressed) → AddressIn at w x → Reaches at w (address_stop x)
-address_reach at w (To a c) i = i.0
-address_reach at w (Lost b a) i = i
+address_reach : (at w : ℕ) (x : Result (Address × Cursor) (Break × Address)) → AddressIn at w x → Reaches at w (address_stop x)
+address_reach at w (Ok (a, c)) i = i.0
+address_reach at w (Err (b, a)) i = i
 
 module _ {n : ℕ} {s t : List ℕ} (a : Alike n s t) where
   named_alike : (p : Part) → p.end ≤ n → named_at s p ≡ named_at t p
   unfolding named_at
   named_alike p h = ap (λ (c : Code). record { part = p; code = c }) (code_of_alike a p h)
 
-  to_alike : (stream bin : Item) (e : Cursor) → e.at ≡ bin.part.end + 2 → Or n (To (address Both stream (named_at s bin.part)) e) (To (address Both stream (named_at t bin.part)) e) e.at
+  to_alike : (stream bin : Item) (e : Cursor) → e.at ≡ bin.part.end + 2 → Or {A = Result (Address × Cursor) (Break × Address)} n (Ok (address Both stream (named_at s bin.part), e)) (Ok (address Both stream (named_at t bin.part), e)) e.at
   to_alike stream bin e h = go (ltb n bin.part.end) refl
     where
-      go : (b : Bool) → ltb n bin.part.end ≡ b → Or n (To (address Both stream (named_at s bin.part)) e) (To (address Both stream (named_at t bin.part)) e) e.at
+      go : (b : Bool) → ltb n bin.part.end ≡ b → Or {A = Result (Address × Cursor) (Break × Address)} n (Ok (address Both stream (named_at s bin.part), e)) (Ok (address Both stream (named_at t bin.part), e)) e.at
       go true q = inr (omega (arith, ltb-true n bin.part.end q))
       go false q = inl (rw (named_alike bin.part (ltb-false n bin.part.end q)))
 
@@ -192,9 +185,9 @@ module _ (h : Head) (u : Terms) where
   paid_from : (s : List ℕ) (p : Payments) → Reaches (list_stop p) 28 (reading_stop (paid h u s p))
   paid_from s p = go p.ending
     where
-      go : (e : Ending) → Reaches (end_stop e) 28 (reading_stop (on_done e (λ b. refusal h.subtype b h.address) (last h u p s)))
-      go (Done d) = last_in h u p s d
-      go (Cut b) = (omega arith, omega arith)
+      go : (e : Result Cursor Break) → Reaches (end_stop e) 28 (reading_stop (on_done e (λ b. refusal h.subtype b h.address) (last h u p s)))
+      go (Ok d) = last_in h u p s d
+      go (Err b) = (omega arith, omega arith)
 
   paid_in : (s : List ℕ) (c : Cursor) → Reaches c.at 1148 (reading_stop (paid h u s (payments_at s c.at)))
   paid_in s c = let i = payments_in_lem s c.at in let j = paid_from s (payments_at s c.at) in (omega (arith, i.0, j.0), omega (arith, i.1, j.1))
@@ -202,9 +195,9 @@ module _ (h : Head) (u : Terms) where
   paid_same : {n : ℕ} {s t : List ℕ} → Alike n s t → (p : Payments) → Or n (paid h u s p) (paid h u t p) (reading_stop (paid h u s p))
   paid_same {n} {s} {t} a p = go p.ending
     where
-      go : (e : Ending) → Or n (on_done e (λ b. refusal h.subtype b h.address) (last h u p s)) (on_done e (λ b. refusal h.subtype b h.address) (last h u p t)) (reading_stop (on_done e (λ b. refusal h.subtype b h.address) (last h u p s)))
-      go (Done d) = last_alike h u p a d
-      go (Cut b) = inl refl
+      go : (e : Result Cursor Break) → Or n (on_done e (λ b. refusal h.subtype b h.address) (last h u p s)) (on_done e (λ b. refusal h.subtype b h.address) (last h u p t)) (reading_stop (on_done e (λ b. refusal h.subtype b h.address) (last h u p s)))
+      go (Ok d) = last_alike h u p a d
+      go (Err b) = inl refl
 
   paid_alike : {n : ℕ} {s t : List ℕ} → Alike n s t → (c : Cursor) → Or n (paid h u s (payments_at s c.at)) (paid h u t (payments_at t c.at)) (reading_stop (paid h u s (payments_at s c.at)))
   paid_alike {n} {s} {t} a c = go (payments_at s c.at) (payments_alike a c.at)
@@ -214,9 +207,9 @@ module _ (h : Head) (u : Terms) where
       go p (inr q) = inr (omega (arith, q, (paid_from s p).0))
 
 module _ (h : Head) where
-  settled_in : (s : List ℕ) (at : ℕ) (x : Stated) → Reaches at 84 (stated_stop x) → Reaches at 1232 (reading_stop (on_whole x (λ b. refusal h.subtype b h.address) (λ u c. paid h u s (payments_at s c.at))))
-  settled_in s at (Whole u c) i = let j = paid_in h u s c in (omega (arith, i.0, j.0), omega (arith, i.1, j.1))
-  settled_in s at (Partial b) i = (i.0, omega (arith, i.1))
+  settled_in : (s : List ℕ) (at : ℕ) (x : Result (Terms × Cursor) Break) → Reaches at 84 (stated_stop x) → Reaches at 1232 (reading_stop (on_whole x (λ b. refusal h.subtype b h.address) (λ u c. paid h u s (payments_at s c.at))))
+  settled_in s at (Ok (u, c)) i = let j = paid_in h u s c in (omega (arith, i.0, j.0), omega (arith, i.1, j.1))
+  settled_in s at (Err b) i = (i.0, omega (arith, i.1))
 
   settlement_in_lem : (s : List ℕ) (at : ℕ) → Reaches at 1232 (reading_stop (settlement_at s at h))
   unfolding settlement_at
@@ -226,11 +219,11 @@ module _ (h : Head) where
   unfolding settlement_at
   settlement_alike {n} {s} {t} a at = go (terms_at s at) (terms_alike a at)
     where
-      go : (x : Stated) → Or n x (terms_at t at) (stated_stop x) → Or n (on_whole x (λ b. refusal h.subtype b h.address) (λ u c. paid h u s (payments_at s c.at))) (on_whole (terms_at t at) (λ b. refusal h.subtype b h.address) (λ u c. paid h u t (payments_at t c.at))) (reading_stop (on_whole x (λ b. refusal h.subtype b h.address) (λ u c. paid h u s (payments_at s c.at))))
-      go (Whole u c) (inl q) = rw (← q) (paid_alike h u a c)
-      go (Partial b) (inl q) = inl (rw (← q))
-      go (Whole u c) (inr q) = inr (omega (arith, q, (paid_in h u s c).0))
-      go (Partial b) (inr q) = inr q
+      go : (x : Result (Terms × Cursor) Break) → Or n x (terms_at t at) (stated_stop x) → Or n (on_whole x (λ b. refusal h.subtype b h.address) (λ u c. paid h u s (payments_at s c.at))) (on_whole (terms_at t at) (λ b. refusal h.subtype b h.address) (λ u c. paid h u t (payments_at t c.at))) (reading_stop (on_whole x (λ b. refusal h.subtype b h.address) (λ u c. paid h u s (payments_at s c.at))))
+      go (Ok (u, c)) (inl q) = rw (← q) (paid_alike h u a c)
+      go (Err b) (inl q) = inl (rw (← q))
+      go (Ok (u, c)) (inr q) = inr (omega (arith, q, (paid_in h u s c).0))
+      go (Err b) (inr q) = inr q
 
   recall_stop : (s : List ℕ) (at : ℕ) → at ≡ h.address.bin.part.end + 2 → reading_stop (recall_at s at h) ≡ at
   unfolding recall_at
@@ -263,9 +256,9 @@ module _ (reference : Named) (u : Item) where
       go true = settlement_alike (head reference u x) a c.at
       go false = near_end (recall_alike (head reference u x) a c.at)
 
-  addressed_in : (s : List ℕ) (at : ℕ) (x : Addressed) → AddressIn at 84 x → Reaches at 1316 (reading_stop (on_to x (refusal u) (told s)))
-  addressed_in s at (To x c) i = let j = told_in s x c i.1 in (omega (arith, i.0.0, j.0), omega (arith, i.0.1, j.1))
-  addressed_in s at (Lost b x) i = (i.0, omega (arith, i.1))
+  addressed_in : (s : List ℕ) (at : ℕ) (x : Result (Address × Cursor) (Break × Address)) → AddressIn at 84 x → Reaches at 1316 (reading_stop (on_to x (refusal u) (told s)))
+  addressed_in s at (Ok (x, c)) i = let j = told_in s x c i.1 in (omega (arith, i.0.0, j.0), omega (arith, i.0.1, j.1))
+  addressed_in s at (Err (b, x)) i = (i.0, omega (arith, i.1))
 
   message_in_lem : (s : List ℕ) (at : ℕ) → Reaches at 1316 (reading_stop (message_at s at reference u))
   unfolding message_at
@@ -275,11 +268,11 @@ module _ (reference : Named) (u : Item) where
   unfolding message_at
   message_alike {n} {s} {t} a at = go (address_at s at) (address_in s at) (address_alike a at)
     where
-      go : (x : Addressed) → AddressIn at 84 x → Or n x (address_at t at) (address_stop x) → Or n (on_to x (refusal u) (told s)) (on_to (address_at t at) (refusal u) (told t)) (reading_stop (on_to x (refusal u) (told s)))
-      go (To x c) i (inl q) = rw (← q) (told_alike a x c i.1)
-      go (Lost b x) i (inl q) = inl (rw (← q))
-      go (To x c) i (inr q) = inr (omega (arith, q, (told_in s x c i.1).0))
-      go (Lost b x) i (inr q) = inr q
+      go : (x : Result (Address × Cursor) (Break × Address)) → AddressIn at 84 x → Or n x (address_at t at) (address_stop x) → Or n (on_to x (refusal u) (told s)) (on_to (address_at t at) (refusal u) (told t)) (reading_stop (on_to x (refusal u) (told s)))
+      go (Ok (x, c)) i (inl q) = rw (← q) (told_alike a x c i.1)
+      go (Err (b, x)) i (inl q) = inl (rw (← q))
+      go (Ok (x, c)) i (inr q) = inr (omega (arith, q, (told_in s x c i.1).0))
+      go (Err (b, x)) i (inr q) = inr q
 
 -- what follows 20
 abbrev typed : List ℕ → Item → Cursor → Item → Cursor → Reading

@@ -1,5 +1,5 @@
 -- "The text has every field once, in this order, and nothing else".
-use Rattle.std.specs.Prelude.{ℕ, List, [], ◌∷◌, cond, length, eqb, ltb}
+use Rattle.std.specs.Prelude.{ℕ, List, [], ◌∷◌, cond, length, eqb, ltb, Result, Ok, Err}
 use Rattle.chars.specs.Words.{bytes, member}
 use Rattle.chars.specs.declared.Refusal.TheVariants.{OtherSubType}
 use Rattle.codes.specs.Codes.{no_code}
@@ -14,14 +14,10 @@ use Rattle.request_read.specs.terms.Terms.{no_terms, on_whole, terms_at}
 use Rattle.request_read.specs.declared.terms.Terms.{Terms}
 use Rattle.request_read.specs.payments.Payments.{none, payments_at}
 use Rattle.request_read.specs.declared.payments.Payments.{Payments}
-use Rattle.request_read.specs.declared.payments.Ending.{Ending}
-use Rattle.request_read.specs.declared.payments.Ending.TheVariants.{Done, Cut}
 use Rattle.request_read.specs.declared.whole.Named.{Named}
 use Rattle.request_read.specs.declared.whole.Reached.{Reached}
 use Rattle.request_read.specs.declared.whole.Reached.TheVariants.{Nothing, Stream, Bin as Both}
 use Rattle.request_read.specs.declared.whole.Address.{Address}
-use Rattle.request_read.specs.declared.whole.Addressed.{Addressed}
-use Rattle.request_read.specs.declared.whole.Addressed.TheVariants.{To, Lost}
 use Rattle.request_read.specs.declared.whole.Head.{Head}
 use Rattle.request_read.specs.declared.whole.Outcome.{Outcome}
 use Rattle.request_read.specs.declared.whole.Outcome.TheVariants.{Settlement, Recall, Refused}
@@ -62,24 +58,24 @@ abbrev pub settlement : Head → Terms → Payments → Item → Reading
 settlement h t p count = record { outcome = Settlement; head = h; terms = t; payments = p.items; n = p.n; count = count }
 
 -- 77E, 22A and 119
-unfoldable pub address_at : List ℕ → ℕ → Addressed
+unfoldable pub address_at : List ℕ → ℕ → Result (Address × Cursor) (Break × Address)
 address_at s at =
-    on_good (field_at s at (bytes ":77E:") Empty) (λ b. Lost b nowhere) (λ empty c.
-    on_good (field_at s c.at (bytes ":22A:") (Word 4)) (λ b. Lost b nowhere) (λ stream d.
-    on_good (field_at s d.at (bytes ":119:") (Bin stream.part)) (λ b. Lost b (to_stream stream)) (λ bin e.
-    To (address Both stream (named_at s bin.part)) e)))
+    on_good (field_at s at (bytes ":77E:") Empty) (λ b. Err (b, nowhere)) (λ empty c.
+    on_good (field_at s c.at (bytes ":22A:") (Word 4)) (λ b. Err (b, nowhere)) (λ stream d.
+    on_good (field_at s d.at (bytes ":119:") (Bin stream.part)) (λ b. Err (b, to_stream stream)) (λ bin e.
+    Ok (address Both stream (named_at s bin.part), e))))
 
-abbrev pub on_to : {A : Type 0} → Addressed → (Break → Address → A) → (Address → Cursor → A) → A
-on_to (To a c) d k = k a c
-on_to (Lost b a) d k = d b a
+abbrev pub on_to : {A : Type 0} → Result (Address × Cursor) (Break × Address) → (Break → Address → A) → (Address → Cursor → A) → A
+on_to (Ok (a, c)) d k = k a c
+on_to (Err (b, a)) d k = d b a
 
-abbrev pub cut_by : Ending → Break
-cut_by (Done c) = absent 0
-cut_by (Cut b) = b
+abbrev pub cut_by : Result Cursor Break → Break
+cut_by (Ok c) = absent 0
+cut_by (Err b) = b
 
-abbrev pub on_done : {A : Type 0} → Ending → (Break → A) → (Cursor → A) → A
-on_done (Done c) d k = k c
-on_done (Cut b) d k = d b
+abbrev pub on_done : {A : Type 0} → Result Cursor Break → (Break → A) → (Cursor → A) → A
+on_done (Ok c) d k = k c
+on_done (Err b) d k = d b
 
 -- "and nothing else": whatever follows the last field breaks the text there
 abbrev pub ending : List ℕ → ℕ → Head → Reading → Reading

@@ -1,4 +1,3 @@
-use Prim.Native.Nat.{◌-◌}
 use mathlib.Core.Path.{◌≡◌}
 use lib.ListN.{drop}
 use Rattle.codes.specs.Codes.{spelled}
@@ -7,6 +6,3 @@ use Rattle.request_write.proofs.is_blank.Given as goal
 
 abbrev pub invariant-loop-i : goal.invariant-loop-i
 invariant-loop-i l = blank (drop l.i (spelled l.c)) ≡ blank (drop l.from (spelled l.c))
-
-abbrev pub decreases-loop-i : goal.decreases-loop-i
-decreases-loop-i l = 16 - l.i

@@ -9,10 +9,10 @@ loop-i-init c = refl
 
 pub returns-then-not-is_code : goal.returns-then-not-is_code
 returns-then-not-is_code c =
-    c.is_blank.ensures ∙ proper_stop _ c.loop-i.i (rw spelled_length (omega arith)) c.byte.ensures c.is_code.ensures c.if-not-is_code.true-raw ∙ c.loop-i.invariant
+    c.is_blank.ensures ∙ proper_stop _ c.loop-i.i (rw spelled_length (omega arith)) c.byte.ensures c.is_code.ensures c.if-not-is_code.true ∙ c.loop-i.invariant
 
 pub loop-i-preserved : goal.loop-i-preserved
-loop-i-preserved c = sym (proper_on _ c.loop-i.i (rw spelled_length (omega arith)) c.byte.ensures c.is_code.ensures c.if-not-is_code.false-raw) ∙ c.loop-i.invariant
+loop-i-preserved c = sym (proper_on _ c.loop-i.i (rw spelled_length (omega arith)) c.byte.ensures c.is_code.ensures c.if-not-is_code.false) ∙ c.loop-i.invariant
 
 pub returns : goal.returns
 returns c = proper_end _ c.loop-i.i (rw spelled_length (omega arith)) ∙ c.loop-i.invariant

@@ -1,9 +1,8 @@
-use native.Mathlib.Omega.{arith}
 use Rattle.request_write.proofs.Laws.{count_put, count_out}
 use Rattle.request_write.proofs.put_count.Goals as goal
 
-pub returns-then-n-lt100 : goal.returns-then-n-lt100
-returns-then-n-lt100 c = record { puts = search count_put; small = omega arith }
+pub returns-then-n-lt100-clause-puts : goal.returns-then-n-lt100-clause-puts
+returns-then-n-lt100-clause-puts c = search count_put
 
-pub returns : goal.returns
-returns c = record { puts = search count_out; small = omega arith }
+pub returns-clause-puts : goal.returns-clause-puts
+returns-clause-puts c = search count_out

@@ -1,9 +1,8 @@
-use native.Mathlib.Omega.{arith}
 use Rattle.request_write.proofs.Laws.{name_put, name_out}
 use Rattle.request_write.proofs.put_name.Goals as goal
 
-pub returns-then-not-is_proper : goal.returns-then-not-is_proper
-returns-then-not-is_proper c = record { puts = search name_out; small = omega arith }
+pub returns-then-not-is_proper-clause-puts : goal.returns-then-not-is_proper-clause-puts
+returns-then-not-is_proper-clause-puts c = search name_out
 
-pub returns : goal.returns
-returns c = record { puts = search name_put; small = omega arith }
+pub returns-clause-puts : goal.returns-clause-puts
+returns-clause-puts c = search name_put

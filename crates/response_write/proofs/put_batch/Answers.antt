@@ -11,4 +11,4 @@ unfolding batch_text
 returns c =
     let a = c.args in
     then a.out.now (line (bytes ":22A:") (short_text a.stream)) (line (bytes ":119:") (long_text a.bin)) a.at
-    c.put_stream.ensures c.put_bin.ensures (simp (length-append, short_length))
+    c.put_stream.ensures c.put_code.ensures (simp (length-append, short_length))

@@ -1,24 +1,31 @@
-use Prim.Native.Nat.{ℕ, ◌-◌}
-use mathlib.Core.Path.{subst}
-use native.Mathlib.Omega.{arith}
-use Rattle.settle_records.proofs.PaymentLaws.{Settling, settle_pays, settle_turn, settle_end}
+use Prim.Native.Nat.{◌+◌, ◌*◌}
+use Rattle.settle.specs.Payments.{how_many}
+use Rattle.settle.proofs.Laws.{left_all, left_next, left_none}
+use Rattle.settle_records.proofs.PaymentLaws.{settle_start, settle_pays, settle_turn, settle_end}
 use Rattle.settle_records.proofs.settle.Goals as goal
+
+pub loop-i-init : goal.loop-i-init
+loop-i-init c =
+    let t = c.args.batches.now in
+    let k = c.args.place in
+    rw (left_all t (k * 349 + 49) (how_many t k)) (settle_start _ _ _ c.requires)
 
 pub pay-requires : goal.pay-requires
 pay-requires c =
-    let l = c.loop-unpaid in
-    settle_pays c.args.row.now c.args.batches.now c.args.place l.at (l.unpaid - 1) l.row
-    (subst (λ (m : ℕ). Settling c.args.row.now c.args.batches.now c.args.place l.at m l.row) (omega arith) l.invariant)
+    let t = c.args.batches.now in
+    let k = c.args.place in
+    let next = left_next t (k * 349 + 49) (how_many t k) c.loop-i.i c.loop-i-test.true in
+    settle_pays _ _ _ _ _ _ next _ c.loop-i.invariant
 
-pub loop-unpaid-preserved : goal.loop-unpaid-preserved
-loop-unpaid-preserved c =
-    let l = c.loop-unpaid in
-    settle_turn c.args.row.now c.args.batches.now c.args.place l.at (l.unpaid - 1) l.row c.pay.new.row
-    (subst (λ (m : ℕ). Settling c.args.row.now c.args.batches.now c.args.place l.at m l.row) (omega arith) l.invariant)
-    c.pay.auto.row c.pay.ensures
+pub loop-i-preserved : goal.loop-i-preserved
+loop-i-preserved c =
+    let t = c.args.batches.now in
+    let k = c.args.place in
+    let next = left_next t (k * 349 + 49) (how_many t k) c.loop-i.i c.loop-i-test.true in
+    settle_turn _ _ _ _ _ _ next _ _ c.loop-i.invariant c.pay.auto.row c.pay.ensures
 
 pub returns : goal.returns
 returns c =
-    let l = c.loop-unpaid in
-    settle_end c.args.row.now c.args.batches.now c.args.place l.at l.row
-    (subst (λ (m : ℕ). Settling c.args.row.now c.args.batches.now c.args.place l.at m l.row) (omega arith) l.invariant)
+    let t = c.args.batches.now in
+    let k = c.args.place in
+    settle_end _ _ _ _ _ (left_none t (k * 349 + 49) (how_many t k) c.loop-i.i c.loop-i-test.false) c.loop-i.invariant

@@ -1,8 +1,6 @@
+use Rattle.settle.proofs.Laws.{left_from}
 use Rattle.settle_records.proofs.PaymentLaws.{Settling}
 use Rattle.settle_records.proofs.settle.Given as goal
 
-abbrev pub invariant-loop-unpaid : goal.invariant-loop-unpaid
-invariant-loop-unpaid l = Settling l.initial.row l.batches l.place l.at l.unpaid l.row
-
-abbrev pub decreases-loop-unpaid : goal.decreases-loop-unpaid
-decreases-loop-unpaid l = l.unpaid
+abbrev pub invariant-loop-i : goal.invariant-loop-i
+invariant-loop-i l = Settling l.initial.row l.batches l.place (left_from l.batches l.first l.n l.i) l.row

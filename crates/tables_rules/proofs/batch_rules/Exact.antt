@@ -1,5 +1,5 @@
 -- The rules of the rows are exactly the batches' part of what the tables are asked.
-use Rattle.std.proofs.Common.{◌≡◌, ℕ, zero, suc, ◌+◌, ◌-◌, ◌*◌, ◌<◌, ◌≤◌, Bool, true, false, cond, eqb, ltb, List, [], ◌∷◌, map, length, get_or, take, drop, replicate, sym, refl, ap, ◌∙◌, arith, length-drop, take-append-drop, length-take-le, take_at, drop_at, ltb-false, ltb-true, ne_eqb}
+use Rattle.std.proofs.Common.{◌≡◌, ℕ, zero, suc, ◌+◌, ◌*◌, ◌<◌, ◌≤◌, Bool, true, false, cond, eqb, ltb, List, [], ◌∷◌, map, length, get_or, take, drop, replicate, sym, refl, ap, ◌∙◌, arith, length-drop, take-append-drop, length-take-le, take_at, drop_at, ltb-false, ltb-true, ne_eqb}
 use mathlib.Core.Bool.{false≢true}
 use lib.ListN.{length-map, get_or-map, get_or-eq_default}
 use Rattle.chars.specs.Words.{member}

@@ -6,32 +6,11 @@ use Rattle.book_read.specs.Book.{each}
 use Rattle.book_read.specs.Range.{Each}
 use Rattle.queue.specs.Promise.{All}
 use Rattle.queue.proofs.MemoryLaws.{by_bool}
-use Rattle.model.specs.Rules.{is_reference}
-use Rattle.tables.specs.Rows.{word, code_at}
-use Rattle.tables.proofs.TestLaws.{Both, both_same, says_no, says_yes, says_map, each_end, each_not, each_on}
+use Rattle.tables.specs.Rows.{word}
+use Rattle.tables.proofs.TestLaws.{Both, both_same, says_no, says_yes, each_end, each_not, each_on}
 use Rattle.tables_rules.specs.batch_rules.BatchRules.{Head, head_at, heads_in, numbers_of, sizes_of, RightHead, RightHeads}
 use Rattle.tables_rules.specs.payments.Marks.{Below, Marked}
-use Rattle.tables_rules.proofs.payments.MarkLaws.{says_is, Fresh, fresh_start, fresh_end, fresh_not, fresh_on}
-
--- ---- one message
-
-module _ (row : List ℕ) (i count : ℕ) where
-  pub head_low : word row (11 + 4 * i) < 1 → RightHead count (head_at row i) → ⊥
-  head_low h x = omega (arith, x.number.0)
-
-  pub head_high : count < word row (11 + 4 * i) → RightHead count (head_at row i) → ⊥
-  head_high h x = omega (arith, x.number.1)
-
-  pub size_low : word row (12 + 4 * i) < 1 → RightHead count (head_at row i) → ⊥
-  size_low h x = omega (arith, x.size.0)
-
-  pub size_high : 10 < word row (12 + 4 * i) → RightHead count (head_at row i) → ⊥
-  size_high h x = omega (arith, x.size.1)
-
-  pub head_last_lem : {r : Bool} → 1 ≤ word row (11 + 4 * i) → word row (11 + 4 * i) ≤ count → 1 ≤ word row (12 + 4 * i) → word row (12 + 4 * i) ≤ 10
-      → r ≡ is_reference (code_at row (9 + 4 * i)) → Says (RightHead count (head_at row i)) r
-  head_last_lem {r} a b c d e =
-      says_map r (λ y. record { reference = y; number = (a, b); size = (c, d) }) (λ x. x.reference) (says_is r (is_reference (code_at row (9 + 4 * i))) e)
+use Rattle.tables_rules.proofs.payments.MarkLaws.{Fresh, fresh_start, fresh_end, fresh_not, fresh_on}
 
 -- ---- the messages from i on
 

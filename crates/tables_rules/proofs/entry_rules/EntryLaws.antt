@@ -1,38 +1,21 @@
 -- Laws of the tests of references and BINs.
-use Rattle.std.proofs.Common.{◌≡◌, ℕ, ◌+◌, ◌-◌, ◌*◌, ◌<◌, ◌≤◌, Bool, true, false, cond, not, ◌&&◌, eqb, List, [], ◌∷◌, length, get_or, take, drop, sym, refl, ap, ◌∙◌, inl, inr, arith, get_or-drop, get_or-take, eq-eqb, ne_eqb, eqb-true}
+use Rattle.std.proofs.Common.{◌≡◌, ℕ, ◌+◌, ◌-◌, ◌*◌, ◌<◌, ◌≤◌, Bool, true, false, cond, not, ◌&&◌, eqb, List, [], ◌∷◌, get_or, take, drop, sym, ap, ◌∙◌, inl, inr, arith, get_or-drop, get_or-take}
 use mathlib.Core.Bool.{false≢true}
-use borrow.Author.Tests.{not-true, not-false, eqb-false}
+use borrow.Author.Tests.{not-true, not-false}
 use Rattle.chars.specs.Words.{Says}
 use Rattle.codes.specs.declared.Code.{Code}
 use Rattle.book_read.specs.Range.{Each}
-use Rattle.queue.proofs.MemoryLaws.{by_bool}
 use Rattle.codes.specs.Codes.{no_code}
 use Rattle.model.specs.State.{Entry, no_entry, same_code}
-use Rattle.model.specs.Rules.{is_reference, is_bin, RightEntry, remembered, Unlike, AllUnlike, noted_today}
+use Rattle.model.specs.Rules.{is_reference, is_bin, RightEntry, remembered, Unlike, noted_today}
 use Rattle.dates.specs.Dates.{is_remembered}
 use Rattle.tables.specs.Rows.{entries_in}
 use Rattle.tables.proofs.RowLaws.{rows_cut, rows_end}
 use Rattle.tables.proofs.TestLaws.{Both, both_same, says_no, says_yes, says_map, each_end, each_not, each_on}
 use Rattle.tables_rules.proofs.payments.MarkLaws.{says_is}
-use Rattle.tables_rules.specs.entry_rules.EntryRules.{entry_of, code_of, entries_from, code_right, KnownRules}
-
-and_end : (b : Bool) → b ≡ (b && true)
-and_end true = refl
-and_end false = refl
+use Rattle.tables_rules.specs.entry_rules.EntryRules.{entry_of, code_of, entries_from, code_right}
 
 module _ (high low day : ℕ) where
-  pub none_high : (high ≡ 0 → ⊥) → entry_of high low day ≡ no_entry → ⊥
-  none_high n e = n (ap (λ (x : Entry). x.code.high) e)
-
-  pub none_low : (low ≡ 0 → ⊥) → entry_of high low day ≡ no_entry → ⊥
-  none_low n e = n (ap (λ (x : Entry). x.code.low) e)
-
-  pub none_last : high ≡ 0 → low ≡ 0 → Says (entry_of high low day ≡ no_entry) (eqb day 0)
-  none_last a b =
-      by_bool (eqb day 0)
-      (λ y. rw y (let d : day ≡ 0 = eqb-true day 0 y in rw (a, b, d)))
-      (λ y. rw y (λ e. eqb-false day 0 y (ap (λ (x : Entry). x.day) e)))
-
   abbrev pub Right : (Code → Bool) → ℕ → Type 0
   Right is last = RightEntry is last (entry_of high low day)
 
@@ -118,26 +101,6 @@ module _ (t : List ℕ) (n : ℕ) where
       pub noted_on_lem : not r ≡ false → Noted today (i + 1) (count + 1)
       noted_on_lem e = record { same = let f = rw (not-false r e) at step in omega (arith, f, x.same); few = omega (arith, x.few) }
 
--- ---- one of today
-
-module _ (high low day today : ℕ) where
-  and_false : (b : Bool) → false ≡ (b && false)
-  and_false true = refl
-  and_false false = refl
-
-  pub noted_day : (day ≡ today → ⊥) → false ≡ (not (same_code (entry_of high low day).code no_code) && eqb day today)
-  noted_day n = rw (ne_eqb day today n) (and_false (not (same_code (entry_of high low day).code no_code)))
-
-  pub noted_high : day ≡ today → (high ≡ 0 → ⊥) → true ≡ (not (same_code (entry_of high low day).code no_code) && eqb day today)
-  noted_high e n = rw (eq-eqb day today e, ne_eqb high 0 n)
-
-  pub noted_low : day ≡ today → high ≡ 0 → not (eqb low 0) ≡ (not (same_code (entry_of high low day).code no_code) && eqb day today)
-  noted_low e z = rw (eq-eqb day today e, eq-eqb high 0 z) (end (not (eqb low 0)))
-    where
-      end : (b : Bool) → b ≡ (b && true)
-      end true = refl
-      end false = refl
-
 -- ---- the test of a table
 
 module _ (t : List ℕ) (n last : ℕ) (b : Bool) where
@@ -159,23 +122,6 @@ module _ (t : List ℕ) (n last : ℕ) (b : Bool) where
       right_on e = entries_on t n (RightEntry (code_right b) last) i x h r s e
 
 -- ---- remembered codes
-
-module _ (high low day today : ℕ) {a : Bool} (ea : a ≡ is_remembered day today) where
-  pub kept_old : not a ≡ true → false ≡ (not (same_code (entry_of high low day).code no_code) && is_remembered day today)
-  kept_old e = rw (← ea, not-true a e) (and_false high low day today (not (same_code (entry_of high low day).code no_code)))
-
-  pub kept_high : not a ≡ false → (high ≡ 0 → ⊥) → true ≡ (not (same_code (entry_of high low day).code no_code) && is_remembered day today)
-  kept_high e n = rw (← ea, not-false a e, ne_eqb high 0 n)
-
-  pub kept_low : not a ≡ false → high ≡ 0 → not (eqb low 0) ≡ (not (same_code (entry_of high low day).code no_code) && is_remembered day today)
-  kept_low e z = rw (← ea, not-false a e, eq-eqb high 0 z) (and_end (not (eqb low 0)))
-
-module _ (high low other end : ℕ) where
-  pub same_not : (high ≡ other → ⊥) → false ≡ same_code (code_of high low) (code_of other end)
-  same_not n = rw (ne_eqb high other n)
-
-  pub same_last : high ≡ other → eqb low end ≡ same_code (code_of high low) (code_of other end)
-  same_last e = rw (eq-eqb high other e)
 
 module _ (t : List ℕ) (n today : ℕ) where
   abbrev pub codes_from : ℕ → List Code
@@ -212,32 +158,3 @@ module _ (t : List ℕ) (n today : ℕ) where
 
   pub alone_end : {Q : Type 0} (high low i : ℕ) → Both Q (Unlike (code_of high low) (codes_from i)) → n ≤ i → Q
   alone_end high low i b h = b.back (rw (codes_done i h) tt)
-
--- ---- both tables
-
-module _ (today : ℕ) (references bins : List ℕ) where
-  pub known_1 : (length references ≡ 6144 → ⊥) → KnownRules today references bins → ⊥
-  known_1 n x = n x.references_long
-
-  pub known_2 : (length bins ≡ 1536 → ⊥) → KnownRules today references bins → ⊥
-  known_2 n x = n x.bins_long
-
-  pub known_3 : (a : Bool) → Says (Each (RightEntry (code_right true) today) (entries_in 2048 references)) a → not a ≡ true → KnownRules today references bins → ⊥
-  known_3 a s e x = says_no a s e x.references_right
-
-  pub known_4 : (a : Bool) → Says (Each (RightEntry (code_right false) today) (entries_in 512 bins)) a → not a ≡ true → KnownRules today references bins → ⊥
-  known_4 a s e x = says_no a s e x.bins_right
-
-  pub known_5 : (a : Bool) → Says (AllUnlike (remembered today (entries_in 512 bins))) a → not a ≡ true → KnownRules today references bins → ⊥
-  known_5 a s e x = says_no a s e x.bins_once
-
-  pub known_6 : length references ≡ 6144 → length bins ≡ 1536
-      → (a : Bool) → Says (Each (RightEntry (code_right true) today) (entries_in 2048 references)) a → not a ≡ false
-      → (c : Bool) → Says (Each (RightEntry (code_right false) today) (entries_in 512 bins)) c → not c ≡ false
-      → (d : Bool) → Says (AllUnlike (remembered today (entries_in 512 bins))) d → not d ≡ false
-      → (r : Bool) → Says (AllUnlike (remembered today (entries_in 2048 references))) r → Says (KnownRules today references bins) r
-  known_6 k l a s e c t f d u g r v =
-      says_map r
-      (λ y. record { references_long = k; bins_long = l; references_right = says_yes a s e; bins_right = says_yes c t f; references_once = y; bins_once = says_yes d u g })
-      (λ x. x.references_once)
-      v

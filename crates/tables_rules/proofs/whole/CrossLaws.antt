@@ -1,19 +1,19 @@
 -- Laws of the tests of live BINs and messages.
-use Rattle.std.proofs.Common.{◌≡◌, ℕ, zero, suc, ◌+◌, ◌-◌, ◌*◌, ◌<◌, ◌≤◌, Bool, true, false, not, eqb, leb, List, [], ◌∷◌, map, length, get_or, take, drop, sym, refl, ap, ◌∙◌, arith, get_or-drop, get_or-take, eq-eqb, ne_eqb, eqb-true, leb-false, leb-true}
+use Rattle.std.proofs.Common.{◌≡◌, ℕ, zero, suc, ◌+◌, ◌-◌, ◌*◌, ◌<◌, ◌≤◌, Bool, true, false, not, eqb, List, [], ◌∷◌, map, length, get_or, take, drop, sym, refl, ap, ◌∙◌, arith, get_or-drop, get_or-take, eq-eqb, ne_eqb, eqb-true}
 use mathlib.Core.Bool.{false≢true}
 use Rattle.chars.specs.Words.{Says}
 use Rattle.codes.specs.declared.Code.{Code}
 use Rattle.book_read.specs.Range.{Each}
 use Rattle.queue.proofs.MemoryLaws.{by_bool}
 use Rattle.model.specs.State.{Place, free, live, same_code, place_messages}
-use Rattle.model.specs.Rules.{remembered, Unlike, AllUnlike, has, live_bins, live_messages, noted_today}
+use Rattle.model.specs.Rules.{remembered, Unlike, AllUnlike, has, live_bins, live_messages}
 use Rattle.tables.specs.Rows.{rows, word, place_in, batch_in, batch_rows, entries_in}
 use Rattle.tables.proofs.RowLaws.{rows_cut, rows_end}
 use Rattle.tables.proofs.TestLaws.{Both, both_same, says_no, says_yes}
 use Rattle.tables_rules.specs.batch_rules.BatchRules.{RowIn, RowRight}
 use Rattle.tables_rules.proofs.batch_rules.RowWords.{messages_many}
 use Rattle.tables_rules.specs.entry_rules.EntryRules.{code_of, entries_from}
-use Rattle.tables_rules.specs.whole.TableRules.{bins_from, places_of, Counts, CrossRules}
+use Rattle.tables_rules.specs.whole.TableRules.{bins_from, places_of, Counts}
 use Rattle.tables_rules.proofs.entry_rules.EntryLaws.{entries_all}
 
 unlike_has : (c : Code) (l : List Code) → Unlike c l → has c l ≡ false
@@ -175,28 +175,6 @@ module _ (t : List ℕ) where
       small = omega (arith, x.small, told_few h);
       rest = (rw (rows_cut 349 32 p t h) at x.rest).1;
     }
-
--- ---- the whole
-
-module _ (today texts : ℕ) (batches references bins : List ℕ) where
-  pub cross_1 : (a : Bool) → Says (AllUnlike (live_bins (places_of batches))) a → not a ≡ true → CrossRules today texts batches references bins → ⊥
-  cross_1 a s e x = says_no a s e x.bins_differ
-
-  pub cross_2 : (a : Bool) → Says (Each (λ c. has c (remembered today (entries_in 512 bins)) ≡ true) (live_bins (places_of batches))) a → not a ≡ true
-      → CrossRules today texts batches references bins → ⊥
-  cross_2 a s e x = says_no a s e x.bins_remembered
-
-  pub cross_3 : (n : ℕ) → n ≡ noted_today today (entries_in 2048 references) → n < texts → CrossRules today texts batches references bins → ⊥
-  cross_3 n e h x = omega (arith, x.answered)
-
-  pub cross_4 : (a : Bool) → Says (AllUnlike (live_bins (places_of batches))) a → not a ≡ false
-      → (c : Bool) → Says (Each (λ c. has c (remembered today (entries_in 512 bins)) ≡ true) (live_bins (places_of batches))) c → not c ≡ false
-      → (n : ℕ) → n ≡ noted_today today (entries_in 2048 references) → texts ≤ n
-      → (m : ℕ) → m ≡ live_messages (places_of batches) → Says (CrossRules today texts batches references bins) (leb m (n - texts))
-  cross_4 a s e c t f n en h m em =
-      by_bool (leb m (n - texts))
-      (λ y. rw y (record { bins_differ = says_yes a s e; bins_remembered = says_yes c t f; answered = omega (arith, leb-true m (n - texts) y) }))
-      (λ y. rw y (λ x. omega (arith, leb-false m (n - texts) y, x.answered)))
 
 -- ---- rows that keep the rules have few messages, and none at a free place
 

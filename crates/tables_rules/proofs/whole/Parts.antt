@@ -1,5 +1,5 @@
 -- The rules over what is lent, part by part, are exactly `Right`.
-use Rattle.std.proofs.Common.{◌≡◌, ℕ, zero, suc, ◌+◌, ◌-◌, ◌*◌, ◌≤◌, List, [], ◌∷◌, ◌++◌, length, get_or, take, drop, replicate, sym, refl, ap, ◌∙◌, subst, arith, drop-cons}
+use Rattle.std.proofs.Common.{◌≡◌, ℕ, zero, suc, ◌+◌, ◌*◌, ◌≤◌, List, [], ◌∷◌, ◌++◌, length, get_or, take, drop, replicate, sym, refl, ap, ◌∙◌, subst, arith, drop-cons}
 use lib.ListN.{length-map, length-replicate, replicate-append-replicate}
 use Rattle.book_read.specs.Book.{each}
 use Rattle.book_read.specs.Accounts.{Stream, stream_row}

@@ -16,34 +16,24 @@ fn head_right(row: &[u64], i: usize, count: u64) -> bool
     ensures { Says (RightHead count (head_at row.now i)) result }
 {
     let number = row[11 + 4 * i];
-    if number < 1 {
-        return false;
-    }
-    if count < number {
-        return false;
-    }
     let size = row[12 + 4 * i];
-    if size < 1 {
-        return false;
-    }
-    if 10 < size {
-        return false;
-    }
     let high = row[9 + 4 * i];
     let low = row[9 + 4 * i + 1];
-    text_names::quick::is_reference(Code { high, low })
+    1 <= number
+        && number <= count
+        && 1 <= size
+        && size <= 10
+        && text_names::quick::is_reference(Code { high, low })
 }
 
 fn each_right(row: &[u64], n: usize, count: u64) -> bool
     requires { (length row.now ≡ 349) × (n ≤ 10) }
     ensures { Says (Each (RightHead count) (each (head_at row.now) 0 n)) result }
 {
-    let mut i = 0;
-    while i < n {
+    for i in 0..n {
         if !head_right(row, i, count) {
             return false;
         }
-        i += 1;
     }
     true
 }
@@ -54,12 +44,10 @@ fn numbers_apart(row: &[u64], n: usize) -> bool
     ensures { Says (Below 11 (numbers_of (each (head_at row.now) 0 n))) result }
 {
     let mut seen = [0u64; 11];
-    let mut i = 0;
-    while i < n {
+    for i in 0..n {
         if !marks::mark(&mut seen, 11, row[11 + 4 * i]) {
             return false;
         }
-        i += 1;
     }
     true
 }
@@ -71,10 +59,8 @@ fn total(row: &[u64], n: usize) -> u64
     ensures { result ≡ sizes_of (each (head_at row.now) 0 n) }
 {
     let mut sum: u64 = 0;
-    let mut i = 0;
-    while i < n {
+    for i in 0..n {
         sum += row[12 + 4 * i];
-        i += 1;
     }
     sum
 }

@@ -14,14 +14,11 @@ fn how_many(batches: &[u64], phase: u64) -> usize
     ensures { (result ≡ how_many phase (batch_rows batches.now)) × (result ≤ 32) }
 {
     let mut n: usize = 0;
-    let mut place = 0;
-    while place < Batch::LIVE {
+    for place in 0..Batch::LIVE {
         if batches[place * Batch::WIDTH + Batch::PHASE] != phase {
-            place += 1;
             continue;
         }
         n += 1;
-        place += 1;
     }
     n
 }
@@ -32,17 +29,14 @@ pub fn ranks_right(batches: &[u64], phase: u64) -> bool
 {
     let n = how_many(batches, phase);
     let mut seen = [0u64; 32];
-    let mut place = 0;
-    while place < Batch::LIVE {
+    for place in 0..Batch::LIVE {
         if batches[place * Batch::WIDTH + Batch::PHASE] != phase {
-            place += 1;
             continue;
         }
         let rank = batches[place * Batch::WIDTH + Batch::RANK];
         if !marks::mark(&mut seen, n, rank) {
             return false;
         }
-        place += 1;
     }
     true
 }

@@ -16,25 +16,15 @@ fn top_right(row: &[u64]) -> bool
     ensures { Says (RightTop row.now) result }
 {
     let count = row[4];
-    if count < 1 {
-        return false;
-    }
-    if 10 < count {
-        return false;
-    }
-    if 1440 < row[5] {
-        return false;
-    }
     let there = row[7];
-    if there < 1 {
-        return false;
-    }
-    if count < there {
-        return false;
-    }
     let high = row[2];
     let low = row[3];
-    text_names::quick::is_bin(Code { high, low })
+    1 <= count
+        && count <= 10
+        && row[5] <= 1440
+        && 1 <= there
+        && there <= count
+        && text_names::quick::is_bin(Code { high, low })
 }
 
 // "every unused word zero"
@@ -44,12 +34,9 @@ fn behind_right(row: &[u64]) -> bool
 {
     let a = 9 + 4 * (row[7] as usize);
     let e = Batch::PAYMENT;
-    if !tables::house::zero(&row[a..e]) {
-        return false;
-    }
     let b = 49 + 3 * (row[8] as usize);
     let z = Batch::WIDTH;
-    tables::house::zero(&row[b..z])
+    tables::house::zero(&row[a..e]) && tables::house::zero(&row[b..z])
 }
 
 fn live_right(row: &[u64], banks: usize) -> bool
@@ -74,23 +61,14 @@ fn whole_right(row: &[u64]) -> bool
     requires each { Each (λ p. cents_of p ≤ 999999999999) (payments_in row.now) }
     ensures { Says (Whole row.now) result }
 {
-    if row[7] != row[4] {
-        return false;
-    }
-    money::even(row)
+    row[7] == row[4] && money::even(row)
 }
 
 fn building_right(row: &[u64]) -> bool
     requires { length row.now ≡ 349 }
     ensures { Says (BuildingRow row.now) result }
 {
-    if row[1] != 0 {
-        return false;
-    }
-    if row[6] != 0 {
-        return false;
-    }
-    row[7] < row[4]
+    row[1] == 0 && row[6] == 0 && row[7] < row[4]
 }
 
 fn pending_right(row: &[u64]) -> bool
@@ -98,13 +76,7 @@ fn pending_right(row: &[u64]) -> bool
     requires each { Each (λ p. cents_of p ≤ 999999999999) (payments_in row.now) }
     ensures { Says (PendingRow row.now) result }
 {
-    if row[5] < 1 {
-        return false;
-    }
-    if row[6] != 0 {
-        return false;
-    }
-    whole_right(row)
+    1 <= row[5] && row[6] == 0 && whole_right(row)
 }
 
 // The quick test's memory: none, or a bank with a debit.
@@ -113,10 +85,7 @@ fn memory_right(row: &[u64]) -> bool
     ensures { Says (Remembers (word row.now 6) (payments_in row.now)) result }
 {
     let memory = row[6];
-    if memory == 0 {
-        return true;
-    }
-    money::has_debit(row, memory - 1)
+    memory == 0 || money::has_debit(row, memory - 1)
 }
 
 fn queued_right(row: &[u64]) -> bool
@@ -124,10 +93,7 @@ fn queued_right(row: &[u64]) -> bool
     requires each { Each (λ p. cents_of p ≤ 999999999999) (payments_in row.now) }
     ensures { Says (QueuedRow row.now) result }
 {
-    if !whole_right(row) {
-        return false;
-    }
-    memory_right(row)
+    whole_right(row) && memory_right(row)
 }
 
 // By the phase: 0 free, 1 assembling, 2 pending, 3 queued.

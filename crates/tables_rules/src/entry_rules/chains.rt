@@ -41,6 +41,7 @@ fn unlike_chain(
     ensures { Says (Unlike (code_of high low) (remembered today (entries_from t.now n (i + 1)))) result }
 {
     let mut k = from;
+    // Kept: the place moves along the chain.
     while k < n {
         if entries::same(high, low, t[k * 3 + 0], t[k * 3 + 1]) {
             return false;
@@ -75,20 +76,16 @@ fn all_unlike(t: &[u64], n: usize, today: u64, first: &mut [u16], next: &mut [u1
     requires chained { Chained t.now n today first.old next.old n }
     ensures { Says (AllUnlike (remembered today (entries_in n t.now))) result }
 {
-    let mut i = n;
-    while 0 < i {
-        let e = i - 1;
-        let high = t[e * 3 + 0];
-        let low = t[e * 3 + 1];
-        let day = t[e * 3 + 2];
+    for i in (0..n).rev() {
+        let high = t[i * 3 + 0];
+        let low = t[i * 3 + 1];
+        let day = t[i * 3 + 2];
         if !entries::kept(high, low, day, today) {
-            i = e;
             continue;
         }
-        if !enter(t, n, today, first, next, e) {
+        if !enter(t, n, today, first, next, i) {
             return false;
         }
-        i = e;
     }
     true
 }

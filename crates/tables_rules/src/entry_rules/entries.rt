@@ -14,13 +14,7 @@ use codes::Code;
 fn none(high: u64, low: u64, day: u64) -> bool
     ensures { Says (entry_of high low day ≡ no_entry) result }
 {
-    if high != 0 {
-        return false;
-    }
-    if low != 0 {
-        return false;
-    }
-    day == 0
+    high == 0 && low == 0 && day == 0
 }
 
 // Never used, or a code that the text's rules allow, of a day not after the last opened one.
@@ -43,15 +37,13 @@ pub fn entries_right(t: &[u64], n: usize, last: u64, references: bool) -> bool
     requires { (length t.now ≡ 3 * n) × (n ≤ 2048) }
     ensures { Says (Each (RightEntry (code_right references) last) (entries_in n t.now)) result }
 {
-    let mut i = 0;
-    while i < n {
+    for i in 0..n {
         let high = t[i * 3 + 0];
         let low = t[i * 3 + 1];
         let day = t[i * 3 + 2];
         if !entry_right(high, low, day, last, references) {
             return false;
         }
-        i += 1;
     }
     true
 }
@@ -59,13 +51,7 @@ pub fn entries_right(t: &[u64], n: usize, last: u64, references: bool) -> bool
 fn noted(high: u64, low: u64, day: u64, today: u64) -> bool
     ensures { result ≡ (not (same_code (entry_of high low day).code no_code) && day == today) }
 {
-    if day != today {
-        return false;
-    }
-    if high != 0 {
-        return true;
-    }
-    low != 0
+    day == today && (high != 0 || low != 0)
 }
 
 // How many entries were noted today.
@@ -74,17 +60,14 @@ pub fn noted_today(t: &[u64], n: usize, today: u64) -> usize
     ensures { (result ≡ noted_today today (entries_in n t.now)) × (result ≤ n) }
 {
     let mut count: usize = 0;
-    let mut i = 0;
-    while i < n {
+    for i in 0..n {
         let high = t[i * 3 + 0];
         let low = t[i * 3 + 1];
         let day = t[i * 3 + 2];
         if !noted(high, low, day, today) {
-            i += 1;
             continue;
         }
         count += 1;
-        i += 1;
     }
     count
 }
@@ -93,22 +76,13 @@ pub fn noted_today(t: &[u64], n: usize, today: u64) -> usize
 pub fn kept(high: u64, low: u64, day: u64, today: u64) -> bool
     ensures { result ≡ (not (same_code (entry_of high low day).code no_code) && is_remembered day today) }
 {
-    if !dates::remembered(day, today) {
-        return false;
-    }
-    if high != 0 {
-        return true;
-    }
-    low != 0
+    dates::remembered(day, today) && (high != 0 || low != 0)
 }
 
 pub fn same(high: u64, low: u64, other: u64, end: u64) -> bool
     ensures { result ≡ same_code (code_of high low) (code_of other end) }
 {
-    if high != other {
-        return false;
-    }
-    low == end
+    high == other && low == end
 }
 
 // No remembered code from entry `from` on is this one.
@@ -116,19 +90,16 @@ pub fn alone(t: &[u64], n: usize, from: usize, high: u64, low: u64, today: u64) 
     requires { (length t.now ≡ 3 * n) × (n ≤ 2048) × (from ≤ n) }
     ensures { Says (Unlike (code_of high low) (remembered today (entries_from t.now n from))) result }
 {
-    let mut i = from;
-    while i < n {
+    for i in from..n {
         let other = t[i * 3 + 0];
         let end = t[i * 3 + 1];
         let day = t[i * 3 + 2];
         if !kept(other, end, day, today) {
-            i += 1;
             continue;
         }
         if same(high, low, other, end) {
             return false;
         }
-        i += 1;
     }
     true
 }

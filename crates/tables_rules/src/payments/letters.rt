@@ -28,20 +28,13 @@ fn is_fourth(b: u8) -> bool
 }
 
 // The letters of a debit.
+#[tactic(auto, unfolding(codes::specs::Codes::short_text, codes::specs::Codes::unpacked))]
 pub fn letters_right(v: u64) -> bool
     ensures { result ≡ (nat_lt v 4294967296 && are_letters (short_text v)) }
 {
-    if SHORT_END <= v {
-        return false;
-    }
-    if !is_status(codes::short_byte(v, 0)) {
-        return false;
-    }
-    if !is_status(codes::short_byte(v, 1)) {
-        return false;
-    }
-    if !is_status(codes::short_byte(v, 2)) {
-        return false;
-    }
-    is_fourth(codes::short_byte(v, 3))
+    v < SHORT_END
+        && is_status(codes::short_byte(v, 0))
+        && is_status(codes::short_byte(v, 1))
+        && is_status(codes::short_byte(v, 2))
+        && is_fourth(codes::short_byte(v, 3))
 }

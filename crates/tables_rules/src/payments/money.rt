@@ -35,12 +35,10 @@ fn each_right(row: &[u64], n: usize, banks: usize) -> bool
     requires { (length row.now ≡ 349) × (n ≤ 100) }
     ensures { Says (Each (λ p. Priced banks p × Lettered p) (payments_from row.now 49 n)) result }
 {
-    let mut j = 0;
-    while j < n {
+    for j in 0..n {
         if !payment_right(row, 49 + 3 * j, banks) {
             return false;
         }
-        j += 1;
     }
     true
 }
@@ -51,12 +49,10 @@ fn banks_apart(row: &[u64], n: usize, banks: usize) -> bool
     ensures { Says (Below banks (banks_of (payments_from row.now 49 n))) result }
 {
     let mut seen = [0u64; 64];
-    let mut j = 0;
-    while j < n {
+    for j in 0..n {
         if !marks::mark(&mut seen, banks, row[49 + 3 * j]) {
             return false;
         }
-        j += 1;
     }
     true
 }
@@ -81,16 +77,13 @@ pub fn even(row: &[u64]) -> bool
     let n = row[8] as usize;
     let mut credit: u64 = 0;
     let mut debit: u64 = 0;
-    let mut j = 0;
-    while j < n {
+    for j in 0..n {
         let cents = row[49 + 3 * j + 1];
         if row[49 + 3 * j + 2] == 0 {
             credit += cents;
-            j += 1;
             continue;
         }
         debit += cents;
-        j += 1;
     }
     credit == debit
 }
@@ -101,16 +94,13 @@ pub fn has_debit(row: &[u64], bank: u64) -> bool
     ensures { result ≡ has_debit bank (payments_in row.now) }
 {
     let n = row[8] as usize;
-    let mut j = 0;
-    while j < n {
+    for j in 0..n {
         if row[49 + 3 * j + 2] == 0 {
-            j += 1;
             continue;
         }
         if row[49 + 3 * j] == bank {
             return true;
         }
-        j += 1;
     }
     false
 }

@@ -18,10 +18,8 @@ fn bin_alone(batches: &[u64], from: usize, high: u64, low: u64) -> bool
     requires { (length batches.now ≡ 11168) × (from ≤ 32) }
     ensures { Says (Unlike (code_of high low) (bins_from batches.now from)) result }
 {
-    let mut place = from;
-    while place < Batch::LIVE {
+    for place in from..Batch::LIVE {
         if batches[place * Batch::WIDTH + Batch::PHASE] == 0 {
-            place += 1;
             continue;
         }
         if entries::same(
@@ -32,7 +30,6 @@ fn bin_alone(batches: &[u64], from: usize, high: u64, low: u64) -> bool
         ) {
             return false;
         }
-        place += 1;
     }
     true
 }
@@ -42,10 +39,8 @@ fn bins_differ(batches: &[u64]) -> bool
     requires { length batches.now ≡ 11168 }
     ensures { Says (AllUnlike (live_bins (places_of batches.now))) result }
 {
-    let mut place = 0;
-    while place < Batch::LIVE {
+    for place in 0..Batch::LIVE {
         if batches[place * Batch::WIDTH + Batch::PHASE] == 0 {
-            place += 1;
             continue;
         }
         if !bin_alone(
@@ -56,7 +51,6 @@ fn bins_differ(batches: &[u64]) -> bool
         ) {
             return false;
         }
-        place += 1;
     }
     true
 }
@@ -66,10 +60,8 @@ fn bins_remembered(batches: &[u64], bins: &[u64], today: u64) -> bool
     requires { (length batches.now ≡ 11168) × (length bins.now ≡ 1536) }
     ensures { Says (Each (λ c. has c (remembered today (entries_in 512 bins.now)) ≡ true) (live_bins (places_of batches.now))) result }
 {
-    let mut place = 0;
-    while place < Batch::LIVE {
+    for place in 0..Batch::LIVE {
         if batches[place * Batch::WIDTH + Batch::PHASE] == 0 {
-            place += 1;
             continue;
         }
         if entries::alone(
@@ -82,7 +74,6 @@ fn bins_remembered(batches: &[u64], bins: &[u64], today: u64) -> bool
         ) {
             return false;
         }
-        place += 1;
     }
     true
 }
@@ -93,10 +84,8 @@ fn live_messages(batches: &[u64]) -> u64
     ensures { (result ≡ live_messages (places_of batches.now)) × (result ≤ 320) }
 {
     let mut count: u64 = 0;
-    let mut place = 0;
-    while place < Batch::LIVE {
+    for place in 0..Batch::LIVE {
         count += batches[place * Batch::WIDTH + Batch::MESSAGES_THERE];
-        place += 1;
     }
     count
 }
@@ -112,15 +101,9 @@ pub fn cross_right(
     requires each { Each Counts (batch_rows batches.now) }
     ensures { Says (CrossRules today texts batches.now references.now bins.now) result }
 {
-    if !bins_differ(batches) {
-        return false;
-    }
-    if !bins_remembered(batches, bins, today) {
-        return false;
-    }
     let noted = entries::noted_today(references, 2048, today) as u64;
-    if noted < texts {
-        return false;
-    }
-    live_messages(batches) <= noted - texts
+    bins_differ(batches)
+        && bins_remembered(batches, bins, today)
+        && texts <= noted
+        && live_messages(batches) <= noted - texts
 }

@@ -17,6 +17,7 @@ fn streams_past(row: &[u64], n: usize) -> bool
     tables::house::zero(&row[a..e])
 }
 
+#[tactic(auto, using(book_read::proofs::Filling::each_length))]
 pub fn desk_right(
     desk: Desk,
     codes: &[u64],
@@ -26,23 +27,13 @@ pub fn desk_right(
 ) -> bool
     ensures { Says (DeskRules desk codes.now flags.now balances.now sublimits.now) result }
 {
-    if !tables::house::house_right(desk, codes, flags, balances, sublimits) {
-        return false;
-    }
     let streams = desk.streams;
-    if !streams_past(&streams, desk.n) {
-        return false;
-    }
-    if 36525 <= desk.date {
-        return false;
-    }
-    if 86400 <= desk.clock {
-        return false;
-    }
-    if desk.n < 1 {
-        return false;
-    }
-    1 <= desk.banks
+    tables::house::house_right(desk, codes, flags, balances, sublimits)
+        && streams_past(&streams, desk.n)
+        && desk.date < 36525
+        && desk.clock < 86400
+        && 1 <= desk.n
+        && 1 <= desk.banks
 }
 
 // All rules of a day's tables.

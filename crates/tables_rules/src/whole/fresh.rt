@@ -10,61 +10,34 @@ use tables::Desk;
 fn blank(row: &[u64], n: usize) -> bool
     ensures { Says (Blank n row.now) result }
 {
-    if row.len() != n {
-        return false;
-    }
-    tables::house::zero(row)
+    row.len() == n && tables::house::zero(row)
 }
 
 fn no_day(desk: Desk) -> bool
     ensures { Says (NoDay desk) result }
 {
-    if desk.date != 0 {
-        return false;
-    }
-    if desk.clock != 0 {
-        return false;
-    }
-    if desk.texts != 0 {
-        return false;
-    }
-    if desk.banks != 0 {
-        return false;
-    }
-    if desk.n != 0 {
-        return false;
-    }
     let streams = desk.streams;
-    blank(&streams, 16)
+    desk.date == 0
+        && desk.clock == 0
+        && desk.texts == 0
+        && desk.banks == 0
+        && desk.n == 0
+        && blank(&streams, 16)
 }
 
 fn no_accounts(codes: &[u64], flags: &[u64], balances: &[u64], sublimits: &[u64]) -> bool
     ensures { Says (NoAccounts codes.now flags.now balances.now sublimits.now) result }
 {
-    if !blank(codes, 64) {
-        return false;
-    }
-    if !blank(flags, 64) {
-        return false;
-    }
-    if !blank(balances, 64) {
-        return false;
-    }
-    blank(sublimits, 64)
+    blank(codes, 64) && blank(flags, 64) && blank(balances, 64) && blank(sublimits, 64)
 }
 
 fn no_rows(batches: &[u64], references: &[u64], bins: &[u64]) -> bool
     ensures { Says (NoRows batches.now references.now bins.now) result }
 {
-    if !blank(batches, 11168) {
-        return false;
-    }
-    if !blank(references, 6144) {
-        return false;
-    }
-    blank(bins, 1536)
+    blank(batches, 11168) && blank(references, 6144) && blank(bins, 1536)
 }
 
+#[tactic(auto, using(crate::proofs::whole::Parts::blank_sheet))]
 pub fn none_right(
     desk: Desk,
     codes: &[u64],
@@ -77,11 +50,7 @@ pub fn none_right(
 ) -> bool
     ensures { Says (NoTables desk (lent_with codes.now flags.now balances.now sublimits.now batches.now references.now bins.now)) result }
 {
-    if !no_day(desk) {
-        return false;
-    }
-    if !no_accounts(codes, flags, balances, sublimits) {
-        return false;
-    }
-    no_rows(batches, references, bins)
+    no_day(desk)
+        && no_accounts(codes, flags, balances, sublimits)
+        && no_rows(batches, references, bins)
 }

@@ -1,8 +1,6 @@
+use Rattle.settle.proofs.Laws.{left_from}
 use Rattle.tables_sheet.proofs.Adding.{Adding}
 use Rattle.tables_sheet.proofs.add_row.Given as goal
 
-abbrev pub invariant-loop-left : goal.invariant-loop-left
-invariant-loop-left l = Adding l.row l.initial.sheet l.sheet l.at l.left
-
-abbrev pub decreases-loop-left : goal.decreases-loop-left
-decreases-loop-left l = l.left
+abbrev pub invariant-loop-i : goal.invariant-loop-i
+invariant-loop-i l = Adding l.row l.initial.sheet l.sheet (left_from l.row 49 l.n l.i)

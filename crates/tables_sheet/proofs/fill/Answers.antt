@@ -1,4 +1,3 @@
-use Prim.Native.Nat.{◌-◌}
 use borrow.Author.Rules.{rules}
 use Rattle.tables_sheet.proofs.Filling.{filling_start, filling_addable, filling_turn, filling_done}
 use Rattle.tables_sheet.proofs.fill.Goals as goal

@@ -1,8 +1,5 @@
-use Rattle.tables_sheet.proofs.Laws.{right_short, right_same}
+use Rattle.tables_sheet.proofs.Laws.{right_same}
 use Rattle.tables_sheet.proofs.right.Goals as goal
 
-pub returns-then-sheet-ne-LENGTH : goal.returns-then-sheet-ne-LENGTH
-returns-then-sheet-ne-LENGTH c = search right_short
-
 pub returns : goal.returns
-returns c = search right_same
+returns c = right_same _ _ _ _ c.fill.ensures c.as_slice.ensures _ c.eq.ensures

@@ -7,7 +7,7 @@ use native.Mathlib.Omega.{arith}
 use lib.Dec.{eqb, ltb}
 use lib.ListN.{length, take, drop, length-append}
 use lib.Seq.{drop_at, take_at}
-use borrow.Author.Tests.{not-true, not-false, eq-eqb, ne_eqb, lt-ltb}
+use borrow.Author.Tests.{eq-eqb, ne_eqb, lt-ltb}
 use Rattle.chars.specs.Chars.{is_code, is_letter, is_digit}
 use Rattle.codes.specs.Codes.{unpacked, named, spelled, long_text}
 use Rattle.codes.specs.declared.Code.{Code}
@@ -59,20 +59,17 @@ module _ (is : ℕ → Bool) (w v left rest : ℕ) (b : all_are is (unpacked lef
         ∙ sym (ap (all_are is) (cut left rest h))
         ∙ b
 
-    pub all_not : not r ≡ true → false ≡ all_are is (unpacked w v)
-    all_not g = and_false (all_are is (unpacked (left - 1) (rest / 256))) ∙ (rw (not-true r g) at step)
+    pub all_not : r ≡ false → false ≡ all_are is (unpacked w v)
+    all_not g = and_false (all_are is (unpacked (left - 1) (rest / 256))) ∙ (rw g at step)
 
-    pub all_on : not r ≡ false → all_are is (unpacked (left - 1) (rest / 256)) ≡ all_are is (unpacked w v)
-    all_on g = sym (and_true_end (all_are is (unpacked (left - 1) (rest / 256)))) ∙ (rw (not-false r g) at step)
+    pub all_on : r ≡ true → all_are is (unpacked (left - 1) (rest / 256)) ≡ all_are is (unpacked w v)
+    all_on g = sym (and_true_end (all_are is (unpacked (left - 1) (rest / 256)))) ∙ (rw g at step)
 
 -- ---- zeros at the end
 
 append_none : (l : List ℕ) → l ≡ l ++ []
 append_none [] = refl
 append_none (x ∷ l) = ap (λ (m : List ℕ). x ∷ m) (append_none l)
-
-pub ends_start : (v : ℕ) → Ends (unpacked 8 v) 8 v
-ends_start v = record { zeros = []; is = append_none (unpacked 8 v); none = refl }
 
 pub ends_on : (l : List ℕ) (w v : ℕ) → Ends l w v → 0 < w → v % 256 ≡ 0 → Ends l (w - 1) (v / 256)
 ends_on l w v x h z = record {
@@ -100,14 +97,14 @@ module _ (c : Code) where
     some = omega (arith, unpack_length w v);
   }
 
-  pub plain_long : {w v : ℕ} → Ends (unpacked 8 c.low) w v → {r : Bool} → r ≡ all_are is_code (unpacked w v) → not r ≡ false → {q : Bool} → q ≡ all_are is_code (unpacked 8 c.high)
+  pub plain_long : {w v : ℕ} → Ends (unpacked 8 c.low) w v → {r : Bool} → r ≡ all_are is_code (unpacked w v) → r ≡ true → {q : Bool} → q ≡ all_are is_code (unpacked 8 c.high)
       → q ≡ true → Plain c
   unfolding spelled
   plain_long {w} {v} x {r} e f g h = record {
     text = unpacked 8 c.high ++ unpacked w v;
     zeros = x.zeros;
     is = ap (λ (l : List ℕ). unpacked 8 c.high ++ l) x.is ∙ sym (append_assoc (unpacked 8 c.high) (unpacked w v) x.zeros);
-    codes = all_join is_code (unpacked 8 c.high) (unpacked w v) (sym g ∙ h) (sym e ∙ not-false r f);
+    codes = all_join is_code (unpacked 8 c.high) (unpacked w v) (sym g ∙ h) (sym e ∙ f);
     none = x.none;
     some = omega (arith, length-append (unpacked 8 c.high) (unpacked w v), unpack_length 8 c.high);
   }
@@ -142,9 +139,9 @@ module _ (c : Code) (high : c.high < 18446744073709551616) (low : c.low < 184467
       ∙ ap (all_are is_zero) (drop_at p.text p.zeros (length p.text) refl)
       ∙ p.none
 
-  pub plain_reference : {a : Bool} → (a ≡ true → Plain c) → not a ≡ false → {d : Bool} → d ≡ forbidden (long_text c) → not d ≡ is_reference c
+  pub plain_reference : {a : Bool} → (a ≡ true → Plain c) → a ≡ true → {d : Bool} → d ≡ forbidden (long_text c) → not d ≡ is_reference c
   plain_reference {a} f e {d} ed =
-      let p = f (not-false a e) in
+      let p = f e in
       let s : ltb 0 (length (long_text c)) ≡ true = lt-ltb 0 (length (long_text c)) (subst (λ (l : List ℕ). 0 < length l) (sym (text_is p)) p.some) in
       let k : all_are is_code (long_text c) ≡ true = ap (all_are is_code) (text_is p) ∙ p.codes in
       rw (plain_whole p, s, k, ← ed)
@@ -169,12 +166,12 @@ digits_codes [] h = refl
 digits_codes (x ∷ l) h = let k = and_true (is_digit x) (all_are is_digit l) h in rw (digit_code x k.0) (digits_codes l k.1)
 
 module _ (c : Code) (high : c.high < 18446744073709551616) (low : c.low < 18446744073709551616) where
-  pub plain_bin : c.low ≡ 0 → {a : Bool} → a ≡ all_are is_digit (unpacked 4 c.high) → not a ≡ false → {b : Bool} → b ≡ all_are is_code (unpacked 4 (c.high / 4294967296)) → not b ≡ false
+  pub plain_bin : c.low ≡ 0 → {a : Bool} → a ≡ all_are is_digit (unpacked 4 c.high) → a ≡ true → {b : Bool} → b ≡ all_are is_code (unpacked 4 (c.high / 4294967296)) → b ≡ true
       → true ≡ is_bin c
   unfolding spelled
   plain_bin z {a} ea fa {b} eb fb =
-      let digits : all_are is_digit (unpacked 4 c.high) ≡ true = sym ea ∙ not-false a fa in
-      let codes : all_are is_code (unpacked 4 (c.high / 4294967296)) ≡ true = sym eb ∙ not-false b fb in
+      let digits : all_are is_digit (unpacked 4 c.high) ≡ true = sym ea ∙ fa in
+      let codes : all_are is_code (unpacked 4 (c.high / 4294967296)) ≡ true = sym eb ∙ fb in
       let p : Plain c = record {
         text = unpacked 4 (c.high / 4294967296) ++ unpacked 4 c.high;
         zeros = unpacked 8 c.low;

@@ -1,21 +1,20 @@
 -- Laws of the tests of references and BINs.
 use Prim.Native.Nat.{ℕ, zero, suc, ◌+◌, ◌*◌, ◌/◌, ◌%◌, ◌≤◌, ◌<◌}
 use mathlib.Core.Path.{◌≡◌, refl, sym, ap, subst, ◌∙◌}
-use mathlib.Core.Bool.{Bool, true, false, not, ◌&&◌, false≢true, and-true as and-end}
+use mathlib.Core.Bool.{Bool, true, false, cond, ◌&&◌, false≢true}
 use mathlib.Core.List.{List, [], ◌∷◌, ◌++◌}
 use native.Mathlib.Omega.{arith}
 use native.Mathlib.Numerals.{add-one}
 use lib.Dec.{eqb}
 use lib.ListN.{length, get_or, take, drop, drop_of_length-le}
-use lib.Seq.{take_at, drop_at, drop-nil, drop-cons, take_all, get_or-take, length-take-le}
-use borrow.Author.Tests.{not-true, not-false, lt-ltb, eqb-true, eq-eqb, ne_eqb}
-use Rattle.chars.specs.Words.{bytes}
+use lib.Seq.{take_at, drop_at, drop-nil, drop-cons, get_or-take, length-take-le}
+use borrow.Author.Tests.{eqb-true, eq-eqb, ne_eqb}
 use Rattle.chars.specs.Chars.{is_code, is_digit}
 use Rattle.codes.specs.Codes.{unpacked, named, spelled, long_text, long_of, pack_on, packed, Bytes, NoZero, filled}
 use Rattle.codes.specs.declared.Code.{Code}
-use Rattle.codes.proofs.Laws.{unpack_length, spelled_length, unpack_pack, pack_unpack, pack_take, bytes_drop, filled_split, named_at_lem}
+use Rattle.codes.proofs.Laws.{unpack_length, spelled_length, unpack_pack, pack_unpack, pack_take, bytes_drop, filled_split}
 use Rattle.text_scan.specs.Scan.{begins}
-use Rattle.text_names.specs.rules.Names.{all_are, same_code, is_whole, forbidden, is_reference, is_bin}
+use Rattle.text_names.specs.rules.Names.{all_are, same_code, is_whole, is_bin}
 
 -- ---- yes and no
 
@@ -68,11 +67,11 @@ module _ (is : ℕ → Bool) (l : List ℕ) (i : ℕ) {b : Bool} (inv : all_are 
     cut : drop i l ≡ get_or l i 0 ∷ drop (i + 1) l
     cut = rw add-one (drop-cons l i 0 h)
 
-    all_not : not r ≡ true → false ≡ b
-    all_not g = rw (cut, e, not-true r g) at inv
+    all_not : r ≡ false → false ≡ b
+    all_not g = rw (cut, e, g) at inv
 
-    all_on : not r ≡ false → all_are is (drop (i + 1) l) ≡ b
-    all_on g = rw (cut, e, not-false r g) at inv
+    all_on : r ≡ true → all_are is (drop (i + 1) l) ≡ b
+    all_on g = rw (cut, e, g) at inv
 
 -- ---- a code whose characters are followed by zeros alone
 
@@ -191,56 +190,39 @@ module _ (c : Code) where
     pub whole_start : {n : ℕ} → n ≡ length text → all_are is_zero (drop n (spelled c)) ≡ is_whole c
     whole_start e = rw e (same_test _ (is_whole c) zeros_whole whole_zeros)
 
-  module _ (i : ℕ) (inv : all_are is_zero (drop i (spelled c)) ≡ is_whole c) where
-    pub whole_end : 16 ≤ i → true ≡ is_whole c
-    whole_end h = all_end is_zero (spelled c) i inv (omega (arith, spelled_length c))
+-- ---- the bytes of a class, from one place up to another
 
-    module _ (h : i < 16) {x : ℕ} (e : x ≡ get_or (spelled c) i 0) where
-      inside : i < length (spelled c)
-      inside = omega (arith, spelled_length c)
+module _ (c : Code) (from to : ℕ) (within : to ≤ 16) (is : ℕ → Bool) (i : ℕ) (inv : all_are is (drop i (take to (spelled c))) ≡ all_are is (drop from (take to (spelled c)))) where
+  all_long : length (take to (spelled c)) ≡ to
+  all_long = length-take-le to (spelled c) (omega (arith, spelled_length c))
 
-      pub whole_not : (x ≡ 0 → ⊥) → false ≡ is_whole c
-      whole_not n = all_not is_zero (spelled c) i inv inside (ap is_zero (sym e) ∙ ne_eqb x 0 n) refl
+  pub bytes_end : to ≤ i → true ≡ all_are is (drop from (take to (spelled c)))
+  bytes_end h = all_end is (take to (spelled c)) i inv (omega (arith, all_long))
 
-      pub whole_on : x ≡ 0 → all_are is_zero (drop (i + 1) (spelled c)) ≡ is_whole c
-      whole_on z = all_on is_zero (spelled c) i inv inside (ap is_zero (sym e) ∙ eq-eqb x 0 z) refl
+  module _ (h : i < to) {x : ℕ} (e : x ≡ get_or (spelled c) i 0) {r : Bool} (f : r ≡ is x) where
+    here : is (get_or (take to (spelled c)) i 0) ≡ r
+    here = sym (f ∙ ap is (e ∙ sym (get_or-take to (spelled c) i 0 h)))
 
-  -- ---- characters of a class
+    pub bytes_not : r ≡ false → false ≡ all_are is (drop from (take to (spelled c)))
+    bytes_not g = all_not is (take to (spelled c)) i inv (omega (arith, all_long)) here g
 
-  char_at : (i : ℕ) → i < length text → {x : ℕ} → x ≡ get_or (spelled c) i 0 → x ≡ get_or text i 0
-  unfolding long_text
-  char_at i h e = e ∙ sym (named_at_lem (spelled c) i h)
+    pub bytes_on : r ≡ true → all_are is (drop (i + 1) (take to (spelled c))) ≡ all_are is (drop from (take to (spelled c)))
+    bytes_on g = all_on is (take to (spelled c)) i inv (omega (arith, all_long)) here g
 
-  module _ (n i : ℕ) (fits : n ≤ length text) (inv : all_are is_code (drop i (take n text)) ≡ all_are is_code (take n text)) where
-    pub codes_end : n ≤ i → true ≡ all_are is_code (take n text)
-    codes_end h = all_end is_code (take n text) i inv (omega (arith, length-take-le n text fits))
+-- the first characters are the first bytes
+named_take : (n : ℕ) (s : List ℕ) → n ≤ length (named s) → take n s ≡ take n (named s)
+unfolding named
+named_take zero s h = refl
+named_take (suc n) [] h = absurd (omega arith)
+named_take (suc n) (x ∷ s) h = go (eqb x 0) h (named_take n s)
+  where
+    go : (t : Bool) → suc n ≤ length (cond t [] (x ∷ named s)) → (n ≤ length (named s) → take n s ≡ take n (named s)) → x ∷ take n s ≡ take (suc n) (cond t [] (x ∷ named s))
+    go true h f = absurd (omega arith)
+    go false h f = ap (λ (l : List ℕ). x ∷ l) (f (omega arith))
 
-    module _ (h : i < n) {x : ℕ} (e : x ≡ get_or (spelled c) i 0) {r : Bool} (f : r ≡ is_code x) where
-      code_here : is_code (get_or (take n text) i 0) ≡ r
-      code_here = sym (f ∙ ap is_code (char_at i (omega arith) e ∙ sym (get_or-take n text i 0 h)))
-
-      code_inside : i < length (take n text)
-      code_inside = omega (arith, length-take-le n text fits)
-
-      pub codes_not : not r ≡ true → false ≡ all_are is_code (take n text)
-      codes_not g = all_not is_code (take n text) i inv code_inside code_here g
-
-      pub codes_on : not r ≡ false → all_are is_code (drop (i + 1) (take n text)) ≡ all_are is_code (take n text)
-      codes_on g = all_on is_code (take n text) i inv code_inside code_here g
-
-  module _ (i : ℕ) (long : length text ≡ 8) (inv : all_are is_digit (drop i text) ≡ all_are is_digit (drop 4 text)) where
-    pub digits_end : 8 ≤ i → true ≡ all_are is_digit (drop 4 text)
-    digits_end h = all_end is_digit text i inv (omega arith)
-
-    module _ (h : i < 8) {x : ℕ} (e : x ≡ get_or (spelled c) i 0) {r : Bool} (f : r ≡ is_digit x) where
-      digit_here : is_digit (get_or text i 0) ≡ r
-      digit_here = sym (f ∙ ap is_digit (char_at i (omega arith) e))
-
-      pub digits_not : not r ≡ true → false ≡ all_are is_digit (drop 4 text)
-      digits_not g = all_not is_digit text i inv (omega arith) digit_here g
-
-      pub digits_on : not r ≡ false → all_are is_digit (drop (i + 1) text) ≡ all_are is_digit (drop 4 text)
-      digits_on g = all_on is_digit text i inv (omega arith) digit_here g
+pub text_take : (c : Code) (n : ℕ) → n ≤ length (long_text c) → take n (spelled c) ≡ take n (long_text c)
+unfolding long_text
+text_take c n h = named_take n (spelled c) h
 
 -- ---- the first characters
 
@@ -256,96 +238,24 @@ begins_none : (s : List ℕ) → begins [] s ≡ true
 unfolding begins
 begins_none s = refl
 
-module _ (p q r t : ℕ) (hp : 1 ≤ p) (hq : 1 ≤ q) (hr : 1 ≤ r) (ht : 1 ≤ t) where
-  begins_four : (s : List ℕ) → 4 ≤ length s
-      → begins (p ∷ q ∷ r ∷ t ∷ []) (named s) ≡ eqb (get_or s 0 0) p && (eqb (get_or s 1 0) q && (eqb (get_or s 2 0) r && (eqb (get_or s 3 0) t && true)))
-  begins_four [] h = absurd (omega arith)
-  begins_four (w ∷ []) h = absurd (omega arith)
-  begins_four (w ∷ x ∷ []) h = absurd (omega arith)
-  begins_four (w ∷ x ∷ y ∷ []) h = absurd (omega arith)
-  begins_four (w ∷ x ∷ y ∷ z ∷ s) h =
-      begins_step p w (q ∷ r ∷ t ∷ []) (x ∷ y ∷ z ∷ s) hp
-      ∙ ap (λ (b : Bool). eqb w p && b)
-      (begins_step q x (r ∷ t ∷ []) (y ∷ z ∷ s) hq
-      ∙ ap (λ (b : Bool). eqb x q && b)
-      (begins_step r y (t ∷ []) (z ∷ s) hr
-      ∙ ap (λ (b : Bool). eqb y r && b) (begins_step t z [] s ht ∙ ap (λ (b : Bool). eqb z t && b) (begins_none (named s)))))
+some_at : (w : List ℕ) (i : ℕ) → NoZero w → i < length w → 1 ≤ get_or w i 0
+some_at [] i n h = absurd (omega arith)
+some_at (x ∷ w) zero n h = n.0
+some_at (x ∷ w) (suc i) n h = some_at w i n.1 (omega arith)
 
-spread : (w : List ℕ) → length w ≡ 4 → w ≡ get_or w 0 0 ∷ get_or w 1 0 ∷ get_or w 2 0 ∷ get_or w 3 0 ∷ []
-spread [] e = absurd (omega arith)
-spread (p ∷ []) e = absurd (omega arith)
-spread (p ∷ q ∷ []) e = absurd (omega arith)
-spread (p ∷ q ∷ r ∷ []) e = absurd (omega arith)
-spread (p ∷ q ∷ r ∷ t ∷ []) e = refl
-spread (p ∷ q ∷ r ∷ t ∷ u ∷ w) e = absurd (omega arith)
+module _ (w : List ℕ) (c : Code) (short : length w ≤ 16) (some : NoZero w) (i : ℕ) (inv : begins (drop i w) (named (drop i (spelled c))) ≡ begins w (long_text c)) where
+  pub begin_end : length w ≤ i → true ≡ begins w (long_text c)
+  begin_end h = sym (begins_none (named (drop i (spelled c)))) ∙ rw (drop_of_length-le w {i = i} h) at inv
 
-module _ (w : List ℕ) (c : Code) (four : length w ≡ 4) (some : NoZero w) where
-  first_four : begins w (long_text c)
-      ≡ eqb (get_or (spelled c) 0 0) (get_or w 0 0)
-      && (eqb (get_or (spelled c) 1 0) (get_or w 1 0) && (eqb (get_or (spelled c) 2 0) (get_or w 2 0) && (eqb (get_or (spelled c) 3 0) (get_or w 3 0) && true)))
-  unfolding long_text
-  first_four =
-      let n = subst NoZero (spread w four) some in
-      ap (λ (l : List ℕ). begins l (named (spelled c))) (spread w four)
-      ∙ begins_four (get_or w 0 0) (get_or w 1 0) (get_or w 2 0) (get_or w 3 0) n.0 n.1.0 n.1.1.0 n.1.1.1.0 (spelled c) (omega (arith, spelled_length c))
+  module _ (h : i < length w) {x : ℕ} (e : x ≡ get_or (spelled c) i 0) where
+    begin_step : (eqb x (get_or w i 0) && begins (drop (i + 1) w) (named (drop (i + 1) (spelled c)))) ≡ begins w (long_text c)
+    begin_step =
+        let p : drop i w ≡ get_or w i 0 ∷ drop (i + 1) w = rw add-one (drop-cons w i 0 h) in
+        let q : drop i (spelled c) ≡ x ∷ drop (i + 1) (spelled c) = rw (e, add-one) (drop-cons (spelled c) i 0 (omega (arith, spelled_length c))) in
+        sym (begins_step (get_or w i 0) x (drop (i + 1) w) (drop (i + 1) (spelled c)) (some_at w i some h)) ∙ rw (p, q) at inv
 
-  module _ {a : ℕ} (ea : a ≡ get_or (spelled c) 0 0) where
-    pub begin_0 : (a ≡ get_or w 0 0 → ⊥) → false ≡ begins w (long_text c)
-    begin_0 n = rw (first_four, ← ea, ne_eqb a (get_or w 0 0) n)
+    pub begin_not : (x ≡ get_or w i 0 → ⊥) → false ≡ begins w (long_text c)
+    begin_not n = rw (ne_eqb x (get_or w i 0) n) at begin_step
 
-    module _ (e : a ≡ get_or w 0 0) {b : ℕ} (eb : b ≡ get_or (spelled c) 1 0) where
-      pub begin_1 : (b ≡ get_or w 1 0 → ⊥) → false ≡ begins w (long_text c)
-      begin_1 n = rw (first_four, ← ea, ← eb, eq-eqb a (get_or w 0 0) e, ne_eqb b (get_or w 1 0) n)
-
-      module _ (f : b ≡ get_or w 1 0) {d : ℕ} (ed : d ≡ get_or (spelled c) 2 0) where
-        pub begin_2 : (d ≡ get_or w 2 0 → ⊥) → false ≡ begins w (long_text c)
-        begin_2 n = rw (first_four, ← ea, ← eb, ← ed, eq-eqb a (get_or w 0 0) e, eq-eqb b (get_or w 1 0) f, ne_eqb d (get_or w 2 0) n)
-
-        pub begin_3 : d ≡ get_or w 2 0 → {x : ℕ} → x ≡ get_or (spelled c) 3 0 → eqb x (get_or w 3 0) ≡ begins w (long_text c)
-        begin_3 g {x} ex =
-            rw (first_four, ← ea, ← eb, ← ed, ← ex, eq-eqb a (get_or w 0 0) e, eq-eqb b (get_or w 1 0) f, eq-eqb d (get_or w 2 0) g)
-            (sym (and-end (eqb x (get_or w 3 0))))
-
-module _ (l : List ℕ) {a : Bool} (ea : a ≡ begins (bytes "RITS") l) where
-  pub forbid_1 : a ≡ true → true ≡ forbidden l
-  forbid_1 e = rw (← ea, e)
-
-  module _ (e : a ≡ false) {b : Bool} (eb : b ≡ begins (bytes "ACLR") l) where
-    pub forbid_2 : b ≡ true → true ≡ forbidden l
-    forbid_2 f = rw (← ea, e, ← eb, f)
-
-    pub forbid_3 : b ≡ false → {d : Bool} → d ≡ begins (bytes "ASXC") l → d ≡ forbidden l
-    forbid_3 f ed = rw (← ea, e, ← eb, f, ← ed)
-
--- ---- the whole test
-
-module _ (c : Code) {a : Bool} (ea : a ≡ is_whole c) where
-  pub reference_1 : not a ≡ true → false ≡ is_reference c
-  reference_1 e = rw (← ea, not-true a e)
-
-  pub bin_1 : not a ≡ true → false ≡ is_bin c
-  bin_1 e = rw (← ea, not-true a e)
-
-  module _ (e : not a ≡ false) {n : ℕ} (en : n ≡ length (long_text c)) where
-    pub reference_2 : n ≡ 0 → false ≡ is_reference c
-    reference_2 z = rw (← ea, not-false a e, ← en, z)
-
-    pub bin_2 : (n ≡ 8 → ⊥) → false ≡ is_bin c
-    bin_2 z = rw (← ea, not-false a e, ← en, ne_eqb n 8 z)
-
-    module _ (some : n ≡ 0 → ⊥) {b : Bool} (eb : b ≡ all_are is_code (take n (long_text c))) where
-      all_codes : all_are is_code (long_text c) ≡ b
-      all_codes = sym (eb ∙ ap (all_are is_code) (take_all n (long_text c) (omega arith)))
-
-      pub reference_3 : not b ≡ true → false ≡ is_reference c
-      reference_3 f = rw (← ea, not-false a e, all_codes, not-true b f, ← en, lt-ltb 0 n (omega arith))
-
-      pub reference_4 : not b ≡ false → {d : Bool} → d ≡ forbidden (long_text c) → not d ≡ is_reference c
-      reference_4 f ed = rw (← ea, not-false a e, all_codes, not-false b f, ← en, lt-ltb 0 n (omega arith), ← ed)
-
-    module _ (eight : n ≡ 8) {b : Bool} (eb : b ≡ all_are is_code (take 4 (long_text c))) where
-      pub bin_3 : not b ≡ true → false ≡ is_bin c
-      bin_3 f = rw (← ea, not-false a e, ← en, eq-eqb n 8 eight, ← eb, not-true b f)
-
-      pub bin_4 : not b ≡ false → {d : Bool} → d ≡ all_are is_digit (drop 4 (long_text c)) → d ≡ is_bin c
-      bin_4 f ed = rw (← ea, not-false a e, ← en, eq-eqb n 8 eight, ← eb, not-false b f, ← ed)
+    pub begin_on : x ≡ get_or w i 0 → begins (drop (i + 1) w) (named (drop (i + 1) (spelled c))) ≡ begins w (long_text c)
+    begin_on n = rw (eq-eqb x (get_or w i 0) n) at begin_step

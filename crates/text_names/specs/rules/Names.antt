@@ -1,5 +1,5 @@
 -- The codes that a text allows as a reference or a BIN.
-use Rattle.std.specs.Prelude.{ℕ, ◌/◌, Bool, true, ◌&&◌, ◌||◌, not, List, [], ◌∷◌, eqb, ltb, length, take, drop}
+use Rattle.std.specs.Prelude.{ℕ, ◌/◌, ◌<◌, ◌≡◌, Bool, true, ◌&&◌, ◌||◌, not, List, [], ◌∷◌, eqb, ltb, length, take, drop}
 use Rattle.chars.specs.Words.{bytes}
 use Rattle.chars.specs.Chars.{is_code, is_digit}
 use Rattle.codes.specs.Codes.{long_of, long_text}
@@ -10,6 +10,10 @@ use Rattle.text_scan.specs.Scan.{begins}
 abbrev pub all_are : (ℕ → Bool) → List ℕ → Bool
 all_are is [] = true
 all_are is (x ∷ xs) = is x && all_are is xs
+
+-- a test of bytes tells whether they are of a class
+abbrev pub Tells : (ℕ → Bool → Type 0) → (ℕ → Bool) → Type 0
+Tells post class = (x : ℕ) (r : Bool) → x < 256 → post x r → r ≡ class x
 
 abbrev pub same_code : Code → Code → Bool
 same_code a b = eqb a.high b.high && eqb a.low b.low

@@ -6,6 +6,3 @@ use Rattle.text_put.proofs.digits.Given as goal
 
 abbrev pub invariant-loop-i : goal.invariant-loop-i
 invariant-loop-i l = (l.i ≤ l.k) × (length l.out ≡ length l.initial.out) × (from_last l.i l.rest l.at l.out ≡ from_last l.k l.v l.at l.initial.out)
-
-abbrev pub decreases-loop-i : goal.decreases-loop-i
-decreases-loop-i l = l.i

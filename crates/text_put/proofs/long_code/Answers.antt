@@ -14,7 +14,7 @@ pub loop-i-preserved : goal.loop-i-preserved
 unfolding long_text
 loop-i-preserved c =
     let code = c.args.code in
-    let h : c.loop-i.i < length (named (spelled code)) = omega (arith, c.len-n.ensures.value) in
+    let h : c.loop-i.i < length (named (spelled code)) = omega (arith, c.len-i-end.ensures.value) in
     putting_on c.loop-i.invariant h (c.byte.ensures ∙ sym (named_at_lem (spelled code) c.loop-i.i h)) c.byte-in-loop-i.ensures
 
 pub shape_of-out : goal.shape_of-out

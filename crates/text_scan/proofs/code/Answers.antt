@@ -1,17 +1,11 @@
-use Rattle.text_scan.proofs.Laws.{code_short, code_from, code_not, code_on, code_all}
+use Rattle.text_scan.proofs.Laws.{codes_from_lem, code_all, code_not}
 use Rattle.text_scan.proofs.code.Goals as goal
 
-pub returns-then-left-n : goal.returns-then-left-n
-returns-then-left-n c = search code_short
+pub overflow_sub-end : goal.overflow_sub-end
+overflow_sub-end c = codes_from_lem _ _ _ c.codes-end.ensures
 
-pub loop-i-init : goal.loop-i-init
-loop-i-init c = search code_from
+pub returns-then-end-at : goal.returns-then-end-at
+returns-then-end-at c = code_all _ _ _ c.codes-end.ensures c.if-end-at.true
 
-pub returns-then-not-is_code : goal.returns-then-not-is_code
-returns-then-not-is_code c = search code_not
-
-pub loop-i-preserved : goal.loop-i-preserved
-loop-i-preserved c = search code_on
-
-pub returns : goal.returns
-returns c = search code_all
+pub returns-else-end-at : goal.returns-else-end-at
+returns-else-end-at c = code_not _ _ _ c.codes-end.ensures c.if-end-at.false

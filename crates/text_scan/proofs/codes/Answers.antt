@@ -1,33 +1,21 @@
-use mathlib.Core.Path.{◌≡◌, refl, sym, ◌∙◌}
+use Prim.Native.Nat.{◌+◌, ◌-◌}
+use mathlib.Core.Path.{◌≡◌}
 use native.Mathlib.Omega.{arith}
-use Rattle.text_scan.proofs.Laws.{codes_none, codes_end, codes_stop, codes_down}
-use borrow.Author.Tests.{not-true, not-false}
+use Rattle.text_scan.proofs.Laws.{codes_here, codes_on, codes_past}
 use Rattle.text_scan.proofs.codes.Goals as goal
 
-pub loop-n-init : goal.loop-n-init
-loop-n-init c = refl
-
-pub returns-then-j-s : goal.returns-then-j-s
-returns-then-j-s c =
+pub loop-i-init : goal.loop-i-init
+loop-i-init c =
     let a = c.args in
-    let l = c.loop-n in
-    cc (codes_end a.s.now l.j l.n (omega arith))
+    let y : a.at + 0 ≡ a.at = omega arith in
+    let z : a.max - 0 ≡ a.max = omega arith in
+    rw (y, z)
 
 pub returns-then-not-is_code : goal.returns-then-not-is_code
-returns-then-not-is_code c =
-    let a = c.args in
-    let l = c.loop-n in
-    cc (codes_stop a.s.now l.j l.n (omega arith) (sym c.is_code.ensures ∙ not-true _ c.if-not-is_code.true-raw))
+returns-then-not-is_code c = let a = c.args in codes_here a.s.now a.at a.max c.window-here.ensures c.loop-i.invariant c.loop-i-test.true c.if-not-is_code.ensures
 
-pub loop-n-preserved : goal.loop-n-preserved
-loop-n-preserved c =
-    let a = c.args in
-    let l = c.loop-n in
-    cc (codes_down a.s.now l.j l.n (omega arith) (omega arith) (sym c.is_code.ensures ∙ not-false _ c.if-not-is_code.false-raw))
+pub loop-i-preserved : goal.loop-i-preserved
+loop-i-preserved c = let a = c.args in codes_on a.s.now a.at a.max c.window-here.ensures c.loop-i.invariant c.loop-i-test.true c.if-not-is_code.ensures
 
 pub returns : goal.returns
-returns c =
-    let a = c.args in
-    let l = c.loop-n in
-    let z : l.n ≡ 0 = omega arith in
-    cc (codes_none a.s.now l.j 0)
+returns c = let a = c.args in codes_past a.s.now a.at a.max c.window-here.ensures c.loop-i.invariant (omega arith)

@@ -7,5 +7,5 @@ returns-then-end-s c = search text_inside
 pub returns-else-end-s : goal.returns-else-end-s
 returns-else-end-s c = search text_past
 
-pub returns-else-start-end : goal.returns-else-start-end
-returns-else-start-end c = search text_none
+pub returns-then-end-start : goal.returns-then-end-start
+returns-then-end-start c = search text_none

@@ -6,4 +6,4 @@ returns c =
     call_columns _ _ _ _ _ _ _ _ _ _ _ _ _ _ _ _ _ _ _ _ _ _ _ _
     c.row_of-row.ensures
     c.call_row-left.ensures
-    c.part.ensures
+    c.load.ensures

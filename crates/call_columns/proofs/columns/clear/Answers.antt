@@ -6,4 +6,4 @@ returns c =
     clear_columns _ _ _ _ _ _ _ _ _ _ _ _ _ _ _ _ _ _ _
     c.row_of-row.ensures
     c.clear_row-left.ensures
-    c.part.ensures
+    c.load.ensures

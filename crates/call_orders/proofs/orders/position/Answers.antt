@@ -1,5 +1,4 @@
 use borrow.Author.Rules.{rules}
-use Prim.Native.Nat.{◌-◌}
 use Rattle.call_orders.proofs.OrderLaws.{order_here, order_on, order_end}
 use Rattle.call_orders.proofs.orders.position.Goals as goal
 

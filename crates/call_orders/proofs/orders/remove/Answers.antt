@@ -1,6 +1,5 @@
 use native.Mathlib.Omega.{arith}
 use borrow.Author.Rules.{rules}
-use Prim.Native.Nat.{◌-◌}
 use lib.ListN.{length-set}
 use Rattle.call_orders.proofs.OrderLaws.{others_start, others_turn, others_done}
 use Rattle.call_orders.proofs.orders.remove.Goals as goal
@@ -11,7 +10,7 @@ loop-i-init c = search (rules, others_start)
 
 -- src/orders.rt:51:5
 pub loop-i-preserved : goal.loop-i-preserved
-loop-i-preserved c = (search rules, search rules, search (rules, length-set), others_turn _ _ _ _ _ _ (omega arith) (omega arith) (omega arith) c.loop-i.invariant.3 c.kept-k.ensures.0)
+loop-i-preserved c = (search rules, search (rules, length-set), others_turn _ _ _ _ _ _ (omega arith) (omega arith) (omega arith) c.loop-i.invariant.2 c.kept-k.ensures.0)
 
 -- src/orders.rt:45:1
 pub returns : goal.returns

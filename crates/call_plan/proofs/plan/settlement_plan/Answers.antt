@@ -2,14 +2,11 @@ use Rattle.call_plan.proofs.plan.PlanLaws.{settlement_used, settlement_full, set
 use borrow.Author.Rules.{rules}
 use Rattle.call_plan.proofs.plan.settlement_plan.Goals as goal
 
--- src/lib.rt:118:9
-pub returns-then-l : goal.returns-then-l
-returns-then-l c = search (rules, settlement_used)
+pub returns-in-Used : goal.returns-in-Used
+returns-in-Used c = search (rules, settlement_used)
 
--- src/lib.rt:99:1
-pub returns-in-Here : goal.returns-in-Here
-returns-in-Here c = search (rules, settlement_noted)
+pub returns-in-Full : goal.returns-in-Full
+returns-in-Full c = search (rules, settlement_full)
 
--- src/lib.rt:99:1
-pub returns-in-Nowhere : goal.returns-in-Nowhere
-returns-in-Nowhere c = search (rules, settlement_full)
+pub returns : goal.returns
+returns c = search (rules, settlement_noted)

@@ -8,9 +8,3 @@ returns-then-code-gt-LAST_CODE c = simp (lt-leb _ _ c.if-code-gt-LAST_CODE.true)
 
 pub returns-then-flags-gt-LAST_FLAGS : goal.returns-then-flags-gt-LAST_FLAGS
 returns-then-flags-gt-LAST_FLAGS c = simp (lt-leb _ _ c.if-flags-gt-LAST_FLAGS.true, and-false)
-
-pub returns-in-Is : goal.returns-in-Is
-returns-in-Is c = search new_held
-
-pub returns-in-Not : goal.returns-in-Not
-returns-in-Not c = search new_beyond

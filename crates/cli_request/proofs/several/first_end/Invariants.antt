@@ -1,10 +1,7 @@
-use Prim.Native.Nat.{◌-◌}
+use Prim.Native.Nat.{◌≤◌, max}
 use lib.ListN.{length}
 use Rattle.cli_request.proofs.SeveralLaws.{Looking}
 use Rattle.cli_request.proofs.several.first_end.Given as goal
 
 abbrev pub invariant-loop-at : goal.invariant-loop-at
-invariant-loop-at l = Looking l.s l.at
-
-abbrev pub decreases-loop-at : goal.decreases-loop-at
-decreases-loop-at l = length l.s - l.at
+invariant-loop-at l = record { reached : l.at ≤ max l.first (length l.s); same : Looking l.s l.at }

@@ -1,3 +1,4 @@
+use mathlib.Core.Path.{◌≡◌, ◌∙◌}
 use native.Mathlib.Nat.{zero-add}
 use native.Mathlib.Omega.{arith}
 use Rattle.codes.specs.Codes.{long_text}
@@ -17,4 +18,6 @@ loop-i-preserved c =
 
 pub returns : goal.returns
 unfolding long_text
-returns c = record { value = naming_end c.loop-i.invariant (rw spelled_length (omega arith)); small = omega (arith, c.loop-i.invariant.inside, spelled_length c.args.self) }
+returns c =
+    let e : 16 ≡ c.loop-i.i = omega arith in
+    record { value = e ∙ naming_end c.loop-i.invariant (rw spelled_length (omega arith)); small = omega arith }

@@ -1,18 +1,24 @@
-use Rattle.request_read.proofs.payments.Laws.{no_side, no_amount, no_letters, no_bank, whole}
+use Rattle.std.proofs.Common.{arith}
+use Rattle.std.proofs.lemmas.Grind.{common_steps}
+use Rattle.request_read.specs.payments.Payments.{bank_at, credit_at, debit_at, payment_at, status_at}
 use Rattle.request_read.proofs.payments.read_payment.Goals as goal
 
-pub returns-in_default : goal.returns-in_default
-returns-in_default c = search no_side
+pub returns-in_err-side : goal.returns-in_err-side
+unfolding payment_at credit_at debit_at bank_at status_at
+returns-in_err-side c = grind (arith, common_steps)
 
-pub returns-in_default-g : goal.returns-in_default-g
-returns-in_default-g c = search no_amount
+pub returns-in_err-amount : goal.returns-in_err-amount
+unfolding payment_at credit_at debit_at bank_at status_at
+returns-in_err-amount c = grind (arith, common_steps)
 
-pub returns-in_default-h : goal.returns-in_default-h
-returns-in_default-h c = search no_letters
+pub returns-in_err-letters : goal.returns-in_err-letters
+unfolding payment_at credit_at debit_at bank_at status_at
+returns-in_err-letters c = grind (arith, common_steps)
 
-pub returns-in_default-k : goal.returns-in_default-k
-returns-in_default-k c = search no_bank
+pub returns-in_err-bank : goal.returns-in_err-bank
+unfolding payment_at credit_at debit_at bank_at status_at
+returns-in_err-bank c = grind (arith, common_steps)
 
 pub returns : goal.returns
-returns c =
-    whole _ _ c.read_side-f.ensures c.in-Good.is c.read_amount-g.ensures c.in-Good-g.is c.read_letters-h.ensures c.in-Good-h.is c.read_bank-k.ensures c.in-Good-k.is
+unfolding payment_at credit_at debit_at bank_at status_at
+returns c = grind (arith, common_steps)

@@ -1,4 +1,4 @@
-use Prim.Native.Nat.{◌-◌, ◌≤◌}
+use Prim.Native.Nat.{◌≤◌}
 use lib.ListN.{take}
 use lib.Seq.{slice}
 use Rattle.queue.specs.Rows.{AllGood}
@@ -6,7 +6,4 @@ use Rattle.run_queue.proofs.rules.all_good.Given as goal
 
 abbrev pub invariant-loop-i : goal.invariant-loop-i
 invariant-loop-i l =
-    (l.i ≤ l.waiting) × (AllGood l.batches (slice l.i l.waiting l.queue) → AllGood l.batches (take l.waiting l.queue))
-
-abbrev pub decreases-loop-i : goal.decreases-loop-i
-decreases-loop-i l = l.waiting - l.i
+    (AllGood l.batches (slice l.i l.waiting l.queue) → AllGood l.batches (take l.waiting l.queue))

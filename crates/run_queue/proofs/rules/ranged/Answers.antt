@@ -1,9 +1,9 @@
-use borrow.Author.Rules.{rules}
-use Rattle.run_queue.proofs.RuleLaws.{no, ranged_back, ranged_none}
+use Rattle.std.proofs.Common.{rules, arith, ◌≡◌, ◌-◌}
+use Rattle.run_queue.proofs.RuleLaws.{no, less_one, ranged_back, ranged_none}
 use Rattle.run_queue.proofs.rules.ranged.Goals as goal
 
-pub loop-left-init : goal.loop-left-init
-loop-left-init c = (search rules, λ h. h)
+pub loop-i-init : goal.loop-i-init
+loop-i-init c = let z : c.args.count - 0 ≡ c.args.count = omega arith in (omega arith, λ h. rw z at h)
 
 pub returns-then-batches-at-gt63 : goal.returns-then-batches-at-gt63
 returns-then-batches-at-gt63 c = λ e. no e
@@ -11,8 +11,8 @@ returns-then-batches-at-gt63 c = λ e. no e
 pub returns-then-batches-at-gt-MOST_CENTS : goal.returns-then-batches-at-gt-MOST_CENTS
 returns-then-batches-at-gt-MOST_CENTS c = λ e. no e
 
-pub loop-left-preserved : goal.loop-left-preserved
-loop-left-preserved c = (search rules, λ h. c.loop-left.invariant.1 (ranged_back _ _ _ c.loop-left-test.true (search rules) (search rules) h))
+pub loop-i-preserved : goal.loop-i-preserved
+loop-i-preserved c = (omega arith, λ h. c.loop-i.invariant.1 (ranged_back c.args.batches.now c.loop-i.at (c.args.count - c.loop-i.i) (omega arith) (search rules) (search rules) (rw (less_one c.args.count c.loop-i.i) h)))
 
 pub returns : goal.returns
-returns c = λ e. c.loop-left.invariant.1 (ranged_none _ _ _ (search rules))
+returns c = λ e. c.loop-i.invariant.1 (ranged_none _ _ _ (omega arith))

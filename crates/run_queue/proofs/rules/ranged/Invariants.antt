@@ -1,12 +1,8 @@
-use Prim.Native.Nat.{◌+◌, ◌*◌, ◌≤◌}
-use lib.ListN.{length}
+use Rattle.std.proofs.Common.{◌+◌, ◌-◌, ◌*◌, ◌≤◌, length}
 use Rattle.settle.specs.Payments.{payments_from}
 use Rattle.settle.specs.Rules.{Ranged}
 use Rattle.run_queue.proofs.rules.ranged.Given as goal
 
-abbrev pub invariant-loop-left : goal.invariant-loop-left
-invariant-loop-left l =
-    (l.at + 3 * l.left ≤ length l.batches) × (Ranged (payments_from l.batches l.at l.left) → Ranged (payments_from l.batches l.from l.count))
-
-abbrev pub decreases-loop-left : goal.decreases-loop-left
-decreases-loop-left l = l.left
+abbrev pub invariant-loop-i : goal.invariant-loop-i
+invariant-loop-i l =
+    (l.at + 3 * (l.count - l.i) ≤ length l.batches) × (Ranged (payments_from l.batches l.at (l.count - l.i)) → Ranged (payments_from l.batches l.from l.count))

@@ -1,12 +1,6 @@
-use mathlib.Core.Path.{◌≡◌}
-use Prim.Native.Nat.{◌+◌, ◌-◌, ◌≤◌}
-use lib.ListN.{length}
-use lib.ListN.{drop}
+use Rattle.std.proofs.Common.{◌≡◌, ◌+◌, ◌≤◌, drop}
 use Rattle.settle.specs.Rules.{sum}
 use Rattle.run_queue.proofs.rules.total_fits.Given as goal
 
-abbrev pub invariant-loop-i : goal.invariant-loop-i
-invariant-loop-i l = (l.i ≤ length l.balances) × (l.total ≤ 6400000000000000) × (sum l.balances ≡ l.total + sum (drop l.i l.balances))
-
-abbrev pub decreases-loop-i : goal.decreases-loop-i
-decreases-loop-i l = length l.balances - l.i
+abbrev pub invariant-loop-balance : goal.invariant-loop-balance
+invariant-loop-balance l = (l.total ≤ 6400000000000000) × (sum l.balances ≡ l.total + sum (drop l.balance-index l.balances))

@@ -1,4 +1,3 @@
-use Prim.Native.Nat.{◌-◌}
 use Rattle.settle_records.proofs.TestingLaws.{copy_start, copy_turn, copy_end}
 use borrow.Author.Rules.{rules}
 use Rattle.settle_records.proofs.testing.balances_of.Goals as goal

@@ -1,4 +1,4 @@
-use Prim.Native.Nat.{◌-◌, ◌≤◌}
+use Prim.Native.Nat.{◌≤◌}
 use Rattle.tables.proofs.TestLaws.{Both}
 use Rattle.book_read.specs.Book.{each}
 use Rattle.book_write.specs.Closing.{stream_of}
@@ -8,6 +8,3 @@ use Rattle.tables.proofs.house.administrators_right.Given as goal
 
 abbrev pub invariant-loop-i : goal.invariant-loop-i
 invariant-loop-i l = (l.i ≤ l.n) × Both (Each Sent (each (stream_of l.row) 0 l.n)) (Each Sent (streams_from l.row l.n l.i))
-
-abbrev pub decreases-loop-i : goal.decreases-loop-i
-decreases-loop-i l = l.n - l.i

@@ -8,6 +8,3 @@ use Rattle.tables.proofs.house.streams_rise.Given as goal
 
 abbrev pub invariant-loop-i : goal.invariant-loop-i
 invariant-loop-i l = (1 ≤ l.i) × Both (Rising (stream_codes (each (stream_of l.row) 0 l.n))) (StreamsRise l.row l.n (l.i - 1))
-
-abbrev pub decreases-loop-i : goal.decreases-loop-i
-decreases-loop-i l = l.n - l.i

@@ -1,11 +1,7 @@
-use Prim.Native.Nat.{◌-◌, ◌≤◌}
-use lib.ListN.{length, drop}
-use Rattle.tables.proofs.TestLaws.{Both}
+use Rattle.std.proofs.Common.{◌≤◌, drop}
 use Rattle.settle.specs.Rules.{sum}
+use Rattle.tables.proofs.TestLaws.{Both}
 use Rattle.tables.proofs.house.total_right.Given as goal
 
-abbrev pub invariant-loop-i : goal.invariant-loop-i
-invariant-loop-i l = (l.i ≤ length l.row) × Both (sum l.row ≤ 6400000000000000) (sum (drop l.i l.row) ≤ l.room)
-
-abbrev pub decreases-loop-i : goal.decreases-loop-i
-decreases-loop-i l = length l.row - l.i
+abbrev pub invariant-loop-balance : goal.invariant-loop-balance
+invariant-loop-balance l = Both (sum l.row ≤ 6400000000000000) (sum (drop l.balance-index l.row) ≤ l.room)

@@ -1,4 +1,4 @@
-use Rattle.std.proofs.Common.{◌-◌, rules}
+use Rattle.std.proofs.Common.{rules}
 use Rattle.tables_rules.proofs.batches.RowTests.{rows_done, rows_not, rows_on, rows_start}
 use Rattle.tables_rules.proofs.batches.rows_right.Goals as goal
 

@@ -1,8 +1,8 @@
-use Rattle.text_names.proofs.quick.Laws.{ends_start, ends_on}
+use native.Mathlib.Omega.{arith}
+use Prim.Native.Nat.{◌-◌}
+use Rattle.codes.specs.Codes.{unpacked}
+use Rattle.text_names.proofs.quick.Laws.{ends_on}
 use Rattle.text_names.proofs.quick.stripped.Goals as goal
 
-pub loop-width-init : goal.loop-width-init
-loop-width-init c = search ends_start
-
 pub loop-width-preserved : goal.loop-width-preserved
-loop-width-preserved c = search ends_on
+loop-width-preserved c = ends_on (unpacked 8 c.args.v) (c.loop-width.width - 1) c.loop-width.value c.loop-width.invariant (omega arith) (omega arith)

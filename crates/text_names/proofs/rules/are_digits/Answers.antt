@@ -1,12 +1,17 @@
-use Rattle.text_names.proofs.rules.Laws.{digits_end, digits_not, digits_on}
-use borrow.Author.Rules.{rules}
+use mathlib.Core.Path.{ap, ◌∙◌}
+use mathlib.Core.List.{List}
+use Prim.Native.Nat.{ℕ}
+use native.Mathlib.Omega.{arith}
+use lib.ListN.{drop}
+use lib.Seq.{take_all}
+use Rattle.std.proofs.Common.{rules}
+use Rattle.chars.specs.Chars.{is_digit}
+use Rattle.codes.specs.Codes.{long_text}
+use Rattle.text_names.specs.rules.Names.{all_are}
+use Rattle.text_names.proofs.rules.Laws.{text_take}
 use Rattle.text_names.proofs.rules.are_digits.Goals as goal
 
-pub returns-then-not-is_digit : goal.returns-then-not-is_digit
-returns-then-not-is_digit c = search (rules, digits_not)
-
-pub loop-i-preserved : goal.loop-i-preserved
-loop-i-preserved c = search (rules, digits_on)
-
 pub returns : goal.returns
-returns c = search (rules, digits_end)
+returns c =
+    c.are_all.ensures is_digit (λ x r h e. search rules)
+    ∙ ap (λ (l : List ℕ). all_are is_digit (drop 4 l)) (text_take c.args.c 8 (omega arith) ∙ take_all 8 (long_text c.args.c) (omega arith))

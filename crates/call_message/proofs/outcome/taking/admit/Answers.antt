@@ -8,16 +8,16 @@ message_fault-fault-requires c = record { banks_in_bounds = (c.requires.0.in_cod
 
 -- src/taking.rt:92:13
 pub end_with_message-requires : goal.end_with_message-requires
-end_with_message-requires c = record { ready = (c.requires.0.ready, c.requires.0.legible, c.requires.0.below); room = fault_room _ _ _ _ _ _ _ _ _ _ _ c.requires.0 _ _ c.message_fault-fault.ensures _ c.in-Refused.is _ (bin_is _ _ _ _ _ _ _ _ _ _ _ c.requires.0) }
+end_with_message-requires c = record { ready = (c.requires.0.ready, c.requires.0.legible, c.requires.0.below); room = fault_room _ _ _ _ _ _ _ _ _ _ _ c.requires.0 _ _ c.message_fault-fault.ensures _ c.in-Err.is _ (bin_is _ _ _ _ _ _ _ _ _ _ _ c.requires.0) }
 
 -- src/taking.rt:96:25
 pub take_in-requires : goal.take_in-requires
 take_in-requires c = record { takeable = c.requires.0; fair = fair _ _ _ _ _ _ _ _ _ _ _ c.requires.0 _ _ c.message_fault-fault.ensures (search rules) }
 
 -- src/taking.rt:54:1
-pub returns-in-Refused : goal.returns-in-Refused
-returns-in-Refused c = rejected _ _ _ _ _ _ _ _ _ _ _ c.requires.0 _ _ c.message_fault-fault.ensures _ c.in-Refused.is _ (bin_is _ _ _ _ _ _ _ _ _ _ _ c.requires.0) _ _ _ _ _ _ _ _ _ _ _ c.end_with_message.ensures
+pub returns-in-Err : goal.returns-in-Err
+returns-in-Err c = rejected _ _ _ _ _ _ _ _ _ _ _ c.requires.0 _ _ c.message_fault-fault.ensures _ c.in-Err.is _ (bin_is _ _ _ _ _ _ _ _ _ _ _ c.requires.0) _ _ _ _ _ _ _ _ _ _ _ c.end_with_message.ensures
 
 -- src/taking.rt:54:1
-pub returns-in-Done : goal.returns-in-Done
-returns-in-Done c = accepted _ _ _ _ _ _ _ _ _ _ _ c.requires.0 _ _ c.message_fault-fault.ensures (search rules) _ _ _ _ _ _ _ _ _ _ _ c.take_in.ensures
+pub returns-in-Ok : goal.returns-in-Ok
+returns-in-Ok c = accepted _ _ _ _ _ _ _ _ _ _ _ c.requires.0 _ _ c.message_fault-fault.ensures (search rules) _ _ _ _ _ _ _ _ _ _ _ c.take_in.ensures

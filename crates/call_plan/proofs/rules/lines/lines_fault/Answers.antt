@@ -1,16 +1,10 @@
 use borrow.Author.Rules.{rules}
-use Prim.Native.Nat.{◌-◌}
-use Rattle.call_plan.proofs.rules.LineLaws.{lines_end, lines_here, lines_on_lem}
+use Rattle.std.proofs.lemmas.Result.{err_from_is_err_and}
+use Rattle.call_plan.proofs.rules.LineLaws.{lines_here, lines_on_lem}
 use Rattle.call_plan.proofs.rules.lines.lines_fault.Goals as goal
 
--- src/lines.rt:81:17
-pub returns-in-Refused : goal.returns-in-Refused
-returns-in-Refused c = search (rules, lines_here)
+pub returns-in_err-line_fault : goal.returns-in_err-line_fault
+returns-in_err-line_fault c = let p = err_from_is_err_and c.from_residual.result c.from_residual.ensures.1 in rw (p.1, p.2) (search (rules, lines_here, c.in_err-line_fault.was))
 
--- src/lines.rt:75:5
 pub loop-i-preserved : goal.loop-i-preserved
-loop-i-preserved c = search (rules, lines_on_lem)
-
--- src/lines.rt:61:1
-pub returns : goal.returns
-returns c = search (rules, lines_end)
+loop-i-preserved c = search (rules, lines_on_lem, c.in_ok-line_fault.was)

@@ -1,5 +1,4 @@
 use borrow.Author.Rules.{rules}
-use Prim.Native.Nat.{◌-◌}
 use Rattle.call_plan.proofs.rules.MessageLaws.{numbered_start, numbered_here, numbered_on, numbered_end}
 use Rattle.call_plan.proofs.rules.messages.has_number.Goals as goal
 

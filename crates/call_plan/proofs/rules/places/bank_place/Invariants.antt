@@ -1,6 +1,5 @@
 use mathlib.Core.Path.{◌≡◌}
 use mathlib.Core.List.{[]}
-use Prim.Native.Nat.{◌-◌, ◌≤◌}
 use lib.Dec.{eqb}
 use lib.ListN.{take, drop}
 use Rattle.model.specs.State.{seek_from}
@@ -9,7 +8,4 @@ use Rattle.call_plan.specs.rules.Steps.{banks_house}
 use Rattle.call_plan.proofs.rules.places.bank_place.Given as goal
 
 abbrev pub invariant-loop-i : goal.invariant-loop-i
-invariant-loop-i l = (l.i ≤ l.banks) × (bank_place (banks_house l.banks l.codes []) l.code ≡ seek_from (eqb l.code) l.i (drop l.i (take l.banks l.codes)))
-
-abbrev pub decreases-loop-i : goal.decreases-loop-i
-decreases-loop-i l = l.banks - l.i
+invariant-loop-i l = (bank_place (banks_house l.banks l.codes []) l.code ≡ seek_from (eqb l.code) l.i (drop l.i (take l.banks l.codes)))

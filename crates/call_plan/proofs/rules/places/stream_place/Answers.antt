@@ -1,5 +1,4 @@
 use borrow.Author.Rules.{rules}
-use Prim.Native.Nat.{◌-◌}
 use Rattle.call_plan.proofs.rules.PlaceLaws.{streams_start, stream_here, stream_on, stream_end}
 use Rattle.call_plan.proofs.rules.places.stream_place.Goals as goal
 

@@ -1,6 +1,5 @@
 use borrow.Author.Rules.{rules}
 use Rattle.call_plan.proofs.rules.WordLaws.{put_start, put_on, put_end, take_full}
-use Prim.Native.Nat.{◌-◌}
 use Rattle.call_plan.proofs.rules.words.put_lines.Goals as goal
 
 -- src/words.rt:45:5

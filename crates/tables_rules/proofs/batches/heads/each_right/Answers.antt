@@ -1,4 +1,4 @@
-use Rattle.std.proofs.Common.{◌-◌, rules}
+use Rattle.std.proofs.Common.{rules}
 use Rattle.tables_rules.proofs.batches.HeadLaws.{heads_start, heads_end, heads_not, heads_on}
 use Rattle.tables_rules.proofs.batches.heads.each_right.Goals as goal
 

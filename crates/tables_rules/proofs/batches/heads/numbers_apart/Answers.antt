@@ -1,4 +1,4 @@
-use Rattle.std.proofs.Common.{◌-◌, rules}
+use Rattle.std.proofs.Common.{rules}
 use Rattle.tables_rules.proofs.batches.HeadLaws.{number_start, number_end, number_not, number_on}
 use Rattle.tables_rules.proofs.batches.heads.numbers_apart.Goals as goal
 

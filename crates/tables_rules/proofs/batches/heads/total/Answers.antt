@@ -1,4 +1,4 @@
-use Rattle.std.proofs.Common.{◌-◌, arith, rules}
+use Rattle.std.proofs.Common.{arith, rules}
 use Rattle.tables_rules.proofs.batches.HeadLaws.{total_start, size_small, total_on, total_end}
 use Rattle.tables_rules.proofs.batches.heads.total.Goals as goal
 

@@ -1,4 +1,4 @@
-use Rattle.std.proofs.Common.{◌-◌, rules}
+use Rattle.std.proofs.Common.{rules}
 use Rattle.tables_rules.proofs.batches.OrderLaws.{count_end, count_here, count_on}
 use Rattle.tables_rules.proofs.batches.orders.how_many.Goals as goal
 

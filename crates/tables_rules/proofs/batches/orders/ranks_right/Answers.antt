@@ -1,4 +1,4 @@
-use Rattle.std.proofs.Common.{◌-◌, rules}
+use Rattle.std.proofs.Common.{rules}
 use Rattle.tables_rules.proofs.batches.OrderLaws.{ranks_start, rank_end, rank_skip, rank_not, rank_on}
 use Rattle.tables_rules.proofs.batches.orders.ranks_right.Goals as goal
 

@@ -1,4 +1,4 @@
-use Rattle.std.proofs.Common.{◌-◌, rules}
+use Rattle.std.proofs.Common.{rules}
 use Rattle.tables_rules.proofs.entry_rules.ChainLaws.{under_start, under_end, under_chained, under_kept, under_skip, under_not, under_on}
 use Rattle.tables_rules.proofs.entry_rules.chains.all_unlike.Goals as goal
 

@@ -1,4 +1,3 @@
-use Rattle.std.proofs.Common.{◌-◌}
 use Rattle.tables_rules.proofs.entry_rules.ChainLaws.{walk_start, walk_met, walk_done, walk_on, walk_less}
 use Rattle.tables_rules.proofs.entry_rules.chains.unlike_chain.Goals as goal
 

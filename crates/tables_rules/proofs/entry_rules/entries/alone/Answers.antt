@@ -1,4 +1,4 @@
-use Rattle.std.proofs.Common.{◌-◌, rules}
+use Rattle.std.proofs.Common.{rules}
 use Rattle.tables_rules.proofs.entry_rules.EntryLaws.{alone_start, alone_end, alone_skip, alone_not, alone_on}
 use Rattle.tables_rules.proofs.entry_rules.entries.alone.Goals as goal
 

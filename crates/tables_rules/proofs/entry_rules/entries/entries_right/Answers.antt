@@ -1,4 +1,4 @@
-use Rattle.std.proofs.Common.{◌-◌, rules}
+use Rattle.std.proofs.Common.{rules}
 use Rattle.tables_rules.proofs.entry_rules.EntryLaws.{right_start, right_end, right_not, right_on}
 use Rattle.tables_rules.proofs.entry_rules.entries.entries_right.Goals as goal
 

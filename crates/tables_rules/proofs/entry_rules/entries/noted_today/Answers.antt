@@ -1,4 +1,4 @@
-use Rattle.std.proofs.Common.{◌-◌, rules}
+use Rattle.std.proofs.Common.{rules}
 use Rattle.tables_rules.proofs.entry_rules.EntryLaws.{noted_start, noted_end, noted_skip, noted_on_lem}
 use Rattle.tables_rules.proofs.entry_rules.entries.noted_today.Goals as goal
 

@@ -1,4 +1,4 @@
-use Rattle.std.proofs.Common.{◌-◌, rules}
+use Rattle.std.proofs.Common.{rules}
 use Rattle.tables_rules.proofs.payments.MoneyLaws.{bank_start, bank_end, bank_not, bank_on}
 use Rattle.tables_rules.proofs.payments.money.banks_apart.Goals as goal
 

@@ -1,4 +1,4 @@
-use Rattle.std.proofs.Common.{◌-◌, rules}
+use Rattle.std.proofs.Common.{rules}
 use Rattle.tables_rules.proofs.payments.MoneyLaws.{pays_start, pays_end, pays_not, pays_on}
 use Rattle.tables_rules.proofs.payments.money.each_right.Goals as goal
 

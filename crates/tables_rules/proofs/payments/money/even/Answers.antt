@@ -1,4 +1,4 @@
-use Rattle.std.proofs.Common.{◌-◌, arith, rules}
+use Rattle.std.proofs.Common.{arith, rules}
 use Rattle.tables_rules.proofs.payments.MoneyLaws.{sum_start, sum_cents, sum_credit, sum_debit, sum_end}
 use Rattle.tables_rules.proofs.payments.money.even.Goals as goal
 

@@ -1,4 +1,4 @@
-use Rattle.std.proofs.Common.{◌-◌, rules}
+use Rattle.std.proofs.Common.{rules}
 use Rattle.tables_rules.proofs.payments.MoneyLaws.{debit_start, debit_skip, debit_here, debit_on_lem, debit_end}
 use Rattle.tables_rules.proofs.payments.money.has_debit.Goals as goal
 

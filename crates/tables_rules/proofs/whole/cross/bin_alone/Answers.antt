@@ -1,4 +1,4 @@
-use Rattle.std.proofs.Common.{◌-◌, rules}
+use Rattle.std.proofs.Common.{rules}
 use Rattle.tables_rules.proofs.whole.CrossLaws.{bin_start, bin_end, bin_skip, bin_not, bin_on}
 use Rattle.tables_rules.proofs.whole.cross.bin_alone.Goals as goal
 

@@ -1,4 +1,4 @@
-use Rattle.std.proofs.Common.{◌-◌, rules}
+use Rattle.std.proofs.Common.{rules}
 use Rattle.tables_rules.proofs.whole.CrossLaws.{differ_start, differ_end, differ_skip, differ_not, differ_on}
 use Rattle.tables_rules.proofs.whole.cross.bins_differ.Goals as goal
 

@@ -1,5 +1,5 @@
 use Rattle.tables.specs.Rows.{entries_in}
-use Rattle.std.proofs.Common.{◌-◌, true, rules}
+use Rattle.std.proofs.Common.{rules}
 use Rattle.model.specs.Rules.{remembered}
 use Rattle.tables_rules.proofs.whole.CrossLaws.{has_start, has_end, has_skip, has_not, has_on, all_entries}
 use Rattle.tables_rules.proofs.whole.cross.bins_remembered.Goals as goal

@@ -1,4 +1,4 @@
-use Rattle.std.proofs.Common.{◌-◌, arith, rules}
+use Rattle.std.proofs.Common.{arith, rules}
 use Rattle.tables_rules.proofs.whole.CrossLaws.{told_start, told_end, told_few, told_on}
 use Rattle.tables_rules.proofs.whole.cross.live_messages.Goals as goal
 

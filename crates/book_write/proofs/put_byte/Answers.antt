@@ -1,5 +1,0 @@
-use Rattle.text_put.proofs.Laws.{set_past}
-use Rattle.book_write.proofs.put_byte.Goals as goal
-
-pub returns-else-at-out : goal.returns-else-at-out
-returns-else-at-out c = set_past _ _ _ c.if-at-out.false

@@ -1,0 +1,5 @@
+use Rattle.std.proofs.Common.{sym, arith, length-take-le}
+use Rattle.cli_explain.proofs.start_of.Goals as goal
+
+pub slice_bounds-result-end : goal.slice_bounds-result-end
+slice_bounds-result-end c = sym (length-take-le _ _ (omega arith))
