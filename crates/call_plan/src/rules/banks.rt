@@ -1,5 +1,5 @@
 // The banks of the house, before a message of a stream.
-ghost use Rattle.std.specs.Prelude.{◌≡◌, [], ◌*◌, ◌^◌, ◌≤◌, ◌<◌, length};
+ghost use Rattle.std.specs.Prelude.{◌≡◌, [], ◌≤◌, ◌<◌, length};
 ghost use Rattle.model.specs.Messages.{is_suspended, is_member};
 ghost use Rattle.call_plan.specs.rules.Steps.{banks_house, standing_of};
 
@@ -22,22 +22,14 @@ impl<'a> Banks<'a> {
         requires { place < self.now.count }
         ensures { result ≡ is_suspended (banks_house 0 [] self.now.flags.now) place }
     {
-        self.flags[place] % 2 == 1
-    }
-
-    // The number of the stream's bit.
-    fn bit(&self) -> u64
-        ensures { result ≡ 2 ^ self.now.stream }
-    {
-        1 << self.stream
+        places::is_suspended(self.flags, place)
     }
 
     fn is_member(&self, place: usize) -> bool
         requires { place < self.now.count }
         ensures { result ≡ is_member (banks_house 0 [] self.now.flags.now) self.now.stream place }
     {
-        let b = self.bit();
-        self.flags[place] / 2 / b % 2 == 1
+        places::is_member(self.flags, self.stream, place)
     }
 
     // The place of a bank that may pay, or why it may not: "bank unknown 76, suspended 77, not in the stream 76"

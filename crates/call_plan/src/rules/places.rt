@@ -1,6 +1,6 @@
-// Where a bank and a stream stand.
-ghost use Rattle.std.specs.Prelude.{◌≡◌, [], ◌*◌, ◌≤◌, length};
-ghost use Rattle.model.specs.Messages.{bank_place, stream_place};
+// Where a bank and a stream stand, and what a bank's flags say.
+ghost use Rattle.std.specs.Prelude.{◌≡◌, [], ◌*◌, ◌^◌, ◌≤◌, ◌<◌, length};
+ghost use Rattle.model.specs.Messages.{bank_place, stream_place, is_suspended, is_member};
 ghost use Rattle.tables.specs.Seeking.{found_by};
 ghost use Rattle.call_plan.specs.rules.Steps.{banks_house, streams_house};
 
@@ -28,4 +28,28 @@ pub fn stream_place(streams: [u64; 16], n: usize, code: u64) -> Option<usize>
         }
     }
     None
+}
+
+pub fn is_suspended(flags: &[u64], place: usize) -> bool
+    requires { place < length flags.now }
+    ensures { result ≡ is_suspended (banks_house 0 [] flags.now) place }
+{
+    flags[place] % 2 == 1
+}
+
+// The number of a stream's bit.
+fn bit(stream: usize) -> u64
+    requires { stream ≤ 8 }
+    ensures value { result ≡ 2 ^ stream }
+    ensures some { 0 < result }
+{
+    1 << stream
+}
+
+pub fn is_member(flags: &[u64], stream: usize, place: usize) -> bool
+    requires { (place < length flags.now) × (stream ≤ 8) }
+    ensures { result ≡ is_member (banks_house 0 [] flags.now) stream place }
+{
+    let b = bit(stream);
+    flags[place] / 2 / b % 2 == 1
 }
