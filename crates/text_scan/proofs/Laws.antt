@@ -131,6 +131,16 @@ module _ (s : List ℕ) (at max : ℕ) {i : ℕ} {w : List ℕ} (h : w ≡ take 
           let z : max - i ≡ 0 = omega (arith, ltb-false i max p) in
           sym (codes_none s (at + i) 0) ∙ rw z at g
 
+run_within : (is : ℕ → Bool) (n : ℕ) (l : List ℕ) → run is n l ≤ length l
+unfolding run
+run_within is zero l = omega arith
+run_within is (suc n) [] = omega arith
+run_within is (suc n) (x ∷ l) = go (is x) (run_within is n l)
+  where
+    go : (b : Bool) → run is n l ≤ length l → cond b (suc (run is n l)) zero ≤ suc (length l)
+    go true h = omega arith
+    go false h = omega arith
+
 module _ (s : List ℕ) (at n : ℕ) where
   pub codes_from_lem : {e : ℕ} → e ≡ codes_at s at n → at ≤ e
   unfolding codes_at
@@ -143,6 +153,10 @@ module _ (s : List ℕ) (at n : ℕ) where
   pub code_not : {e : ℕ} → e ≡ codes_at s at n → (e - at ≡ n → ⊥) → None ≡ code_at s at n
   unfolding codes_at code_at
   code_not {e} p q = let z : (run is_code n (drop at s) ≡ n → ⊥) = λ y. q (omega arith) in simp (ne_eqb _ _ z)
+
+  pub code_short : length s - at < n → None ≡ code_at s at n
+  unfolding codes_at
+  code_short h = code_not refl (λ y. let z = run_within is_code n (drop at s) in absurd (omega (arith, h, y, rw length-drop at z)))
 
 -- the same of a run of digits
 module _ (s : List ℕ) (j v : ℕ) where

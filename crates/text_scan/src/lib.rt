@@ -63,6 +63,9 @@ pub fn codes(s: &[u8], at: usize, max: usize) -> usize
 pub fn code(s: &[u8], at: usize, n: usize) -> Option<usize>
     ensures { result ≡ code_at s.now at n }
 {
+    if s.len().saturating_sub(at) < n {
+        return None;
+    }
     let end = codes(s, at, n);
     if end - at == n { Some(end) } else { None }
 }
