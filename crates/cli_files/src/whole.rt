@@ -89,20 +89,22 @@ fn remove(rt: &impl Files, path: &[u8]) {
     }
 }
 
-// The old file stands until the new one is complete.
-fn replace<R: Files + RandomSource>(rt: &R, path: &[u8], bytes: &[u8]) -> io::Result<()> {
-    let mut name = [0u8; PATH_MAX];
-    let n = name_new(rt, path, &mut name);
-    let new = &name[..n];
-    let file = create(rt, new)?;
-    let done = store(file, bytes).and_then(|()| rename(rt, new, path));
-    if done.is_err() {
-        remove(rt, new);
+// Whether a file was written. Where it was not, the reason is told.
+fn is_written(
+    console: &Console,
+    script: &[u8],
+    place: Place,
+    path: &[u8],
+    done: &io::Result<()>,
+) -> bool {
+    if let Err(why) = done {
+        crate::unwritable_at(console, script, place, path, why);
     }
-    done
+    done.is_ok()
 }
 
-// Writes a file: to a new one beside it, which then takes its name. Where that fails, the reason is told.
+// Writes a file: to a new one beside it, which then takes its name. The old file stands until the new one is complete. Where that fails, the reason is
+// told, and then the new file is removed.
 pub fn write<R: Files + RandomSource>(
     rt: &R,
     console: &Console,
@@ -111,13 +113,20 @@ pub fn write<R: Files + RandomSource>(
     path: &[u8],
     bytes: &[u8],
 ) -> bool {
-    let done = if is_in_place(rt, path) {
-        overwrite(rt, path, bytes)
-    } else {
-        replace(rt, path, bytes)
-    };
-    if let Err(why) = &done {
-        crate::unwritable_at(console, script, place, path, why);
+    if is_in_place(rt, path) {
+        return is_written(console, script, place, path, &overwrite(rt, path, bytes));
     }
-    done.is_ok()
+    let mut name = [0u8; PATH_MAX];
+    let n = name_new(rt, path, &mut name);
+    let new = &name[..n];
+    let file = match create(rt, new) {
+        Ok(file) => file,
+        Err(why) => return is_written(console, script, place, path, &Err(why)),
+    };
+    let done = store(file, bytes).and_then(|()| rename(rt, new, path));
+    let written = is_written(console, script, place, path, &done);
+    if !written {
+        remove(rt, new);
+    }
+    written
 }

@@ -9,7 +9,7 @@ use std::fmt::{Display, Write};
 const WIDTH: usize = 256;
 
 // The first n bytes. Where a row is full, it is printed and begins anew.
-#[derive(Drop)]
+#[derive(Clone, Copy)]
 pub struct Row<'a> {
     console: &'a Console,
     bytes: [u8; WIDTH],
