@@ -40,37 +40,14 @@ fn read_ahead(
     }
 }
 
-// The next byte of the script, if it has one more.
-fn next_byte(
-    console: &Console,
-    name: &[u8],
-    from: &mut impl Read,
-    buf: &mut [u8],
-    ahead: &mut Ahead,
-) -> Option<u8> {
-    *ahead = read_ahead(console, name, from, buf, *ahead);
-    if ahead.end <= ahead.at {
-        return None;
-    }
-    let b = *buf.get(ahead.at)?;
-    ahead.at += 1;
-    Some(b)
-}
-
-// A byte that does not fit is left out.
-fn keep(line: &mut [u8], kept: Kept, b: u8) -> Kept {
-    match line.get_mut(kept.n) {
-        Some(place) => {
-            *place = b;
-            Kept {
-                n: kept.n + 1,
-                is_long: false,
-            }
-        }
-        None => Kept {
-            n: kept.n,
-            is_long: true,
-        },
+// Keeps more bytes of a line behind those that it has. Bytes that do not fit are left out.
+fn keep(line: &mut [u8], kept: Kept, more: &[u8]) -> Kept {
+    let at = kept.n.min(line.len());
+    let n = more.len().min(line.len() - at);
+    line[at..at + n].copy_from_slice(&more[..n]);
+    Kept {
+        n: at + n,
+        is_long: kept.is_long || n < more.len(),
     }
 }
 
@@ -85,17 +62,23 @@ pub fn take(
 ) -> Option<Kept> {
     let mut taken = None;
     for _ in 0..u64::MAX {
-        let Some(b) = next_byte(console, name, from, buf, ahead) else {
+        *ahead = read_ahead(console, name, from, buf, *ahead);
+        let Some(more) = buf.get(ahead.at..ahead.end) else {
             return taken;
         };
+        if more.is_empty() {
+            return taken;
+        }
         let kept = taken.unwrap_or(Kept {
             n: 0,
             is_long: false,
         });
-        if b == b'\n' {
-            return Some(kept);
+        if let Some(n) = more.iter().position(|&b| b == b'\n') {
+            ahead.at += n + 1;
+            return Some(keep(line, kept, &more[..n]));
         }
-        taken = Some(keep(line, kept, b));
+        ahead.at = ahead.end;
+        taken = Some(keep(line, kept, more));
     }
     taken
 }
