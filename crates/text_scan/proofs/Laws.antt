@@ -337,6 +337,17 @@ digits_from (suc n) at v (x ∷ l) = go (is_digit x) (digits_from n (at + 1) (v 
     go true h = omega arith
     go false h = omega arith
 
+-- and no further on than the list has bytes
+digits_within : (n at v : ℕ) (l : List ℕ) → (digits n at v l).end ≤ at + length l
+unfolding digits
+digits_within zero at v l = omega arith
+digits_within (suc n) at v [] = omega arith
+digits_within (suc n) at v (x ∷ l) = go (is_digit x) (digits_within n (at + 1) (v * 10 + digit_value x) l)
+  where
+    go : (b : Bool) → (digits n (at + 1) (v * 10 + digit_value x) l).end ≤ at + 1 + length l → (cond b (digits n (at + 1) (v * 10 + digit_value x) l) (record { end = at; value = v })).end ≤ at + suc (length l)
+    go true h = omega arith
+    go false h = omega arith
+
 -- a number of a fixed width
 module _ (s : List ℕ) (at n : ℕ) (h : n ≤ 18) {w : Run} (d : w ≡ digits_at s at (most n)) where
   number_run : w ≡ digits_at s at n
@@ -357,6 +368,11 @@ module _ (s : List ℕ) (at n : ℕ) (h : n ≤ 18) {w : Run} (d : w ≡ digits_
   number_not e =
       let z : (w.end ≡ at + n → ⊥) = λ y. e (omega arith) in
       simp (le-leb n 18 h, ← number_run, ne_eqb _ _ z)
+
+pub number_short : (s : List ℕ) (at n : ℕ) → n ≤ 18 → length s - at < n → None ≡ number_at s at n
+unfolding digits_at
+number_short s at n m h =
+    number_not s at n m refl (λ y. let z = digits_within (most n) at 0 (drop at s) in absurd (omega (arith, h, y, rw length-drop at z)))
 
 pub number_long : (s : List ℕ) (at n : ℕ) → 18 < n → None ≡ number_at s at n
 unfolding number_at

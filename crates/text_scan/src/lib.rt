@@ -107,6 +107,9 @@ pub fn number(s: &[u8], at: usize, n: usize) -> Option<(u64, usize)>
     if n > 18 {
         return None;
     }
+    if s.len().saturating_sub(at) < n {
+        return None;
+    }
     let run = digits(s, at, n);
     if run.end - at == n {
         Some((run.value, run.end))

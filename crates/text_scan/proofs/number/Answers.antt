@@ -1,11 +1,15 @@
 use native.Mathlib.Omega.{arith}
 use mathlib.Core.Path.{◌≡◌}
 use Rattle.text_scan.specs.Scan.{most}
-use Rattle.text_scan.proofs.Laws.{number_long, number_from, number_all, number_not, most_id}
+use Rattle.text_scan.proofs.Laws.{number_long, number_from, number_all, number_not, number_short, most_id}
 use Rattle.text_scan.proofs.number.Goals as goal
 
 pub returns-then-n-gt18-clause-value : goal.returns-then-n-gt18-clause-value
 returns-then-n-gt18-clause-value c = search number_long
+
+pub returns-then-saturating_sub-n-clause-value : goal.returns-then-saturating_sub-n-clause-value
+returns-then-saturating_sub-n-clause-value c =
+    let a = c.args in number_short a.s.now a.at a.n (omega arith) (omega (arith, c.saturating_sub.ensures, c.if-saturating_sub-n.true))
 
 pub overflow_sub-run : goal.overflow_sub-run
 overflow_sub-run c = let a = c.args in number_from a.s.now a.at a.n (omega arith) c.digits-run.ensures.value
